@@ -1,11 +1,10 @@
 -- What is heard of octets, they spell: SPDUs, and what they come to in each phase.
 use Rattle.std.proofs.Common.{◌≡◌, ℕ, zero, suc, ℤ, pos, negsuc, ◌+◌, ◌*◌, ◌<◌, Bool, true, false, cond, eqb, ltb, List, [], ◌∷◌, ◌++◌, length, filter, take, drop, Option, Some, None, Result, Ok, Err, refl, sym, ap, subst, ◌∙◌, take-append-drop, length-take, arith}
 use Rattle.std.specs.Prelude.{⊤}
-use Rattle.std.proofs.lemmas.Bool.{eqb-true, ltb-false}
+use Rattle.std.proofs.lemmas.Bool.{eqb-true, ltb-false, and_parts}
 use Rattle.std.proofs.lemmas.Bool.Decides.{nat_tests}
 use Rattle.bay_base.specs.Options.{◌>>=◌}
 use Rattle.bay_ber.proofs.ReadLemmas.{IsBytes, bind-ok}
-use Rattle.bay_ber.proofs.ContentLemmas.{both}
 use Rattle.bay_ber.proofs.BackLemmas.{bind-some, some-is, bytes-behind, bytes-before, guard-false}
 use Rattle.bay_mms.specs.declared.response.Agreed.{Agreed}
 use Rattle.bay_mms.specs.Grammar.{initiate_in}
@@ -312,9 +311,9 @@ transfer-is (a ∷ []) e = absurd cc
 transfer-is (a ∷ b ∷ []) e = absurd cc
 transfer-is (a ∷ b ∷ c ∷ []) e = absurd cc
 transfer-is (a ∷ b ∷ c ∷ d ∷ user) e =
-    let x = both _ _ e in
-    let y = both _ _ x.1 in
-    let z = both _ _ y.1 in
+    let x = and_parts _ _ e in
+    let y = and_parts _ _ x.1 in
+    let z = and_parts _ _ y.1 in
     let ea = eqb-true a 1 x.0 in
     let eb = eqb-true b 0 y.0 in
     let ec = eqb-true c 1 z.0 in
@@ -412,22 +411,22 @@ connected-back : (octets user : List ℕ) (h : Hearing) (new : Phase) → IsSpdu
 unfolding connection_request agreement
 connected-back octets user h new spdu b e =
     let request = then-is fault.BadPresentation (request_in user) _ (h, new) e in
-    let both = bind-ok (agreement request.0.contexts request.0.user) _ (h, new) request.2 in
-    let a = then-is fault.NoContext (accepted_of request.0.contexts) _ both.0 both.1 in
-    let value = bind-ok (acse_value a.0 request.0.user) _ both.0 a.2 in
-    let information = then-is fault.BadAcse (associate_in value.0) _ both.0 value.2 in
-    let pdu = bind-ok (mms_value a.0 information.0) _ both.0 information.2 in
-    let proposal = then-is fault.BadAcse (initiate_in pdu.0) _ both.0 pdu.2 in
-    let agreed = then-is fault.PduSizeTooSmall (agreed_of proposal.0) _ both.0 proposal.2 in
+    let and_parts = bind-ok (agreement request.0.contexts request.0.user) _ (h, new) request.2 in
+    let a = then-is fault.NoContext (accepted_of request.0.contexts) _ and_parts.0 and_parts.1 in
+    let value = bind-ok (acse_value a.0 request.0.user) _ and_parts.0 a.2 in
+    let information = then-is fault.BadAcse (associate_in value.0) _ and_parts.0 value.2 in
+    let pdu = bind-ok (mms_value a.0 information.0) _ and_parts.0 information.2 in
+    let proposal = then-is fault.BadAcse (initiate_in pdu.0) _ and_parts.0 pdu.2 in
+    let agreed = then-is fault.PduSizeTooSmall (agreed_of proposal.0) _ and_parts.0 proposal.2 in
     let met : Accepted × Agreed = (a.0, agreed.0) in
-    let same : met ≡ both.0 = same-pair met both.0 agreed.2 in
+    let same : met ≡ and_parts.0 = same-pair met and_parts.0 agreed.2 in
     let told : Accepted × Agreed
     → Result (Hearing × Phase) AssocFault =
     λ x. Ok (
       answer (answer_text request.0 x.0 x.1),
       Open (record { contexts = x.0; size = x.1.size }),
     ) in
-    let last : told met ≡ Ok (h, new) = ap told same ∙ both.2 in
+    let last : told met ≡ Ok (h, new) = ap told same ∙ and_parts.2 in
     let r = request-back user request.0 b request.1 in
     let in_acse = acse-is a.0 request.0.user value.0 value.1 in
     let bytes = subst IsBytes (ap (λ (c : Carried). c.value) in_acse) r.1 in

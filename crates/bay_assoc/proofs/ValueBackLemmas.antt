@@ -1,8 +1,9 @@
 -- What octets are read as, they spell: PPDUs and APDUs.
 use Rattle.std.proofs.Common.{◌≡◌, ℕ, ℤ, pos, negsuc, ◌<◌, ◌≤◌, ◌&&◌, Bool, true, false, cond, eqb, ltb, List, [], ◌∷◌, ◌++◌, length, map, Option, Some, None, refl, sym, ap, subst, ◌∙◌, ◌⊎◌, inl, inr, arith}
+use Rattle.std.proofs.lemmas.Option.{cond_some}
 use Rattle.std.specs.List.{list_any}
 use Rattle.std.specs.Str.{bytes_eq}
-use Rattle.std.proofs.lemmas.Bool.{eqb-true, ltb-true, ltb-false}
+use Rattle.std.proofs.lemmas.Bool.{eqb-true, ltb-true, ltb-false, and_parts}
 use Rattle.std.proofs.lemmas.Slice.Eq.{bytes_eq-Decides}
 use Rattle.bay_ber.specs.declared.tag.Tag.{Tag}
 use Rattle.bay_base.specs.Options.{◌>>=◌}
@@ -10,8 +11,7 @@ use Rattle.bay_ber.specs.Content.{IsInteger, integer_in}
 use Rattle.bay_ber.specs.Tags.{same_tag}
 use Rattle.bay_ber.specs.Values.{Part, value, SpellAll, value_in, few_in, all_of, each_in, known_in, under}
 use Rattle.bay_ber.proofs.ReadLemmas.{IsBytes}
-use Rattle.bay_ber.proofs.ContentLemmas.{both}
-use Rattle.bay_ber.proofs.BackLemmas.{bind-some, some-is, AllBytes, tag-is, guard-true, guard-false, under-is, integer-back, one-back, one-under, few-back, known-back, each-back}
+use Rattle.bay_ber.proofs.BackLemmas.{bind-some, some-is, AllBytes, tag-is, guard-false, under-is, integer-back, one-back, one-under, few-back, known-back, each-back}
 use Rattle.bay_mms.specs.Spelled.{AreEach}
 use Rattle.bay_mms.proofs.EachLemmas.{each-listed}
 use Rattle.bay_mms.specs.Tags.{context, constructed, sequence, int_tag}
@@ -187,8 +187,8 @@ offers-back list ber b e =
 
 id-back : (z : ℤ) (n : ℕ) → context_id z ≡ Some n → (z ≡ pos n) × (0 < n) × (n < 32768)
 id-back (pos m) n e =
-    let g = guard-true (ltb 0 m && ltb m 32768) m n e in
-    let h = both (ltb 0 m) (ltb m 32768) g.0 in (
+    let g = cond_some (ltb 0 m && ltb m 32768) m n e in
+    let h = and_parts (ltb 0 m) (ltb m 32768) g.0 in (
       ap (λ (k : ℕ). pos k) g.1,
       subst (λ (k : ℕ). 0 < k) g.1 (ltb-true 0 m h.0),
       subst (λ (k : ℕ). k < 32768) g.1 (ltb-true m 32768 h.1),
@@ -259,7 +259,7 @@ limits-back : (given contexts : List Context) → few_contexts given ≡ Some co
     → (given ≡ contexts) × (length contexts ≤ 16) × (are_distinct contexts ≡ true)
 limits-back given contexts e =
     let g = guard-false-then (ltb 16 (length given)) _ contexts e in
-    let h = guard-true (are_distinct given) given contexts g.1 in
+    let h = cond_some (are_distinct given) given contexts g.1 in
     let few = ltb-false 16 (length given) g.0 in (
       h.1,
       subst (λ (cs : List Context). length cs ≤ 16) h.1 (omega arith),
@@ -467,7 +467,7 @@ normal-back p c b e =
     )
 
 mode-is : (z m : ℤ) → mode_of z ≡ Some m → z ≡ pos 1
-mode-is (pos n) m e = ap (λ (k : ℕ). pos k) (eqb-true n 1 (guard-true (eqb n 1) (pos n) m e).0)
+mode-is (pos n) m e = ap (λ (k : ℕ). pos k) (eqb-true n 1 (cond_some (eqb n 1) (pos n) m e).0)
 mode-is (negsuc n) m e = absurd cc
 
 mode-back : (p : Part) (m : ℤ) → IsBytes p.content → mode_as p ≡ Some m
@@ -580,7 +580,7 @@ name-back p name b e =
     let same = under-is (constructed 1) p y.0 y.1 in
     let one = one-back y.0 x.0 (subst IsBytes (ap (λ (q : Part). q.content) same) b) y.2 in
     let inner = under-is oid_tag x.0 w.0 x.2 in
-    let g = guard-true (bytes_eq w.0 mms_application) w.0 name w.2 in
+    let g = cond_some (bytes_eq w.0 mms_application) w.0 name w.2 in
     let is : w.0 ≡ mms_application = (bytes_eq-Decides w.0 mms_application).0 g.0 in
     (y.0, same, subst (λ (q : Part). SpellAll y.0 (q ∷ [])) (inner ∙ ap (value oid_tag) is) one.0)
 

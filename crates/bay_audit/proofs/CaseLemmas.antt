@@ -3,7 +3,7 @@ use Rattle.std.proofs.Common.{◌≡◌, ℕ, ℤ, pos, negsuc, ◌+ℤ◌, Bool
 use Rattle.std.specs.Prelude.{◌≤ℤ◌, int_le, fold}
 use Rattle.std.specs.Bool.{beq}
 use Rattle.std.specs.List.{list_all}
-use Rattle.std.proofs.lemmas.Bool.{and_from, and_parts}
+use Rattle.std.proofs.lemmas.Bool.{and_from, and_parts, not-true}
 use Rattle.std.proofs.lemmas.Bool.Decides.{nat_tests}
 use Rattle.std.proofs.lemmas.Int.{ints}
 use Rattle.bay_config.specs.declared.bay.MeterField.{MeterField}
@@ -49,10 +49,6 @@ no-answer false h = refl
 yes-answer : (b : Bool) → beq b true ≡ true → b ≡ true
 yes-answer true h = refl
 yes-answer false h = absurd cc
-
-not-true : (b : Bool) → not b ≡ true → b ≡ false
-not-true true h = absurd cc
-not-true false h = refl
 
 pub or-first : (x y z : Bool) → x ≡ true → (x || y || z) ≡ true
 or-first true y z h = refl

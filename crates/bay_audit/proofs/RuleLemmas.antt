@@ -236,10 +236,6 @@ module _ (g : Program) (d : Demand) (case : List Literal) (ranges : List Range)
       (told p is inside machine now slots timers image kept young leaves) (is_asked d p)
       (included p is inside machine now slots timers image kept young leaves) e
 
-pub not-true : (b : Bool) → not b ≡ true → b ≡ false
-not-true true h = absurd cc
-not-true false h = refl
-
 -- a demand is met where nothing is asked
 idle-so : (kind : RuleKind) (o : Outlook) (c b : Bool) → o.yes ≡ false → includes o c ≡ true
     → is_obeyed kind c b ≡ true

@@ -211,13 +211,6 @@ impl Case {
         }
     }
 
-    /// Returns the tests with their answers.
-    pub fn literals(&self) -> &[Literal]
-        ensures { result.now ≡ self.now }
-    {
-        self.literals.as_slice()
-    }
-
     /// Returns the part of the case in which a test has this answer.
     pub fn with(&self, alloc: Global, test: Test, value: bool) -> Result<Case, AllocError>
         ensures { IfOk result (λ case. case ≡ self.now

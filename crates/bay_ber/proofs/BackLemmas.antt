@@ -1,8 +1,9 @@
 -- What octets are read as, they spell, and what they spell they are read as: values, fields and
 -- contents.
 use Rattle.std.proofs.Common.{◌≡◌, ℕ, zero, suc, ℤ, ◌+◌, ◌-◌, ◌*◌, ◌<◌, Bool, true, false, cond, ltb, List, [], ◌∷◌, ◌++◌, length, filter, Option, Some, None, refl, sym, ap, subst, ◌∙◌, arith}
+use Rattle.std.proofs.lemmas.Option.{cond_some, same_Some}
 use Rattle.std.specs.Bool.{beq}
-use Rattle.std.proofs.lemmas.Bool.{eqb-true, lt-ltb, ltb-true, ltb-false, cond-true}
+use Rattle.std.proofs.lemmas.Bool.{eqb-true, lt-ltb, ltb-true, ltb-false, cond-true, same_from_beq, and_parts}
 use Rattle.std.proofs.lemmas.List.{get_or-append-add}
 use Rattle.bay_ber.specs.declared.tag.Class.{Class}
 use Rattle.bay_ber.specs.declared.tag.Class.TheVariants.{Universal, Application, ContextSpecific, Private}
@@ -13,8 +14,8 @@ use Rattle.bay_ber.specs.Spelling.{Spells}
 use Rattle.bay_ber.specs.Tags.{same_class, same_tag}
 use Rattle.bay_ber.specs.Values.{Part, value, SpellAll, values_in, only_one, value_in, one_or_two, one_or_two_in, at_most_five, few_in, all_of, each_in, is_known, known_in, under}
 use Rattle.bay_ber.proofs.ReadLemmas.{IsBytes}
-use Rattle.bay_ber.proofs.ContentLemmas.{both, integer-is, unused-yes, unused-is}
-pub use Rattle.bay_ber.proofs.ListingLemmas.{bind-some, some-is}
+use Rattle.bay_ber.proofs.ContentLemmas.{integer-is, unused-yes, unused-is}
+pub use Rattle.bay_ber.proofs.ListingLemmas.{bind-some}
 use Rattle.bay_ber.proofs.ListingLemmas.{values-take, values-again}
 
 -- ---- octets
@@ -75,31 +76,20 @@ class-is Private Application e = absurd cc
 class-is Private ContextSpecific e = absurd cc
 class-is Private Private e = refl
 
-form-is : (a b : Bool) → beq a b ≡ true → a ≡ b
-form-is true true e = refl
-form-is true false e = absurd cc
-form-is false true e = absurd cc
-form-is false false e = refl
-
 abbrev tag_with : Class → Bool → ℕ → Tag
 tag_with class constructed number =
     record { class = class; constructed = constructed; number = number }
 
 pub tag-is : (a b : Tag) → same_tag a b ≡ true → a ≡ b
 tag-is a b e =
-    let x = both _ _ e in
-    let y = both _ _ x.1 in
+    let x = and_parts _ _ e in
+    let y = and_parts _ _ x.1 in
     let class = class-is a.class b.class x.0 in
-    let form = form-is a.constructed b.constructed y.0 in
+    let form = same_from_beq a.constructed b.constructed y.0 in
     let number : a.number ≡ b.number = eqb-true a.number b.number y.1 in
     ap (λ (c : Class). tag_with c a.constructed a.number) class
     ∙ ap (λ (f : Bool). tag_with b.class f a.number) form
     ∙ ap (λ (n : ℕ). tag_with b.class b.constructed n) number
-
-pub guard-true : {A : Type 0} (b : Bool) (x y : A) → cond b (Some x) None ≡ Some y
-    → (b ≡ true) × (x ≡ y)
-guard-true true x y e = (refl, cc)
-guard-true false x y e = absurd cc
 
 pub guard-false : {A : Type 0} (b : Bool) (x y : A) → cond b None (Some x) ≡ Some y
     → (b ≡ false) × (x ≡ y)
@@ -109,14 +99,14 @@ guard-false false x y e = (refl, cc)
 pub under-is : (tag : Tag) (p : Part) (content : List ℕ) → under tag p ≡ Some content
     → p ≡ value tag content
 under-is tag p content e =
-    let g = guard-true (same_tag p.tag tag) p.content content e in
+    let g = cond_some (same_tag p.tag tag) p.content content e in
     ap (λ (t : Tag). value t p.content) (tag-is p.tag tag g.0) ∙ ap (value tag) g.1
 
 -- ---- integers
 
 pub integer-back : (content : List ℕ) (z : ℤ) → integer_in content ≡ Some z → IsInteger content z
 integer-back content z e =
-    let g = guard-true (is_integer content) (signed_of content) z e in
+    let g = cond_some (is_integer content) (signed_of content) z e in
     subst (IsInteger content) g.1 (integer-is content g.0)
 
 -- ---- one value, few values and known ones
@@ -160,10 +150,10 @@ two-is : (parts : List Part) (found : Part × Option Part) → one_or_two parts 
 two-is [] found e = absurd cc
 two-is (p ∷ []) found e =
     let one : Part × Option Part = (p, None) in
-    subst (λ (x : Part × Option Part). p ∷ [] ≡ x.0 ∷ listed x.1) (some-is one found e) refl
+    subst (λ (x : Part × Option Part). p ∷ [] ≡ x.0 ∷ listed x.1) (same_Some one found e) refl
 two-is (p ∷ q ∷ []) found e =
     let two : Part × Option Part = (p, Some q) in
-    subst (λ (x : Part × Option Part). p ∷ q ∷ [] ≡ x.0 ∷ listed x.1) (some-is two found e) refl
+    subst (λ (x : Part × Option Part). p ∷ q ∷ [] ≡ x.0 ∷ listed x.1) (same_Some two found e) refl
 two-is (p ∷ q ∷ r ∷ parts) found e = absurd cc
 
 -- one value, or two
@@ -176,7 +166,7 @@ two-back octets found b e =
     (x.1 ∙ ap (λ (ps : List Part). Some ps) (two-is x.0 found x.2))
 
 five-is : (parts few : List Part) → at_most_five parts ≡ Some few → parts ≡ few
-five-is parts few e = (guard-true (ltb (length parts) 6) parts few e).1
+five-is parts few e = (cond_some (ltb (length parts) 6) parts few e).1
 
 pub few-back : (octets : List ℕ) (parts : List Part) → IsBytes octets → few_in octets ≡ Some parts
     → SpellAll octets parts × AllBytes parts
@@ -250,7 +240,7 @@ pub bits-back : (content : List ℕ) (b : BitString) → bits_in content ≡ Som
 bits-back [] b e = absurd cc
 bits-back (unused ∷ octets) b e =
     let made : BitString = record { octets = octets; count = 8 * length octets - unused } in
-    let g = guard-true (are_unused unused octets) made b e in
+    let g = cond_some (are_unused unused octets) made b e in
     subst (λ (x : BitString). IsBits (unused ∷ octets) x.octets x.count) g.1
     (refl, unused-is unused octets g.0)
 

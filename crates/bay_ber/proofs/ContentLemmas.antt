@@ -4,7 +4,7 @@ use Rattle.std.specs.Prelude.{IfErr, IsOkAnd}
 use Rattle.std.specs.Int.{w64}
 use Rattle.std.specs.Result.{result_ok}
 use Rattle.std.proofs.lemmas.Int.{ints}
-use Rattle.std.proofs.lemmas.Bool.{lt-ltb, le-ltb, ltb-true, cond-true, cond-false, false_from_ne_true}
+use Rattle.std.proofs.lemmas.Bool.{lt-ltb, le-ltb, ltb-true, cond-true, cond-false, false_from_ne_true, and_parts}
 use Rattle.std.proofs.lemmas.List.{take_rest}
 use Rattle.bay_ber.specs.declared.fault.BerFault.{BerFault}
 use Rattle.bay_ber.specs.declared.fault.BerFault.TheVariants.{BadContent}
@@ -61,12 +61,6 @@ bits-err content unused behind (Err fault) whole err = (
 
 -- ---- the functions are the relations
 
-pub both : (a b : Bool) → (a && b) ≡ true → (a ≡ true) × (b ≡ true)
-both true true e = (refl, refl)
-both true false e = absurd cc
-both false true e = absurd cc
-both false false e = absurd cc
-
 long-yes : (z : ℤ) → FitsSigned w64 z → is_long z ≡ true
 long-yes (pos n) fits = lt-ltb _ _ (omega (arith, ints))
 long-yes (negsuc n) fits = lt-ltb _ _ (omega (arith, ints))
@@ -89,8 +83,8 @@ pub integer-is : (content : List ℕ) → is_integer content ≡ true
     → IsInteger content (signed_of content)
 unfolding is_integer
 integer-is content e =
-    let a = both _ _ e in
-    let b = both _ _ a.1 in
+    let a = and_parts _ _ e in
+    let b = and_parts _ _ a.1 in
     record {
       some = ltb-true _ _ a.0;
       few = (let f : length content < 10 = ltb-true _ _ b.0 in omega arith);
@@ -130,8 +124,8 @@ pub unused-is : (unused : ℕ) (octets : List ℕ) → are_unused unused octets 
     → HasBits unused octets (8 * length octets - unused)
 unfolding are_unused
 unused-is unused octets e =
-    let a = both _ _ e in
-    let b = both _ _ a.1 in
+    let a = and_parts _ _ e in
+    let b = and_parts _ _ a.1 in
     let few : unused < 8 = ltb-true _ _ a.0 in
     let filled : unused < 8 * length octets + 1 = ltb-true _ _ b.0 in
     let within : length octets < 2305843009213693952 = ltb-true _ _ b.1 in

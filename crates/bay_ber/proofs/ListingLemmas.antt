@@ -1,5 +1,6 @@
 -- The values that octets are, as a function and as a relation.
 use Rattle.std.proofs.Common.{◌≡◌, ℕ, zero, suc, ◌+◌, ◌<◌, ◌≤◌, true, false, eqb, ltb, List, [], ◌∷◌, ◌++◌, length, map, get_or, take, drop, Option, Some, None, option_map, Result, Ok, Err, refl, sym, ap, subst, ◌∙◌, append_assoc, arith, inl, inr}
+use Rattle.std.proofs.lemmas.Option.{same_Some}
 use Rattle.std.proofs.lemmas.Bool.{lt-ltb, le-ltb, eqb-true}
 use Rattle.std.proofs.Math.ListN.{set}
 use Rattle.std.proofs.lemmas.List.{length-append, length-drop, length-take, length-map, map-append, append-nil, take_more_set}
@@ -287,22 +288,19 @@ pub bind-some : {A B : Type 0} (o : Option A) (f : A → Option B) (y : B) → (
 bind-some None f y e = absurd cc
 bind-some (Some x) f y e = (x, refl, e)
 
-pub some-is : {A : Type 0} (x y : A) → Some x ≡ Some y → x ≡ y
-some-is x y e = cc
-
 all-more : {B : Type 0} (f : Part → Option B) (front : List Part) (part : Part) (xs : List B)
     (x : B) → all_of f front ≡ Some xs → f part ≡ Some x
     → all_of f (front ++ part ∷ []) ≡ Some (xs ++ x ∷ [])
 all-more {B = B} f [] part xs x each here =
     ap (λ (o : Option B). o >>= λ y. Some (y ∷ [])) here
-    ∙ ap (λ (ys : List B). Some (ys ++ x ∷ [])) (some-is [] xs each)
+    ∙ ap (λ (ys : List B). Some (ys ++ x ∷ [])) (same_Some [] xs each)
 all-more {B = B} f (first ∷ front) part xs x each here =
     let a = bind-some (f first) (λ y. all_of f front >>= λ ys. Some (y ∷ ys)) xs each in
     let b = bind-some (all_of f front) (λ ys. Some (a.0 ∷ ys)) xs a.2 in
     ap (λ (o : Option B). o >>= λ y. all_of f (front ++ part ∷ []) >>= λ ys. Some (y ∷ ys)) a.1
     ∙ ap (λ (o : Option (List B)). o >>= λ ys. Some (a.0 ∷ ys))
     (all-more f front part b.0 x b.1 here)
-    ∙ ap (λ (ys : List B). Some (ys ++ x ∷ [])) (some-is (a.0 ∷ b.0) xs b.2)
+    ∙ ap (λ (ys : List B). Some (ys ++ x ∷ [])) (same_Some (a.0 ∷ b.0) xs b.2)
 
 bind-none : {B : Type 0} (o : Option B) (r : Option (List B)) → r ≡ None
     → (o >>= λ y. r >>= λ ys. Some (y ∷ ys)) ≡ None

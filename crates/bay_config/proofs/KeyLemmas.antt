@@ -1,6 +1,6 @@
 -- From the keys of a map to the members that it stands for, and what a check says of its parts.
 use Rattle.std.proofs.Common.{◌≡◌, ◌⊎◌, inl, inr, ℕ, Bool, true, false, not, ◌||◌, cond, List, [], ◌∷◌, map, Option, None, Some, is_some, Result, Ok, Err, string_bytes, Bor, Ordering, Less, Equal, Greater, nat_cmp, refl, ap, ◌∙◌}
-use Rattle.std.proofs.lemmas.Bool.{not-false}
+use Rattle.std.proofs.lemmas.Bool.{not-false, or_parts}
 use Rattle.std.proofs.lemmas.Map.Lookups.{exact_bytes}
 use Rattle.std.specs.Cmp.Lexicographic.{slice_cmp}
 use Rattle.std.specs.List.{list_any}
@@ -69,10 +69,6 @@ pub judged-last : {S R : Type 0} (check : Option BayFault) (x : S) (v : R)
 judged-last None x v g e = e
 judged-last (Some fault) x v g e = refl
 
-pub or-false_parts : (a b : Bool) → (a || b) ≡ false → (a ≡ false) × (b ≡ false)
-or-false_parts true b h = cc
-or-false_parts false b h = (refl, h)
-
 absent-at : (known : List (List ℕ)) (name key : List ℕ) (d : Data) (below : Option Data)
     → is_among known name ≡ false → not (is_among known key) ≡ false → below ≡ None → (o : Ordering)
     → slice_cmp nat_cmp name key ≡ o → match_ordering o below (Some d) below ≡ None
@@ -89,6 +85,6 @@ pub unknown-absent : (known : List (List ℕ)) (name : List ℕ) (ms : Members)
     → is_among known name ≡ false → has_unknown known ms ≡ false → get_member name ms ≡ None
 unknown-absent known name no_members out none = refl
 unknown-absent known name (member key d rest) out none =
-    let parts = or-false_parts (not (is_among known key)) (has_unknown known rest) none in
+    let parts = or_parts (not (is_among known key)) (has_unknown known rest) none in
     absent-at known name key d (get_member name rest) out parts.0
     (unknown-absent known name rest out parts.1) (slice_cmp nat_cmp name key) refl

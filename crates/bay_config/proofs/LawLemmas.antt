@@ -1,6 +1,6 @@
 -- What holds of every bay that is read.
 use Rattle.std.proofs.Common.{◌≡◌, ◌≢◌, ℕ, zero, suc, ◌+◌, ◌<◌, ◌≤◌, Bool, true, false, not, nat_lt, List, [], ◌∷◌, ◌++◌, length, map, drop, get_or, slice_get, Option, None, Some, is_some, option_to_list, unwrap_or, Ok, codes, All, Contains, refl, sym, subst, arith, lit<, suc-add}
-use Rattle.std.proofs.lemmas.Bool.{and_parts, ltb-false}
+use Rattle.std.proofs.lemmas.Bool.{and_parts, ltb-false, or_parts, not-false}
 use Rattle.std.proofs.lemmas.List.{length-map}
 use Rattle.std.proofs.lemmas.List.Elements.{All-append, All-from_recursion, All-contains, Contains-get_or}
 use Rattle.std.proofs.lemmas.Slice.Eq.{bytes_eq-Decides}
@@ -20,7 +20,7 @@ use Rattle.bay_config.specs.Laws.{IsOwned, IsBay}
 use Rattle.bay_config.specs.Point.{points_of, points_from, inputs_from, meter_points, meters_from, points_of_all, has_twin, names_refusal}
 use Rattle.bay_config.specs.Section.{are_tables, count_of, tables_of, items_at, items_refusal, list_refusal, section_refusal, section_tables}
 use Rattle.bay_config.specs.Switch.{switch_keys, switch_in}
-use Rattle.bay_config.proofs.KeyLemmas.{judged-Ok, or-false_parts}
+use Rattle.bay_config.proofs.KeyLemmas.{judged-Ok}
 use Rattle.bay_nodes.proofs.NumberLemmas.{rows-make-tree}
 use Rattle.bay_nodes.proofs.PathLemmas.{AllDiffer}
 
@@ -32,7 +32,7 @@ other-names : (s : List ℕ) (ns : List (List ℕ)) → is_among ns s ≡ false
     → AllByRecursion (λ m. s ≢ m) ns
 other-names s [] h = tt
 other-names s (n ∷ ns) h =
-    let parts = or-false_parts (bytes_eq s n) (is_among ns s) h in (
+    let parts = or_parts (bytes_eq s n) (is_among ns s) h in (
       λ same. let equal : bytes_eq s n ≡ true = (bytes_eq-Decides s n).1 same in
           cc,
       other-names s ns parts.1,
@@ -41,7 +41,7 @@ other-names s (n ∷ ns) h =
 AllDiffer-from_twin : (ns : List (List ℕ)) → has_twin ns ≡ false → AllDiffer ns
 AllDiffer-from_twin [] h = tt
 AllDiffer-from_twin (n ∷ ns) h =
-    let parts = or-false_parts (is_among ns n) (has_twin ns) h in
+    let parts = or_parts (is_among ns n) (has_twin ns) h in
     (other-names n ns parts.0, AllDiffer-from_twin ns parts.1)
 
 each-other : (n : List ℕ) (ps : List Point) → AllByRecursion (λ m. n ≢ m) (names_of ps)
@@ -166,10 +166,6 @@ refused_if-None : (b : Bool) (e : BayFault) → refused_if b e ≡ None → b �
 refused_if-None true e h = cc
 refused_if-None false e h = refl
 
-not-false-is : (b : Bool) → not b ≡ false → b ≡ true
-not-false-is true h = refl
-not-false-is false h = cc
-
 count-tables : (items : Items) → are_tables items ≡ true → length (tables_of items) ≡ count_of items
 count-tables no_items h = refl
 count-tables (item d ds) h =
@@ -194,7 +190,7 @@ items-counts least most keys items h =
     let three = first_of-None (refused_if (nat_lt most (count_of items)) TooMany) _ two.1 in
     let enough = ltb-false (count_of items) least (refused_if-None _ MissingKey one.0) in
     let few = ltb-false most (count_of items) (refused_if-None _ TooMany three.0) in
-    let same = count-tables items (not-false-is _ (refused_if-None _ BadValue two.0)) in
+    let same = count-tables items (not-false _ (refused_if-None _ BadValue two.0)) in
     record { least_is = omega arith; most_is = omega arith }
 
 list-counts : (least most : ℕ) (keys : Members → List Key) (o : Option Items)

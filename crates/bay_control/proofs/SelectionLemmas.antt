@@ -3,7 +3,7 @@
 use Rattle.std.proofs.Common.{◌≡◌, ℕ, ◌+◌, Bool, true, false, not, ◌&&◌, ◌||◌, inl, inr, List, [], ◌∷◌, ◌++◌, Option, None, Some, Result, Ok, Err, refl, ap, sym, ◌∙◌, append_assoc, append-nil, subst}
 use Rattle.std.specs.Prelude.{All, ◌==◌, nat_le, if◌then◌else◌, is_ok}
 use Rattle.std.proofs.lemmas.Bool.Decides.{eqb_tells}
-use Rattle.std.proofs.lemmas.Bool.{eq-eqb}
+use Rattle.std.proofs.lemmas.Bool.{eq-eqb, not-true, or_right}
 use Rattle.std.proofs.lemmas.List.Elements.{All-nil, All-push}
 use Rattle.std.proofs.Math.Bool.{and-false}
 use Rattle.bay_control.specs.Acts.{Act, Entry}
@@ -159,10 +159,6 @@ operate-holds is_open past a k choice now accepted (Some s) h =
 
 -- ---- openings and closings
 
-not-true : (b : Bool) → not b ≡ true → b ≡ false
-not-true true e = absurd cc
-not-true false e = refl
-
 -- an association that is opened is no open one
 other-opened : (is_open : ℕ → Bool) (a b : ℕ) → is_open a ≡ true → not (is_open b) ≡ true
     → (a == b) ≡ false
@@ -173,14 +169,10 @@ other-opened is_open a b o c =
       | inr p ↦ p.0
     ]
 
-or-right : (a b : Bool) → b ≡ true → (a || b) ≡ true
-or-right true b e = refl
-or-right false b e = e
-
 opened-leaves : (is_open : ℕ → Bool) (a now : ℕ) → not (is_open a) ≡ true
     → Leaves is_open (is_open_after is_open (Open a)) (seen now (act.Opened a) true)
 opened-leaves is_open a now c = record {
-  stays_open = λ b o. or-right (b == a) (is_open b) o;
+  stays_open = λ b o. or_right (b == a) (is_open b) o;
   undoes_none = λ b k o. other-opened is_open b a o c;
   grants_none = λ b k. refl;
 }

@@ -6,7 +6,8 @@ ghost use Rattle.bay_control.specs.Requests as spec;
 use arrayvec::ArrayVec;
 use bay_tree::leaf::Dbpos;
 
-/// The originator of a control (IEC 61850-7-3, Originator).
+/// The originator of a control (IEC 61850-7-3, Originator), as a selection keeps it. bay_mms has the
+/// one that borrows from a request.
 #[derive(Debug, Drop)]
 pub struct Origin {
     /// The category (orCat).

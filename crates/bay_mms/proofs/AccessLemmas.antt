@@ -1,6 +1,6 @@
 -- Names and variables: what octets spell they are read as, and the other way.
 use Rattle.std.proofs.Common.{◌≡◌, ℕ, ◌||◌, Bool, true, false, cond, ltb, List, [], ◌∷◌, length, map, Option, Some, None, Result, Ok, Err, refl, sym, ap, subst, ◌∙◌, ◌⊎◌, inl, inr}
-use Rattle.std.proofs.lemmas.Bool.{lt-ltb, le-ltb, ltb-true, ltb-false}
+use Rattle.std.proofs.lemmas.Bool.{lt-ltb, le-ltb, ltb-true, ltb-false, or_parts}
 use Rattle.bay_ber.specs.declared.tag.Tag.{Tag}
 use Rattle.bay_base.specs.Options.{◌>>=◌}
 use Rattle.bay_ber.specs.Tags.{same_tag}
@@ -260,15 +260,11 @@ names-of-whole : (names : List Naming) → map (λ v. v.name) (map as_whole name
 names-of-whole [] = refl
 names-of-whole (n ∷ names) = ap (λ (ns : List Naming). n ∷ ns) (names-of-whole names)
 
-pub either-false : (a b : Bool) → (a || b) ≡ false → (a ≡ false) × (b ≡ false)
-either-false true b e = absurd cc
-either-false false b e = (refl, e)
-
 are-whole : (vs : List VariableSpecification) → any_alternate vs ≡ false
     → vs ≡ map as_whole (map (λ v. v.name) vs)
 are-whole [] e = refl
 are-whole (v ∷ vs) e =
-    let x = either-false v.is_alternate (any_alternate vs) e in
+    let x = or_parts v.is_alternate (any_alternate vs) e in
     ap (λ (b : Bool). let made : VariableSpecification =
     record { name = v.name; is_alternate = b } in made ∷ vs) x.0
     ∙ ap (λ (ws : List VariableSpecification). as_whole v.name ∷ ws) (are-whole vs x.1)

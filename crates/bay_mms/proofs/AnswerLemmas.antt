@@ -1,5 +1,6 @@
 -- What is answered of octets, by the relations that say what they ask.
 use Rattle.std.proofs.Common.{◌≡◌, ℕ, true, false, not, sym, ap, ◌∙◌, List, [], ◌∷◌, Option, Some, None, Result, Ok, Err, refl, inl, inr}
+use Rattle.std.proofs.lemmas.Bool.{and_parts}
 use Rattle.std.specs.Prelude.{IsTrue, IsErrOf}
 use Rattle.bay_base.specs.Exact.{Gives}
 use Rattle.bay_ber.specs.Values.{Part, value, SpellAll, one_or_two_in, value_in}
@@ -10,7 +11,6 @@ use Rattle.bay_mms.specs.RequestViews.{message}
 use Rattle.bay_mms.specs.Requests.{Asking, read, write}
 use Rattle.bay_mms.specs.SpelledServices.{IsService}
 use Rattle.bay_mms.specs.Grammar.{service_as, answer_to}
-use Rattle.bay_ber.proofs.ContentLemmas.{both}
 use Rattle.bay_mms.proofs.ServiceLemmas.{service-read}
 use Rattle.bay_mms.specs.Answers.{TakesMemory, IsAnswer, has_list, is_empty, takes_list, lists_of, lists_in, lists_as, lists_at}
 use Rattle.bay_mms.specs.declared.request.Request.{Request}
@@ -27,7 +27,7 @@ no-list service asking none list is =
     let e : is_empty (service_as service) ≡ true =
     ap is_empty (service-read service asking is) ∙ none
     in
-    let some = (both (has_list service) (not (is_empty (service_as service))) list).1 in
+    let some = (and_parts (has_list service) (not (is_empty (service_as service))) list).1 in
     let no : not true ≡ true = sym (ap not e) ∙ some in cc
 
 parts-take : (octets : List ℕ) (part id : Part) (o : Option Part) → IsBytes octets
@@ -41,7 +41,7 @@ parts-take octets part id (Some service) b whole tag parts list = record {
   whole = spelled-under octets part (value (constructed 0) part.content) tag
       (one-back octets part b whole).0;
   parts = parts;
-  list = (both (has_list service) (not (is_empty (service_as service))) list).0;
+  list = (and_parts (has_list service) (not (is_empty (service_as service))) list).0;
   not_read = no-list service (read []) refl list;
   not_written = no-list service (write [] []) refl list;
 }

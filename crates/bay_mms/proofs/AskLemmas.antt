@@ -1,5 +1,6 @@
 -- What octets ask is what they are answered, and the other way.
 use Rattle.std.proofs.Common.{◌≡◌, ℕ, ℤ, pos, negsuc, ◌<◌, ◌^◌, cond, ltb, List, [], ◌∷◌, Option, Some, None, Result, Ok, Err, refl, sym, ap, subst, ◌∙◌, inl, inr, arith}
+use Rattle.std.proofs.lemmas.Option.{cond_some}
 use Rattle.std.specs.Prelude.{◌↔◌}
 use Rattle.std.proofs.lemmas.Bool.{ltb-true}
 use Rattle.bay_ber.specs.declared.fault.BerFault.{BerFault}
@@ -10,7 +11,7 @@ use Rattle.bay_ber.specs.Reading.{Reading, Begins, tlv_at}
 use Rattle.bay_ber.specs.Tags.{same_tag}
 use Rattle.bay_ber.specs.Values.{Part, value, SpellAll, part_in, value_in, one_or_two_in, under}
 use Rattle.bay_ber.proofs.ReadLemmas.{IsBytes, tlv-takes, tlv-again}
-use Rattle.bay_ber.proofs.BackLemmas.{bind-some, some-is, bytes-before, content-bytes, AllBytes, guard-true, under-is, integer-back, listed, one-back, two-back, one-read}
+use Rattle.bay_ber.proofs.BackLemmas.{bind-some, some-is, bytes-before, content-bytes, AllBytes, under-is, integer-back, listed, one-back, two-back, one-read}
 use Rattle.bay_mms.specs.Tags.{context, constructed, int_tag}
 use Rattle.bay_base.specs.Results.{◌>>=◌ as ◌>>◌}
 use Rattle.bay_mms.specs.Requests.{Asking, Message, initiate, conclude, confirmed}
@@ -58,7 +59,7 @@ id-again octets id h =
 number-is : (number : List ℕ) (z : ℤ) (id : ℕ) → IsInteger number z → id_of z ≡ Some id
     → IsInteger number (pos id) × (id < 2 ^ 32)
 number-is number (pos n) id is e =
-    let g = guard-true (ltb n 4294967296) n id e in
+    let g = cond_some (ltb n 4294967296) n id e in
     let low : n < 4294967296 = ltb-true n 4294967296 g.0 in (
       subst (λ (k : ℕ). IsInteger number (pos k)) g.1 is,
       subst (λ (k : ℕ). k < 2 ^ 32) g.1 (omega arith),

@@ -1,12 +1,12 @@
 -- Which data are controls, and what is written of them.
 use Rattle.std.proofs.Common.{◌≡◌, ℕ, ℤ, pos, negsuc, ◌*◌, ◌/◌, ◌<◌, Bool, true, eqb, List, [], ◌∷◌, length, Some, None, Ok, refl, sym, ap, ◌∙◌, subst, lit<, arith, inl, inr}
+use Rattle.std.proofs.lemmas.Option.{same_Some}
 use Rattle.std.proofs.lemmas.Int.{ints}
 use Rattle.std.specs.Prelude.{FitsSigned}
 use Rattle.std.specs.Int.{w64}
-use Rattle.std.proofs.lemmas.Bool.{eqb-true, ltb-true}
+use Rattle.std.proofs.lemmas.Bool.{eqb-true, ltb-true, and_parts}
 use Rattle.bay_ber.specs.Writing.{bit_string_octets}
 use Rattle.bay_ber.proofs.BackLemmas.{bind-some}
-use Rattle.bay_ber.proofs.ContentLemmas.{both}
 use Rattle.bay_ber.proofs.ReadLemmas.{chosen}
 use Rattle.bay_tree.specs.declared.leaf.Dbpos.{Dbpos}
 use Rattle.bay_tree.specs.declared.leaf.Dbpos.TheVariants.{Intermediate, Off, On, Bad}
@@ -21,11 +21,8 @@ list-before (d ∷ ds) = ap (λ (xs : List Datum). d ∷ xs) (list-before ds)
 
 -- ---- what is read is what the data are
 
-same : {A : Type 0} (x y : A) → Some x ≡ Some y → x ≡ y
-same x y e = let is : x ≡ y = cc in is
-
 truth-is : (d : Datum) (v : Bool) → truth_as d ≡ Some v → d ≡ truth v
-truth-is (truth value) v e = ap truth (same value v e)
+truth-is (truth value) v e = ap truth (same_Some value v e)
 truth-is (structure parts) v e = absurd cc
 truth-is (bits held count) v e = absurd cc
 truth-is (integer value) v e = absurd cc
@@ -36,7 +33,7 @@ truth-is (utc value) v e = absurd cc
 truth-is (other tag value) v e = absurd cc
 
 integer-is : (d : Datum) (z : ℤ) → integer_as d ≡ Some z → d ≡ integer z
-integer-is (integer value) z e = ap integer (same value z e)
+integer-is (integer value) z e = ap integer (same_Some value z e)
 integer-is (structure parts) z e = absurd cc
 integer-is (truth value) z e = absurd cc
 integer-is (bits held count) z e = absurd cc
@@ -47,7 +44,7 @@ integer-is (utc value) z e = absurd cc
 integer-is (other tag value) z e = absurd cc
 
 unsigned-is : (d : Datum) (z : ℤ) → unsigned_as d ≡ Some z → d ≡ unsigned z
-unsigned-is (unsigned value) z e = ap unsigned (same value z e)
+unsigned-is (unsigned value) z e = ap unsigned (same_Some value z e)
 unsigned-is (structure parts) z e = absurd cc
 unsigned-is (truth value) z e = absurd cc
 unsigned-is (bits held count) z e = absurd cc
@@ -58,7 +55,7 @@ unsigned-is (utc value) z e = absurd cc
 unsigned-is (other tag value) z e = absurd cc
 
 octets-is : (d : Datum) (o : List ℕ) → octets_as d ≡ Some o → d ≡ octets o
-octets-is (octets value) o e = ap octets (same value o e)
+octets-is (octets value) o e = ap octets (same_Some value o e)
 octets-is (structure parts) o e = absurd cc
 octets-is (truth value) o e = absurd cc
 octets-is (bits held count) o e = absurd cc
@@ -69,7 +66,7 @@ octets-is (utc value) o e = absurd cc
 octets-is (other tag value) o e = absurd cc
 
 moment-is : (d : Datum) (o : List ℕ) → moment_as d ≡ Some o → d ≡ utc o
-moment-is (utc value) o e = ap utc (same value o e)
+moment-is (utc value) o e = ap utc (same_Some value o e)
 moment-is (structure parts) o e = absurd cc
 moment-is (truth value) o e = absurd cc
 moment-is (bits held count) o e = absurd cc
@@ -88,7 +85,7 @@ parts-are : (d : Datum) (ps : List Datum) → parts_as d ≡ Some ps
     → d ≡ structure (data_before ps no_data)
 parts-are (structure ds) ps e =
     ap structure (sym (before-list ds)
-    ∙ ap (λ (xs : List Datum). data_before xs no_data) (same (list_of ds) ps e))
+    ∙ ap (λ (xs : List Datum). data_before xs no_data) (same_Some (list_of ds) ps e))
 parts-are (truth value) ps e = absurd cc
 parts-are (bits held count) ps e = absurd cc
 parts-are (integer value) ps e = absurd cc
@@ -102,13 +99,13 @@ parts-are (other tag value) ps e = absurd cc
 position-is : (two : ℕ) (p : Dbpos) → position_by two ≡ Some p → two * 64 ≡ position_octet p
 position-is two p e =
     elim (chosen (eqb two 0) (Some Intermediate) _ (Some p) e) [
-      | inl h ↦ let n = eqb-true two 0 h.0 in rw (n, ← same Intermediate p h.1) refl
+      | inl h ↦ let n = eqb-true two 0 h.0 in rw (n, ← same_Some Intermediate p h.1) refl
       | inr h ↦ elim (chosen (eqb two 1) (Some Off) _ (Some p) h.1) [
-        | inl i ↦ let n = eqb-true two 1 i.0 in rw (n, ← same Off p i.1) refl
+        | inl i ↦ let n = eqb-true two 1 i.0 in rw (n, ← same_Some Off p i.1) refl
         | inr i ↦ elim (chosen (eqb two 2) (Some On) _ (Some p) i.1) [
-          | inl j ↦ let n = eqb-true two 2 j.0 in rw (n, ← same On p j.1) refl
+          | inl j ↦ let n = eqb-true two 2 j.0 in rw (n, ← same_Some On p j.1) refl
           | inr j ↦ elim (chosen (eqb two 3) (Some Bad) None (Some p) j.1) [
-            | inl k ↦ let n = eqb-true two 3 k.0 in rw (n, ← same Bad p k.1) refl
+            | inl k ↦ let n = eqb-true two 3 k.0 in rw (n, ← same_Some Bad p k.1) refl
             | inr k ↦ let none : None ≡ Some p = k.1 in absurd cc
           ]
         ]
@@ -160,7 +157,7 @@ origin-parts-are (a ∷ b ∷ []) o e =
     let f = bind-some (integer_as a) _ o e in
     let g = bind-some (octets_as b) _ o f.2 in
     let made : Origin = record { or_cat = f.0; or_ident = g.0 } in
-    let is : made ≡ o = same made o g.2 in
+    let is : made ≡ o = same_Some made o g.2 in
     two a b _ _ (integer-is a f.0 f.1) (octets-is b g.0 g.1)
     ∙ ap (λ (x : Origin). integer x.or_cat ∷ octets x.or_ident ∷ []) is
 
@@ -182,7 +179,7 @@ control-is a b c d e o is later =
     let j = bind-some (truth_as e) _ o i.2 in
     let made : Control =
     record { ctl_val = f.0; origin = g.0; ctl_num = h.0; t = i.0; test = j.0 } in
-    let same_one : made ≡ o = same made o j.2 in
+    let same_one : made ≡ o = same_Some made o j.2 in
     five a b c d e _ _ _ _ _ later (truth-is a f.0 f.1) (origin-is b g.0 g.1)
     (unsigned-is c h.0 h.1) (moment-is d i.0 i.1) (truth-is e j.0 j.1)
     ∙ ap (λ (x : Control). control_before x later) same_one
@@ -219,7 +216,7 @@ operate-parts (p ∷ q ∷ r ∷ s ∷ t ∷ u ∷ []) o e =
     let f = bind-some (control_of p q r s t) _ o e in
     let g = bind-some (check_as u) _ o f.2 in
     let made : Operate = record { control = f.0; check = g.0 } in
-    let same_one : made ≡ o = same made o g.2 in
+    let same_one : made ≡ o = same_Some made o g.2 in
     let h = check-is u g.0 g.1 in
     record {
       held = h.0;
@@ -313,8 +310,8 @@ check-held Bad = record { enough = omega arith; short = lit< tt; whole = refl }
 pub operate-plain : (o : Operate) → is_in_range o.control ≡ true → length o.control.t ≡ 8
     → IsPlain (operate_datum o)
 operate-plain o fits eight =
-    let a = both _ _ fits in
-    let b = both _ _ a.1 in (
+    let a = and_parts _ _ fits in
+    let b = and_parts _ _ a.1 in (
       tt,
       (
         (category_fits o.control.origin.or_cat b.0, (tt, tt)),

@@ -1,7 +1,7 @@
 -- Data that are received: what octets spell they are read as, and the other way.
 use Rattle.std.proofs.Common.{◌≡◌, ℕ, zero, suc, ℤ, ◌-◌, ◌<◌, ◌≤◌, Bool, true, false, cond, eqb, List, [], ◌∷◌, length, Option, Some, refl, sym, ap, subst, ◌∙◌, inl, inr, arith}
 use Rattle.std.proofs.Math.Nat.{le-max_left, le-max_right, max-le}
-use Rattle.std.proofs.lemmas.Bool.{eq-eqb, eqb-true, eqb-false, ne_eqb}
+use Rattle.std.proofs.lemmas.Bool.{eq-eqb, eqb-true, eqb-false, ne_eqb, or_parts}
 use Rattle.bay_ber.specs.declared.tag.Tag.{Tag}
 use Rattle.bay_ber.specs.Content.{IsInteger, IsBits, IsTruth, integer_in, bits_in, truth_in}
 use Rattle.bay_base.specs.Options.{◌>>=◌}
@@ -17,7 +17,7 @@ use Rattle.bay_mms.specs.Tags.{context, constructed}
 use Rattle.bay_mms.specs.Views.{data_before}
 use Rattle.bay_mms.specs.Grammar.{utc_as, string_as, simple_as, datum_as}
 use Rattle.bay_mms.specs.SpelledData.{kinds, IsOther, IsDatum, AreData, depth_of, depth_in, AreWritten}
-use Rattle.bay_mms.proofs.AccessLemmas.{by-tag, either-false}
+use Rattle.bay_mms.proofs.AccessLemmas.{by-tag}
 use Rattle.bay_mms.proofs.RequestLemmas.{structure-is, simple-is}
 
 -- ---- what is spelled is read
@@ -35,14 +35,14 @@ record IsUnlistedKind (part : Part) : Type 0 where
 
 unlisted-kind : (part : Part) → is_known kinds part ≡ false → IsUnlistedKind part
 unlisted-kind part e =
-    let a = either-false _ _ e in
-    let b = either-false _ _ a.1 in
-    let c = either-false _ _ b.1 in
-    let d = either-false _ _ c.1 in
-    let f = either-false _ _ d.1 in
-    let g = either-false _ _ f.1 in
-    let h = either-false _ _ g.1 in
-    let i = either-false _ _ h.1 in
+    let a = or_parts _ _ e in
+    let b = or_parts _ _ a.1 in
+    let c = or_parts _ _ b.1 in
+    let d = or_parts _ _ c.1 in
+    let f = or_parts _ _ d.1 in
+    let g = or_parts _ _ f.1 in
+    let h = or_parts _ _ g.1 in
+    let i = or_parts _ _ h.1 in
     record {
       no_structure = a.0;
       no_truth = b.0;

@@ -1,5 +1,6 @@
 -- Requests, part by part.
 use Rattle.std.proofs.Common.{◌≡◌, ℕ, suc, ◌-◌, ◌<◌, true, false, cond, ltb, option_map, Vec, Global, rules, ◌||◌, Bool, List, [], ◌∷◌, ◌++◌, length, map, Option, Some, None, Ok, Err, refl, sym, ap, ◌∙◌, arith, ◌⊎◌, inl, inr}
+use Rattle.std.proofs.lemmas.Option.{same_Some}
 use Rattle.std.specs.Option.{ok_or}
 use Rattle.std.proofs.lemmas.List.{length-map, map-append}
 use Rattle.std.proofs.lemmas.List.Folds.{list_any-append}
@@ -8,7 +9,7 @@ use Rattle.bay_base.specs.Options.{◌>>=◌}
 use Rattle.bay_base.specs.Results.{◌>>=◌ as ◌>>◌}
 use Rattle.bay_ber.specs.Tags.{same_tag}
 use Rattle.bay_ber.specs.Values.{Part, values_in, onto, all_of, each_in}
-use Rattle.bay_ber.proofs.ListingLemmas.{Passed, passed-more, bind-some, some-is}
+use Rattle.bay_ber.proofs.ListingLemmas.{Passed, passed-more, bind-some}
 use Rattle.bay_mms.specs.Answers.{names_none}
 use Rattle.bay_mms.specs.Data as mms
 use Rattle.bay_mms.specs.Data.{Datum}
@@ -71,11 +72,11 @@ not-nil f front part None e = cc
 not-nil f [] part (Some later) e =
     let x = bind-some (f part) _ [] e in
     let y = bind-some (all_of f later) _ [] x.2 in
-    let no : x.0 ∷ y.0 ≡ [] = some-is _ _ y.2 in cc
+    let no : x.0 ∷ y.0 ≡ [] = same_Some _ _ y.2 in cc
 not-nil f (first ∷ front) part (Some later) e =
     let x = bind-some (f first) _ [] e in
     let y = bind-some (all_of f (front ++ part ∷ later)) _ [] x.2 in
-    let no : x.0 ∷ y.0 ≡ [] = some-is _ _ y.2 in cc
+    let no : x.0 ∷ y.0 ≡ [] = same_Some _ _ y.2 in cc
 
 pub some-value : {B : Type 0} (f : Part → Option B) (whole rest new : List ℕ) (done : List B)
     (part : Part) → Passed f whole rest done → values_in rest ≡ onto (part ∷ []) (values_in new)

@@ -1,7 +1,7 @@
 -- The services that are asked for: what octets spell they are read as, and the other way.
 use Rattle.std.proofs.Common.{◌≡◌, ℕ, ℤ, ◌||◌, Bool, true, false, not, cond, eqb, List, [], ◌∷◌, ◌++◌, length, map, Option, Some, None, Result, Ok, Err, refl, sym, ap, subst, ◌∙◌, inl, inr}
 use Rattle.std.proofs.lemmas.List.{length-map}
-use Rattle.std.proofs.lemmas.Bool.{eq-eqb, eqb-true, eqb-false, ne_eqb, false_from_ne_true}
+use Rattle.std.proofs.lemmas.Bool.{eq-eqb, eqb-true, eqb-false, ne_eqb, false_from_ne_true, and_parts, not-true}
 use Rattle.bay_ber.specs.declared.tag.Class.{Class}
 use Rattle.bay_ber.specs.declared.tag.Class.TheVariants.{Universal, Application, ContextSpecific, Private}
 use Rattle.bay_ber.specs.declared.tag.Tag.{Tag}
@@ -10,7 +10,7 @@ use Rattle.bay_base.specs.Options.{◌>>=◌}
 use Rattle.bay_ber.specs.Tags.{same_class, same_tag}
 use Rattle.bay_ber.specs.Values.{Part, value, SpellAll, value_in, one_or_two_in, few_in, each_in, under}
 use Rattle.bay_ber.proofs.ReadLemmas.{IsBytes}
-use Rattle.bay_ber.proofs.ContentLemmas.{both, integer-again}
+use Rattle.bay_ber.proofs.ContentLemmas.{integer-again}
 use Rattle.bay_ber.proofs.ListingLemmas.{values-again}
 use Rattle.bay_ber.proofs.BackLemmas.{bind-some, some-is, AllBytes, tag-is, under-is, integer-back, listed, one-back, two-back, few-back, each-back, one-read, two-read, few-read}
 use Rattle.bay_mms.specs.Data.{Datum}
@@ -582,13 +582,9 @@ not-either : (a b : Bool) → not (a || b) ≡ true → (a ≡ false) × (not b 
 not-either true b e = absurd cc
 not-either false b e = (refl, e)
 
-not-true : (a : Bool) → not a ≡ true → a ≡ false
-not-true true e = absurd cc
-not-true false e = refl
-
 unlisted-back : (tag : Tag) → is_unlisted tag ≡ true → IsUnlisted tag
 unlisted-back tag e =
-    let a = both (same_class tag.class ContextSpecific) _ e in
+    let a = and_parts (same_class tag.class ContextSpecific) _ e in
     let x = not-either (eqb tag.number 1) _ a.1 in
     let y = not-either (eqb tag.number 2) _ x.1 in
     let z = not-either (eqb tag.number 4) _ y.1 in

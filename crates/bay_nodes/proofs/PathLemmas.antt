@@ -1,7 +1,7 @@
 -- The rows of one node follow the rows of others: a node's name is a word, and its rows' names are
 -- that word and a path.
 use Rattle.std.proofs.Common.{◌≡◌, ◌≢◌, ℕ, suc, ◌+◌, ◌<◌, Bool, true, false, not, ◌&&◌, ◌||◌, cond, nat_eq, List, [], ◌∷◌, ◌++◌, length, map, get_or, Option, None, Some, is_none, IfSome, Any, append_assoc, append-nil, refl, sym, ap, subst, ◌∙◌, ◌⊎◌, inl, inr, arith, length-append}
-use Rattle.std.proofs.lemmas.Bool.{and_parts}
+use Rattle.std.proofs.lemmas.Bool.{and_parts, or_parts, not-true}
 use Rattle.std.proofs.lemmas.List.{append_cancel_left, get_or-append-add, get_or-map, length-map, map-append}
 use Rattle.std.proofs.lemmas.List.Elements.{All-append, All-from_recursion}
 use Rattle.std.proofs.lemmas.Slice.Eq.{bytes_eq-Decides}
@@ -23,10 +23,6 @@ is_among texts s = list_any (λ t. bytes_eq s t) texts
 abbrev passes : (List ℕ → Bool) → Option (List ℕ) → Bool
 passes test None = false
 passes test (Some x) = test x
-
-or-false_parts : (a b : Bool) → (a || b) ≡ false → (a ≡ false) × (b ≡ false)
-or-false_parts true b h = cc
-or-false_parts false b h = (refl, h)
 
 -- a word has no `$`
 abbrev pub IsPlain : List ℕ → Type 0
@@ -71,10 +67,6 @@ stands done [] = true
 stands done (r ∷ rs) =
     (not (is_among (map (λ q. q.name) done) r.name) && parent_stands done r.name)
     && stands (done ++ r ∷ []) rs
-
-not-true : (b : Bool) → not b ≡ true → b ≡ false
-not-true true h = cc
-not-true false h = refl
 
 path-stands : (done : List Row) (s : List ℕ) → parent_stands done s ≡ true → is_path s ≡ true
 path-stands done [] h = refl
@@ -157,7 +149,7 @@ new-name : (node : List ℕ) (done : List Row) (s : List ℕ)
     → AllByRecursion (λ o. o.name ≢ node ++ s) (map (under node) done)
 new-name node [] s h = tt
 new-name node (q ∷ qs) s h =
-    let parts = or-false_parts (bytes_eq s q.name) (is_among (map (λ x. x.name) qs) s) h in (
+    let parts = or_parts (bytes_eq s q.name) (is_among (map (λ x. x.name) qs) s) h in (
       λ same.
           let equal : bytes_eq s q.name ≡ true =
           (bytes_eq-Decides s q.name).1 (sym (append_cancel_left node q.name s same)) in

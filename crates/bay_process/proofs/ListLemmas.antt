@@ -19,10 +19,6 @@ get-within [] k lt = absurd (omega arith)
 get-within (x ∷ xs) zero lt = (x, refl)
 get-within (x ∷ xs) (suc k) lt = get-within xs k (omega arith)
 
-pub length-none : {X : Type 0} (xs : List X) → length xs ≡ 0 → xs ≡ []
-length-none [] e = refl
-length-none (x ∷ xs) e = absurd (omega arith)
-
 pub length-snoc : {X : Type 0} (xs : List X) (x : X) (n : ℕ) → length xs ≡ n
     → length (xs ++ x ∷ []) ≡ n + 1
 length-snoc [] x n e = omega arith

@@ -1,5 +1,6 @@
 -- The rows that a bay has for its switches and meters, and the handles of their names.
 use Rattle.std.proofs.Common.{◌≡◌, ◌≢◌, ℕ, Bool, true, false, cond, zero, suc, ◌<◌, List, [], ◌∷◌, ◌++◌, length, find, slice_get, slice_index_or, Option, Some, None, option_map, option_and_then, Contains, refl, ap, sym, ◌∙◌, subst, arith, ⊎_elim, All, Err}
+use Rattle.std.proofs.lemmas.Bool.{false_from_ne_true}
 use Rattle.std.specs.Option.{ok_or}
 use Rattle.std.specs.Str.{bytes_eq}
 use Rattle.std.proofs.lemmas.List.{get_or_default}
@@ -124,16 +125,12 @@ are-there rows names leaf_type h = record {
   time_there = there rows names.time _ h.time_leaf;
 }
 
-other-text : (b : Bool) → (b ≡ true → ⊥) → b ≡ false
-other-text true f = absurd (f refl)
-other-text false f = refl
-
 pub lacking-leaf : (rows : List Row) (name : List ℕ) → All (λ (r : Row). r.name ≢ name) rows
     → leaf_of name rows ≡ None
 lacking-leaf [] name lacks = refl
 lacking-leaf (row ∷ rows) name lacks =
     let apart : bytes_eq row.name name ≡ false =
-    other-text (bytes_eq row.name name)
+    false_from_ne_true (bytes_eq row.name name)
     (λ t. lacks zero row (omega arith) ((bytes_eq-Decides row.name name).0 t)) in
     ap (λ b. option_and_then (λ (r : Row). r.leaf)
     (cond b (Some row) (find (λ (r : Row). bytes_eq r.name name) rows))) apart

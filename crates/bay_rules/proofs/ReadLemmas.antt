@@ -1,5 +1,6 @@
 -- What is found of a condition is what the grammar reads.
 use Rattle.std.proofs.Common.{◌≡◌, zero, suc, Bool, true, false, List, [], ◌∷◌, ◌++◌, take, append_assoc, Option, Some, None, refl, sym, ap, ◌∙◌, subst}
+use Rattle.std.proofs.lemmas.Option.{same_Some}
 use Rattle.std.proofs.lemmas.List.{append-nil}
 use Rattle.bay_rules.specs.declared.draft.Pending.{Pending}
 use Rattle.bay_rules.specs.declared.draft.Pending.TheVariants as waits
@@ -18,9 +19,6 @@ use Rattle.bay_rules.proofs.ConditionLemmas.{plus-assoc, plus-four, none-plus}
 use Rattle.bay_rules.proofs.GrammarLemmas.{IsOpen, IsBase, open-settled}
 
 -- ---- each fact that is found is one
-
-same-taken : (a b : Taken) → Some a ≡ Some b → a ≡ b
-same-taken a b e = cc
 
 values-read : (named : Named) (ts : List Token)
     → AreValues named (take (more_at named ts).1 ts) (more_at named ts).0
@@ -52,7 +50,7 @@ first-read named told negated (t ∷ ts) taken how e = by-value (value_of t) ref
         let found : Some (value_items named v ⊕ more.0 ⊕ negation negated, suc more.1) ≡ Some taken
         =
         rw f at e in
-        subst (IsTaken named told (t ∷ ts)) (same-taken _ taken found)
+        subst (IsTaken named told (t ∷ ts)) (same_Some _ taken found)
         (IsFact.valued t how f (values-read named ts))
 
 -- what is taken with a token more
@@ -64,7 +62,7 @@ pub record IsBehind (x : Option Taken) (taken : Taken) : Type 0 where
 behind-some : (x : Option Taken) (taken : Taken) → behind x ≡ Some taken → IsBehind x taken
 behind-some None taken e = absurd cc
 behind-some (Some y) taken e =
-    record { first = y; was = refl; is = same-taken (y.0, suc y.1) taken e }
+    record { first = y; was = refl; is = same_Some (y.0, suc y.1) taken e }
 
 number-read : (named : Named) (relation : Relation) (ts : List Token) (taken : Taken)
     → number_at named relation ts ≡ Some taken
@@ -73,7 +71,7 @@ number-read named relation [] taken e = absurd cc
 number-read named relation (token.Value (Number n) ∷ ts) taken e =
     subst (λ (k : Taken). IsFact named (take (suc k.1)
     (token.Relation relation ∷ (token.Value (Number n) ∷ ts))) k.0)
-    (same-taken _ taken e) IsFact.related
+    (same_Some _ taken e) IsFact.related
 number-read named relation (token.Value (Position p) ∷ ts) taken e = absurd cc
 number-read named relation (token.Value (Truth b) ∷ ts) taken e = absurd cc
 number-read named relation (other ∷ ts) taken e = absurd cc
@@ -101,7 +99,7 @@ alone-read : (named : Named) (ts : List Token) (x : Option Taken) (taken : Taken
     → values_at named false ts ≡ x → or_alone named x ≡ Some taken
     → IsFact named (take taken.1 ts) taken.0
 alone-read named ts None taken e f =
-    subst (λ (k : Taken). IsFact named (take k.1 ts) k.0) (same-taken _ taken f) IsFact.alone
+    subst (λ (k : Taken). IsFact named (take k.1 ts) k.0) (same_Some _ taken f) IsFact.alone
 alone-read named ts (Some y) taken e f =
     first-read named [] false ts taken IsTold.plain (e ∙ f)
 

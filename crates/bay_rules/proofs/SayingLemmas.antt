@@ -1,6 +1,7 @@
 -- The tokens of a line are read as the grammar says: each statement of the grammar is found, and
 -- what is found is one.
 use Rattle.std.proofs.Common.{◌≡◌, ℕ, zero, suc, Bool, true, false, List, [], ◌∷◌, ◌++◌, length, take, drop, append_assoc, Option, Some, None, option_map, refl, sym, ap, ◌∙◌, subst}
+use Rattle.std.proofs.lemmas.Option.{same_Some}
 use Rattle.std.proofs.lemmas.List.{append-nil}
 use Rattle.bay_base.specs.Options.{◌>>=◌}
 use Rattle.bay_rules.specs.declared.rule.RuleKind.{RuleKind}
@@ -89,9 +90,6 @@ says-found ts s (Says.rule {kind = kind} {named = named} ways {us = us} {vs = vs
 
 -- ---- each statement that is found is one
 
-same-some : {X : Type 0} (a b : X) → Some a ≡ Some b → a ≡ b
-same-some a b e = cc
-
 -- what is done with what was found, if something was
 pub record IsThen {A B : Type 0} (x : Option A) (f : A → Option B) (y : B) : Type 0 where
   pub found : A
@@ -111,7 +109,7 @@ pub record IsMapped {A B : Type 0} (x : Option A) (f : A → B) (y : B) : Type 0
 mapped-some : {A B : Type 0} (x : Option A) (f : A → B) (y : B) → option_map f x ≡ Some y
     → IsMapped x f y
 mapped-some None f y e = absurd cc
-mapped-some (Some a) f y e = record { found = a; was = refl; is = same-some (f a) y e }
+mapped-some (Some a) f y e = record { found = a; was = refl; is = same_Some (f a) y e }
 
 open-read : (ts : List Token) → token.Open ∷ ts ≡ ways_tokens (open_ways ts).0 ++ (open_ways ts).1
 open-read [] = refl
@@ -131,10 +129,10 @@ close-read (other ∷ ts) = refl
 ways-read : (ts : List Token) (x : Ways × List Token) → ways_at ts ≡ Some x
     → ts ≡ ways_tokens x.0 ++ x.1
 ways-read (token.Open ∷ ts) x e =
-    open-read ts ∙ ap (λ (y : Ways × List Token). ways_tokens y.0 ++ y.1) (same-some (open_ways ts)
+    open-read ts ∙ ap (λ (y : Ways × List Token). ways_tokens y.0 ++ y.1) (same_Some (open_ways ts)
     x e)
 ways-read (token.Close ∷ ts) x e =
-    close-read ts ∙ ap (λ (y : Ways × List Token). ways_tokens y.0 ++ y.1) (same-some (close_ways
+    close-read ts ∙ ap (λ (y : Ways × List Token). ways_tokens y.0 ++ y.1) (same_Some (close_ways
     ts) x e)
 ways-read [] x e = absurd cc
 ways-read (other ∷ ts) x e = absurd cc
@@ -144,7 +142,7 @@ behind-read : (c : Items) (ts : List Token) (x : Since × List Token) → time_b
 behind-read c [] x e = absurd cc
 behind-read c (token.For ∷ []) x e = absurd cc
 behind-read c (token.For ∷ (token.Time t ∷ ts)) x e =
-    let same : (record { condition = c; time = t }, ts) ≡ x = same-some _ x e in (
+    let same : (record { condition = c; time = t }, ts) ≡ x = same_Some _ x e in (
       ap (λ (y : Since × List Token). y.0.condition) (sym same),
       ap (λ (y : Since × List Token). token.For ∷ (token.Time y.0.time ∷ y.1)) same,
     )
@@ -204,15 +202,15 @@ untimed-read kind ts x e =
 timed-read : (kind : RuleKind) (ts : List Token) (x : Option Since × List Token)
     → timed_at kind ts ≡ Some x → IsTimedAt kind ts x.0 x.1
 timed-read kind (token.Since which ∷ ts) x e = since-timed kind which ts x e
-timed-read kind [] x e = untimed-read kind [] x (same-some _ x e)
-timed-read kind (other ∷ ts) x e = untimed-read kind (other ∷ ts) x (same-some _ x e)
+timed-read kind [] x e = untimed-read kind [] x (same_Some _ x e)
+timed-read kind (other ∷ ts) x e = untimed-read kind (other ∷ ts) x (same_Some _ x e)
 
 alone-is : (c : Items) (ts : List Token) (d : Items) → alone c ts ≡ Some d → (c ≡ d) × (ts ≡ [])
-alone-is c [] d e = (same-some c d e, refl)
+alone-is c [] d e = (same_Some c d e, refl)
 alone-is c (t ∷ ts) d e = absurd cc
 
 when-read : (ts : List Token) (c : Items) → when_at ts ≡ Some c → IsWhen ts c
-when-read [] c e = subst (IsWhen []) (same-some _ c e) IsWhen.always
+when-read [] c e = subst (IsWhen []) (same_Some _ c e) IsWhen.always
 when-read (token.When ∷ ts) c e =
     let at = then-some (condition_at ts) (λ found. alone found.0 found.1) c e in
     let read = condition-read ts at.found.0 at.found.1 at.was in
@@ -273,7 +271,7 @@ rule-read kind named ts s e =
     (when-read t.found.1 m.found m.was) m.is
 
 pub says-read : (ts : List Token) (s : Statement) → statement_at ts ≡ Some s → Says ts s
-says-read [] s e = subst (Says []) (same-some _ s e) Says.silence
+says-read [] s e = subst (Says []) (same_Some _ s e) Says.silence
 says-read (token.Look ∷ []) s e = absurd cc
 says-read (token.Look ∷ (token.Name named ∷ ts)) s e = looks-read named ts s e
 says-read (token.Look ∷ (other ∷ ts)) s e = absurd cc

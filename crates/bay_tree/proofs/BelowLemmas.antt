@@ -1,5 +1,6 @@
 -- The search for the rows below a structure.
 use Rattle.std.proofs.Common.{◌≡◌, ℕ, zero, suc, ◌+◌, ◌-◌, ◌<◌, ◌≤◌, Bool, true, false, cond, ◌∙◌, Option, Some, None, IfSome, List, [], ◌∷◌, length, drop, refl, ap, sym, subst, arith}
+use Rattle.std.proofs.lemmas.Bool.{false_from_ne_true}
 use Rattle.std.proofs.lemmas.List.{drop-drop, length-drop}
 use Rattle.std.proofs.lemmas.Slice.Eq.{bytes_eq-Decides}
 use Rattle.std.specs.List.{position_from}
@@ -20,15 +21,11 @@ position_from-skip test (row ∷ rows) (suc n) start past is within none =
     rw here (position_from-skip test rows n (start + 1) past (omega arith) (omega arith)
     (λ k lt. none (suc k) (omega arith)))
 
-false-unless : (b : Bool) → (b ≡ true → ⊥) → b ≡ false
-false-unless true h = absurd (h refl)
-false-unless false h = refl
-
 is_parent-not : (parent : List ℕ) (own : Option (List ℕ)) → (own ≡ Some parent → ⊥)
     → is_parent parent own ≡ false
 is_parent-not parent None h = refl
 is_parent-not parent (Some own) h =
-    false-unless (bytes_eq own parent) (λ same. h (ap Some ((bytes_eq-Decides own parent).0 same)))
+    false_from_ne_true (bytes_eq own parent) (λ same. h (ap Some ((bytes_eq-Decides own parent).0 same)))
 
 -- a row's parent stands before it
 parent-before : (rows : List Row) (place k : ℕ) → IsTree rows → place < length rows → k ≤ place

@@ -1,5 +1,6 @@
 -- The value at a handle is the value of its name.
 use Rattle.std.proofs.Common.{◌≡◌, ◌≢◌, ℕ, zero, suc, ◌+◌, ◌<◌, Bool, true, false, cond, List, [], ◌∷◌, length, find, Some, option_and_then, position, refl, ap, sym, ◌∙◌, arith}
+use Rattle.std.proofs.lemmas.Bool.{false_from_ne_true}
 use Rattle.std.proofs.lemmas.Iterator.Adapters.{position_from-zero}
 use Rattle.std.proofs.lemmas.Slice.Eq.{bytes_eq-Decides}
 use Rattle.std.specs.List.{position_from}
@@ -8,15 +9,11 @@ use Rattle.bay_tree.specs.declared.row.Row.{Row}
 use Rattle.bay_tree.specs.declared.leaf.Leaf.{Leaf}
 use Rattle.bay_tree.specs.Rows.{IsTree, name_at, leaf_at, with_leaf, leaf_of, with_leaf_of}
 
-not-true : (b : Bool) → (b ≡ true → ⊥) → b ≡ false
-not-true true f = absurd (f refl)
-not-true false f = refl
-
 pub same-text : (name : List ℕ) → bytes_eq name name ≡ true
 same-text name = (bytes_eq-Decides name name).1 refl
 
 pub other-text : (a b : List ℕ) → a ≢ b → bytes_eq a b ≡ false
-other-text a b n = not-true (bytes_eq a b) (λ t. n ((bytes_eq-Decides a b).0 t))
+other-text a b n = false_from_ne_true (bytes_eq a b) (λ t. n ((bytes_eq-Decides a b).0 t))
 
 -- no two rows have one name
 abbrev pub AreApart : List Row → Type 0

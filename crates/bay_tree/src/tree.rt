@@ -281,29 +281,6 @@ impl Tree {
         })
     }
 
-    /// Like `names_after`, with the name given as octets. Octets that are not valid text name no
-    /// row.
-    pub fn names_after_octets(
-        &self,
-        alloc: Global,
-        after: Option<&[u8]>,
-        count: usize,
-    ) -> Result<Names, NamesFault>
-        ensures page { IfOk result
-            (λ page. page ≡ page_after self.now (option_copied after.entry) count) }
-        ensures unknown { (result ≡ Err NamesFault.NoSuchName)
-            ↔ IsUnknown self.now (option_copied after.entry) }
-    {
-        let name = match after {
-            None => return self.names_after(alloc, None, count),
-            Some(name) => name,
-        };
-        match self.find_octets(name) {
-            Ok(row) => self.names_after(alloc, Some(self.name(row)), count),
-            Err(_) => Err(NamesFault::NoSuchName),
-        }
-    }
-
     /// Returns the place of the first row after the row with a name, given as octets; without a
     /// name the place of the first row. `NoSuchName` if no row has the name.
     pub fn place_after(&self, after: Option<&[u8]>) -> Result<usize, NamesFault>

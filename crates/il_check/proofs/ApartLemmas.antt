@@ -1,5 +1,6 @@
 -- The names of a program without a fault differ.
 use Rattle.std.proofs.Common.{◌≡◌, ℕ, ◌<◌, Bool, true, false, cond, ◌||◌, is_some, List, [], ◌∷◌, ◌++◌, length, map, Option, None, Some, refl, ap, sym, ◌∙◌, arith, zero, suc}
+use Rattle.std.proofs.lemmas.Bool.{or_parts, or_from, false_from_ne_true}
 use Rattle.std.specs.List.{list_any, cons_option}
 use Rattle.std.specs.Str.{bytes_eq}
 use Rattle.std.proofs.lemmas.Slice.Eq.{bytes_eq-Decides}
@@ -24,14 +25,6 @@ use Rattle.il_check.proofs.NameLemmas.{looked_up-more}
 use Rattle.il_check.proofs.NotedLemmas.{append-none}
 use Rattle.il_check.proofs.DeclarationsViewLemmas.{meanings-more}
 
-or-false : (a b : Bool) → a || b ≡ false → (a ≡ false) × (b ≡ false)
-or-false true b none = absurd (cc)
-or-false false b none = (refl, none)
-
-both-false : (a b : Bool) → a ≡ false → b ≡ false → a || b ≡ false
-both-false true b e f = absurd (cc)
-both-false false b e f = f
-
 abbrev Distinct : List (List ℕ) → Type 0
 Distinct [] = Unit {0}
 Distinct (x ∷ xs) = (list_any (same_name x) xs ≡ false) × Distinct xs
@@ -40,9 +33,9 @@ absent-at : (x : List ℕ) (ys : List (List ℕ)) (j : ℕ) → list_any (same_n
     → j < length ys → same_name x (name_at ys j) ≡ false
 absent-at x [] j none within = absurd (omega arith)
 absent-at x (y ∷ ys) zero none within =
-    (or-false (same_name x y) (list_any (same_name x) ys) none).0
+    (or_parts (same_name x y) (list_any (same_name x) ys) none).0
 absent-at x (y ∷ ys) (suc j) none within =
-    absent-at x ys j (or-false (same_name x y) (list_any (same_name x) ys) none).1 (omega arith)
+    absent-at x ys j (or_parts (same_name x y) (list_any (same_name x) ys) none).1 (omega arith)
 
 pub distinct-apart : (xs : List (List ℕ)) → Distinct xs → AreApart xs
 distinct-apart [] d i j below within = absurd (omega arith)
@@ -56,18 +49,14 @@ absent-append : (x : List ℕ) (ys zs : List (List ℕ)) → list_any (same_name
     → list_any (same_name x) zs ≡ false → list_any (same_name x) (ys ++ zs) ≡ false
 absent-append x [] zs e f = f
 absent-append x (y ∷ ys) zs e f =
-    let both = or-false (same_name x y) (list_any (same_name x) ys) e in
-    both-false (same_name x y) (list_any (same_name x) (ys ++ zs)) both.0
+    let both = or_parts (same_name x y) (list_any (same_name x) ys) e in
+    or_from (same_name x y) (list_any (same_name x) (ys ++ zs)) both.0
     (absent-append x ys zs both.1 f)
-
-not-true : (b : Bool) → (b ≡ true → ⊥) → b ≡ false
-not-true true h = absurd (h refl)
-not-true false h = refl
 
 same-other : (a b : List ℕ) → same_name a b ≡ false → same_name b a ≡ false
 unfolding same_name
 same-other a b none =
-    not-true (bytes_eq (upper b) (upper a)) (λ (yes : bytes_eq (upper b) (upper a) ≡ true).
+    false_from_ne_true (bytes_eq (upper b) (upper a)) (λ (yes : bytes_eq (upper b) (upper a) ≡ true).
     let e : upper b ≡ upper a = (bytes_eq-Decides (upper b) (upper a)).0 yes in
     let t : bytes_eq (upper a) (upper b) ≡ true =
     ap (bytes_eq (upper a)) e ∙ (ap (λ u. bytes_eq u (upper a)) (sym e) ∙ yes) in
@@ -75,17 +64,17 @@ same-other a b none =
 
 between : (y x : List ℕ) (ys zs : List (List ℕ)) → same_name y x ≡ false
     → list_any (same_name y) (ys ++ zs) ≡ false → list_any (same_name y) (ys ++ x ∷ zs) ≡ false
-between y x [] zs e f = both-false (same_name y x) (list_any (same_name y) zs) e f
+between y x [] zs e f = or_from (same_name y x) (list_any (same_name y) zs) e f
 between y x (w ∷ ys) zs e f =
-    let both = or-false (same_name y w) (list_any (same_name y) (ys ++ zs)) f in
-    both-false (same_name y w) (list_any (same_name y) (ys ++ x ∷ zs)) both.0
+    let both = or_parts (same_name y w) (list_any (same_name y) (ys ++ zs)) f in
+    or_from (same_name y w) (list_any (same_name y) (ys ++ x ∷ zs)) both.0
     (between y x ys zs e both.1)
 
 inserted : (x : List ℕ) (ys zs : List (List ℕ)) → list_any (same_name x) ys ≡ false
     → list_any (same_name x) zs ≡ false → Distinct (ys ++ zs) → Distinct (ys ++ x ∷ zs)
 inserted x [] zs e f d = (f, d)
 inserted x (y ∷ ys) zs e f d =
-    let both = or-false (same_name x y) (list_any (same_name x) ys) e in
+    let both = or_parts (same_name x y) (list_any (same_name x) ys) e in
     (between y x ys zs (same-other x y both.0) d.0, inserted x ys zs both.1 f d.1)
 
 -- what a declaration is known to differ from
@@ -145,7 +134,7 @@ fresh points before (d ∷ ds) none k known =
     let two =
     append-none (declaration_faults points before d)
     (declarations_faults points (before ++ d ∷ []) ds) none in (
-      not-true (bytes_eq k (upper d.name)) (λ (yes : bytes_eq k (upper d.name) ≡ true).
+      false_from_ne_true (bytes_eq k (upper d.name)) (λ (yes : bytes_eq k (upper d.name) ≡ true).
           let e : k ≡ upper d.name = (bytes_eq-Decides k (upper d.name)).0 yes in
           let t : is_some (looked_up (meanings_of points before) (upper d.name)) ≡ true =
           ap (λ q. is_some (looked_up (meanings_of points before) q)) (sym e) ∙ known in
@@ -169,7 +158,7 @@ external-at-other : (x name : List ℕ) (kind : ElementaryType) (p : Option Poin
     ≡ false
 external-at-other x name kind None es e f = f
 external-at-other x name kind (Some p) es e f =
-    both-false (same_name x (upper name)) (list_any (same_name x) (map (λ e. e.name) es)) e f
+    or_from (same_name x (upper name)) (list_any (same_name x) (map (λ e. e.name) es)) e f
 
 -- a name is none of those that a declaration adds
 external-other : (x : List ℕ) (points : List Point) (d : text.Declared) (s : Scope)
@@ -189,7 +178,7 @@ variable-at-other : (x name : List ℕ) (v : Option Value) (vs : List Variable)
     → list_any (same_name x) (map (λ v. v.name) (cons_option (variable_at name v) vs)) ≡ false
 variable-at-other x name None vs e f = f
 variable-at-other x name (Some v) vs e f =
-    both-false (same_name x (upper name)) (list_any (same_name x) (map (λ v. v.name) vs)) e f
+    or_from (same_name x (upper name)) (list_any (same_name x) (map (λ v. v.name) vs)) e f
 
 variable-other : (x : List ℕ) (d : text.Declared) (s : Scope) (k : DeclaredType)
     (vs : List Variable) → same_name x (upper d.name) ≡ false

@@ -1,7 +1,8 @@
 -- What a program without a fault declares: values of their types, names of points, and meanings
 -- that are there.
 use Rattle.std.proofs.Common.{◌≡◌, ℕ, zero, suc, ◌+◌, ◌<◌, ◌≤◌, ℤ, pos, Bool, true, false, cond, ◌&&◌, ◌⊎◌, inl, inr, is_some, is_none, nat_lt, nat_le, List, [], ◌∷◌, ◌++◌, length, slice_get, option_to_list, Option, None, Some, refl, ap, sym, subst, ◌∙◌, arith, append-nil, append_assoc}
-use Rattle.std.proofs.lemmas.Bool.{and_parts}
+use Rattle.std.proofs.lemmas.Option.{same_Some, cond_some}
+use Rattle.std.proofs.lemmas.Bool.{and_parts, not-false}
 use Rattle.std.proofs.lemmas.Bool.Decides.{nat_tests}
 use Rattle.std.proofs.lemmas.List.{length-append, length-map}
 use Rattle.std.proofs.lemmas.List.Folds.{list_all-map}
@@ -36,8 +37,7 @@ use Rattle.il_check.specs.declared.typed.External.{External}
 use Rattle.il_check.specs.declared.typed.Variable.{Variable}
 use Rattle.il_check.specs.declared.typed.Timer.{Timer}
 use Rattle.il_check.specs.declared.typed.Slot.TheVariants as slot
-use Rattle.il_check.proofs.FaultlessLemmas.{both-none, if-none, not-false}
-use Rattle.il_check.proofs.LabellingLemmas.{if-some, some-is}
+use Rattle.il_check.proofs.FaultlessLemmas.{both-none, if-none}
 use Rattle.il_check.proofs.NameLemmas.{looked_up-more}
 use Rattle.il_check.proofs.DeclarationsViewLemmas.{filter_map-more, meanings-more}
 
@@ -57,7 +57,7 @@ truth-value true = refl
 truth-value false = refl
 
 pub typed-is : (l : Literal) (v : Value) → typed_value l ≡ Some v → IsValue v
-typed-is (literal.Truth b) v e = subst IsValue (some-is (value.Truth b) v e) (truth-value b)
+typed-is (literal.Truth b) v e = subst IsValue (same_Some (value.Truth b) v e) (truth-value b)
 typed-is (literal.Number z) v e = absurd (cc)
 typed-is (literal.Int z) v e = (is_value elementary.Int z v e).0
 typed-is (literal.Dint z) v e = (is_value elementary.Dint z v e).0
@@ -76,7 +76,7 @@ of-type-is : (kind : ElementaryType) (o : Option Value) (v : Value) → of_type 
     → (o ≡ Some v) × (type_of v ≡ kind)
 of-type-is kind None v e = absurd (cc)
 of-type-is kind (Some w) v e =
-    let c = if-some (same_type (type_of w) kind) w v e in
+    let c = cond_some (same_type (type_of w) kind) w v e in
     (ap Some c.1, subst (λ (x : Value). type_of x ≡ kind) c.1 (same-is (type_of w) kind c.0))
 
 of_literal : (kind : ElementaryType) (l : Literal) (v : Value)
@@ -95,7 +95,7 @@ literal-value-is kind (literal.Time n) v e = of_literal kind (literal.Time n) v 
 pub initial-is : (kind : ElementaryType) (o : Option Literal) (v : Value)
     → initial_in kind o ≡ Some v → IsValue v × (type_of v ≡ kind)
 initial-is kind None v e =
-    subst (λ (x : Value). IsValue x × (type_of x ≡ kind)) (some-is (default_value kind) v e)
+    subst (λ (x : Value). IsValue x × (type_of x ≡ kind)) (same_Some (default_value kind) v e)
     (let h = default-typed kind in (h.1, h.0))
 initial-is kind (Some l) v e = literal-value-is kind l v e
 
@@ -259,7 +259,7 @@ pub record AreDeclared (es : List External) (vs : List Variable) (ts : List Time
 either-found : {A : Type 0} (o : Option A) (b : Bool) (x y : A)
     → cond (is_some o) o (cond b (Some x) None) ≡ Some y → (o ≡ Some y) ⊎ (x ≡ y)
 either-found (Some z) b x y e = inl e
-either-found None true x y e = inr (some-is x y e)
+either-found None true x y e = inr (same_Some x y e)
 either-found None false x y e = absurd (cc)
 
 declared-added : (es es2 : List External) (vs vs2 : List Variable) (ts ts2 : List Timer)

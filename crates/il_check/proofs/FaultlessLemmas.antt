@@ -1,5 +1,6 @@
 -- What is without a fault: an instruction, and an entry with all that stands in it.
 use Rattle.std.proofs.Common.{◌≡◌, ℕ, zero, suc, ◌+◌, ◌-◌, ◌<◌, Bool, true, false, not, ◌&&◌, ◌||◌, cond, List, [], ◌∷◌, ◌++◌, refl, sym, ap, subst, ◌∙◌, arith, Option, Some, None, ◌⊎◌, inl, inr}
+use Rattle.std.proofs.lemmas.Bool.{not-false, and_right}
 use Rattle.std.specs.Prelude.{◌==◌, is_none, option_map}
 use Rattle.std.proofs.lemmas.Bool.Decides.{nat_tests}
 use Rattle.bay_base.specs.declared.types.ElementaryType.{ElementaryType}
@@ -37,17 +38,9 @@ if-none false f e = refl
 pub none-if : (b : Bool) (f : CheckFault) → b ≡ false → fault_if b f ≡ []
 none-if b f e = ap (λ c. fault_if c f) e
 
-pub not-false : (b : Bool) → not b ≡ false → b ≡ true
-not-false true e = refl
-not-false false e = absurd (cc)
-
 pub and-false : (a b : Bool) → a ≡ true → a && b ≡ false → b ≡ false
 and-false true b e f = f
 and-false false b e f = absurd (cc)
-
-pub false-and : (a b : Bool) → b ≡ false → a && b ≡ false
-false-and true b e = e
-false-and false b e = refl
 
 -- ---- one instruction
 
@@ -79,8 +72,8 @@ pub right-to : (is_reached : Bool) (passed line : ℕ) (r : Resolved) (t : Optio
 right-to is_reached passed line r t reached ok =
     none-both _ _
     (none-both _ _ (none-if _ _ ok.named)
-    (none-both _ _ (none-if _ _ (false-and is_reached _ ok.allowed))
-    (none-both _ _ (none-if _ _ (false-and is_reached _ ok.set)) (none-if _ _ ok.forward))))
+    (none-both _ _ (none-if _ _ (and_right is_reached _ ok.allowed))
+    (none-both _ _ (none-if _ _ (and_right is_reached _ ok.set)) (none-if _ _ ok.forward))))
     (none-both _ _ (none-if _ _ ok.labelled)
     (none-both _ _ (none-if _ _ (ap not reached))
     (none-both _ _ (none-if _ _ ok.writable) (none-if _ _ ok.nonzero))))
@@ -149,8 +142,8 @@ mutual
       (none-both _ _ (none-if _ _ (ap not r)) (none-if _ _ ok.2.nonzero))
       (from-within room line _ ok.0
       (none-both _ _ (entries-to names (room - 1) is_reached passed items None r ok.1)
-      (none-both _ _ (none-if _ _ (false-and is_reached _ ok.2.allowed))
-      (none-both _ _ (none-if _ _ (false-and is_reached _ ok.2.set))
+      (none-both _ _ (none-if _ _ (and_right is_reached _ ok.2.allowed))
+      (none-both _ _ (none-if _ _ (and_right is_reached _ ok.2.set))
       (none-if _ _ (ap not r))))))
 
   pub entries-to : (names : Names) (room : ℕ) (is_reached : Bool) (passed : ℕ) (es : text.Entries)

@@ -1,6 +1,7 @@
 -- Instructions that are right leave operations, jumps, returns and calls that are well typed.
 use Rattle.std.proofs.Common.{◌≡◌, ℕ, zero, suc, ◌<◌, ℤ, pos, negsuc, Bool, true, false, not, cond, ◌&&◌, inl, inr, is_some, List, [], ◌∷◌, length, Option, None, Some, option_map, refl, ap, sym, subst, ◌∙◌}
-use Rattle.std.proofs.lemmas.Bool.{and_parts}
+use Rattle.std.proofs.lemmas.Option.{same_Some, cond_some}
+use Rattle.std.proofs.lemmas.Bool.{and_parts, not-false, false_from_ne_true}
 use Rattle.std.specs.Cmp.{signed_Decides}
 use Rattle.std.specs.Ordering.{int_eq}
 use Rattle.bay_base.specs.Types.{same_type}
@@ -53,8 +54,7 @@ use Rattle.il_check.specs.declared.typed.SimpleOperation.TheVariants as op
 use Rattle.il_check.specs.declared.typed.Transfer.{Transfer}
 use Rattle.il_check.specs.declared.typed.Transfer.TheVariants as go
 use Rattle.il_check.proofs.DeclaredLemmas.{is_value, typed-is, number-is, IsMeant}
-use Rattle.il_check.proofs.FaultlessLemmas.{not-false, same-for-all, right-typed}
-use Rattle.il_check.proofs.LabellingLemmas.{if-some, some-is}
+use Rattle.il_check.proofs.FaultlessLemmas.{same-for-all, right-typed}
 
 -- ---- what names mean
 
@@ -123,7 +123,7 @@ operand-case : (c : Checked) (kind : ElementaryType) (z : ℤ) (w : Option Value
     → number_in kind z ≡ w → option_map (λ v. operand.Literal v) w ≡ Some x → IsOperand c x kind
 operand-case c kind z None x is e = absurd (cc)
 operand-case c kind z (Some v) x is e =
-    subst (λ (y : TypedOperand). IsOperand c y kind) (some-is (operand.Literal v) x e)
+    subst (λ (y : TypedOperand). IsOperand c y kind) (same_Some (operand.Literal v) x e)
     (is_value kind z v (number-is kind z v is))
 
 operand-typed : (c : Checked) (kind : ElementaryType) (g : Given) (x : TypedOperand) → IsGiven c g
@@ -131,7 +131,7 @@ operand-typed : (c : Checked) (kind : ElementaryType) (g : Given) (x : TypedOper
 operand-typed c kind Missing x given e = absurd (cc)
 operand-typed c kind Misused x given e = absurd (cc)
 operand-typed c kind (Known source) x given e =
-    let h = if-some (same_type source.kind kind) source.operand x e in
+    let h = cond_some (same_type source.kind kind) source.operand x e in
     subst (λ (y : TypedOperand). IsOperand c y kind) h.1
     (subst (IsOperand c source.operand) (same-is source.kind kind h.0) given.0)
 operand-typed c kind (Number z) x given e = operand-case c kind z (number_in kind z) x refl e
@@ -143,12 +143,8 @@ abbrev pub IsNonzero : Given → Type 0
 IsNonzero g =
     (kind : ElementaryType) (x : TypedOperand) → operand_in kind g ≡ Some x → is_divisor x ≡ true
 
-is-false : (b : Bool) → (b ≡ true → ⊥) → b ≡ false
-is-false true h = absurd (h refl)
-is-false false h = refl
-
 no-int : (y z : ℤ) → (y ≡ z → ⊥) → int_eq y z ≡ false
-no-int y z ne = is-false (int_eq y z) (λ yes. ne ((signed_Decides y z).0 yes))
+no-int y z ne = false_from_ne_true (int_eq y z) (λ yes. ne ((signed_Decides y z).0 yes))
 
 not-zero : (z : ℤ) → not (is_zero z) ≡ true → not (int_eq z (pos 0)) ≡ true
 not-zero (pos zero) e = absurd (cc)
@@ -164,7 +160,7 @@ known-nonzero : (o : Option Value) (z : ℤ) → ((v : Value) → o ≡ Some v �
 known-nonzero None z has some kind x e = absurd (cc)
 known-nonzero (Some v) z has some kind x e =
     subst (λ (y : TypedOperand). is_divisor y ≡ true)
-    (if-some (same_type (type_of v) kind) (operand.Literal v) x e).1
+    (cond_some (same_type (type_of v) kind) (operand.Literal v) x e).1
     (divisor-of v z (has v refl) some)
 
 number-nonzero-case : (z : ℤ) (kind : ElementaryType) (w : Option Value) (x : TypedOperand)
@@ -172,7 +168,7 @@ number-nonzero-case : (z : ℤ) (kind : ElementaryType) (w : Option Value) (x : 
     → is_divisor x ≡ true
 number-nonzero-case z kind None x some is e = absurd (cc)
 number-nonzero-case z kind (Some v) x some is e =
-    subst (λ (y : TypedOperand). is_divisor y ≡ true) (some-is (operand.Literal v) x e)
+    subst (λ (y : TypedOperand). is_divisor y ≡ true) (same_Some (operand.Literal v) x e)
     (divisor-of v z (value_is kind z v (number-is kind z v is)).number some)
 
 number-nonzero : (z : ℤ) (b : Bool) → not (is_zero z) ≡ true → IsNonzero (cond b (Number z) Misused)
@@ -182,7 +178,7 @@ number-nonzero z false some kind x e = absurd (cc)
 literal-nonzero : (l : Literal) → is_nonzero_literal l ≡ true → IsNonzero (literal_given l)
 literal-nonzero (literal.Truth true) e =
     known-nonzero (Some (value.Truth true)) (pos 1)
-    (λ v is. ap number_of (sym (some-is (value.Truth true) v is))) refl
+    (λ v is. ap number_of (sym (same_Some (value.Truth true) v is))) refl
 literal-nonzero (literal.Truth false) e = absurd (cc)
 literal-nonzero (literal.Number z) e = number-nonzero z (is_some (value_of elementary.Lint z)) e
 literal-nonzero (literal.Int z) e =
@@ -330,7 +326,7 @@ load-kind : (c : Checked) (negated : Bool) (g : Given) (t : Option ElementaryTyp
     → load_operation negated x ≡ Some o → IsOperation c o t (Some kind)
 load-kind c negated g t kind None o given may is e = absurd (cc)
 load-kind c negated g t kind (Some x) o given may is e =
-    subst (λ (y : SimpleOperation). IsOperation c y t (Some kind)) (some-is (op.Load negated x) o e)
+    subst (λ (y : SimpleOperation). IsOperation c y t (Some kind)) (same_Some (op.Load negated x) o e)
     (kind, operand-typed c kind g x given is, may, refl)
 
 load-case : (c : Checked) (negated : Bool) (g : Given) (t k : Option ElementaryType)
@@ -356,7 +352,7 @@ combine-kind c operator negated g nonzero kind None o given other works_on divis
     absurd (cc)
 combine-kind c operator negated g nonzero kind (Some x) o given other works_on divisor is e =
     subst (λ (y : SimpleOperation). IsOperation c y (Some kind) (Some (gives operator kind)))
-    (some-is (op.Combine operator kind negated x) o e) (
+    (same_Some (op.Combine operator kind negated x) o e) (
       operand-typed c kind g x given is,
       works_on,
       divisor-right (divides operator) nonzero (is_divisor x) divisor
@@ -373,7 +369,7 @@ store-slot : (c : Checked) (how : StoreKind) (kind : ElementaryType) (place : Ty
 store-slot c how kind (operand.Literal v) of o is same may how_may e = absurd (cc)
 store-slot c how kind (operand.Slot s) of o is same may how_may e =
     subst (λ (y : SimpleOperation). IsOperation c y (Some kind) (Some kind))
-    (some-is (op.Store how s) o e) (kind, is ∙ ap Some same, may, how_may, refl, refl)
+    (same_Some (op.Store how s) o e) (kind, is ∙ ap Some same, may, how_may, refl, refl)
 store-slot c how kind (operand.Output timer what) of o is same may how_may e = absurd (cc)
 
 fits-same : (source : KnownOperand) (kind : ElementaryType) (b : Bool)
@@ -410,12 +406,12 @@ operation-typed c passed (Combine operator negated g nonzero) (Some kind) o is o
     refl e
 operation-typed c passed Not None o is ok e = absurd (let k = ok.set in cc)
 operation-typed c passed Not (Some kind) o is ok e =
-    subst (λ (y : SimpleOperation). IsOperation c y (Some kind) (Some kind)) (some-is op.Not o e)
+    subst (λ (y : SimpleOperation). IsOperation c y (Some kind) (Some kind)) (same_Some op.Not o e)
     (ap Some (sym (same-is elementary.Bool kind (not-false _ ok.allowed))), refl)
 operation-typed c passed (Convert conversion) None o is ok e = absurd (let k = ok.set in cc)
 operation-typed c passed (Convert conversion) (Some kind) o is ok e =
     subst (λ (y : SimpleOperation). IsOperation c y (Some kind)
-    (Some (rules.converted_to conversion))) (some-is (op.Convert conversion) o e)
+    (Some (rules.converted_to conversion))) (same_Some (op.Convert conversion) o e)
     (ap Some (same-is kind (converted_from conversion) (not-false _ ok.allowed)), refl)
 operation-typed c passed (Jump condition label) t o is ok e = absurd (cc)
 operation-typed c passed (Return condition) t o is ok e = absurd (cc)
@@ -457,7 +453,7 @@ argument-case : (c : Checked) (a : GivenArgument) (w : Option TypedOperand) (x :
     → option_map (λ o. record { input = a.input; operand = o }) w ≡ Some x → IsArgument c x
 argument-case c a None x given is e = absurd (cc)
 argument-case c a (Some o) x given is e =
-    subst (IsArgument c) (some-is (record { input = a.input; operand = o }) x e)
+    subst (IsArgument c) (same_Some (record { input = a.input; operand = o }) x e)
     (operand-typed c (input_type a.input) a.given o given is)
 
 argument-typed : (c : Checked) (a : GivenArgument) (x : TypedArgument) → IsGiven c a.given
@@ -469,7 +465,7 @@ one-typed : (c : Checked) (a : GivenArgument) (w : Option TypedArgument) (xs : T
     → IsGiven c a.given → typed_argument a ≡ w → one_argument w ≡ Some xs → AreArguments c xs
 one-typed c a None xs given is e = absurd (cc)
 one-typed c a (Some x) xs given is e =
-    subst (AreArguments c) (some-is (typed.One x) xs e) (argument-typed c a x given is)
+    subst (AreArguments c) (same_Some (typed.One x) xs e) (argument-typed c a x given is)
 
 two-typed : (c : Checked) (a b : GivenArgument) (v w : Option TypedArgument) (xs : TypedArguments)
     → IsGiven c a.given → IsGiven c b.given → typed_argument a ≡ v → typed_argument b ≡ w
@@ -477,12 +473,12 @@ two-typed : (c : Checked) (a b : GivenArgument) (v w : Option TypedArgument) (xs
 two-typed c a b None w xs given more is also e = absurd (cc)
 two-typed c a b (Some x) None xs given more is also e = absurd (cc)
 two-typed c a b (Some x) (Some y) xs given more is also e =
-    subst (AreArguments c) (some-is (typed.Two x y) xs e)
+    subst (AreArguments c) (same_Some (typed.Two x y) xs e)
     (argument-typed c a x given is, argument-typed c b y more also)
 
 arguments-typed : (c : Checked) (args : GivenArguments) (xs : TypedArguments) → AreGiven c args
     → arguments_in args ≡ Some xs → AreArguments c xs
-arguments-typed c arguments.None xs given e = subst (AreArguments c) (some-is typed.None xs e) tt
+arguments-typed c arguments.None xs given e = subst (AreArguments c) (same_Some typed.None xs e) tt
 arguments-typed c (arguments.One a) xs given e = one-typed c a (typed_argument a) xs given refl e
 arguments-typed c (arguments.Two a b) xs given e =
     two-typed c a b (typed_argument a) (typed_argument b) xs given.0 given.1 refl refl e
@@ -528,7 +524,7 @@ call-case : (c : Checked) (below : List Item) (n : ℕ) (args : GivenArguments)
     → IsMoved c below (Call (called.Timer n) args) t x
 call-case c below n args None t x timer given is e = absurd (cc)
 call-case c below n args (Some xs) t x timer given is e =
-    subst (IsMoved c below (Call (called.Timer n) args) t) (some-is (go.Call n xs) x e)
+    subst (IsMoved c below (Call (called.Timer n) args) t) (same_Some (go.Call n xs) x e)
     (record { right = (timer, arguments-typed c args xs given is); target = refl; goes = refl })
 
 pub transfer-typed : (c : Checked) (below : List Item) (passed : ℕ) (r : Resolved)
@@ -542,14 +538,14 @@ transfer-typed c below passed Not t x is ok there e = absurd (cc)
 transfer-typed c below passed (Convert conversion) t x is ok there e = absurd (cc)
 transfer-typed c below passed (Jump condition None) t x is ok there e = absurd (cc)
 transfer-typed c below passed (Jump condition (Some n)) t x is ok there e =
-    subst (IsMoved c below (Jump condition (Some n)) t) (some-is (go.Jump condition n) x e)
+    subst (IsMoved c below (Jump condition (Some n)) t) (same_Some (go.Jump condition n) x e)
     (record {
       right = (decides-jump condition (Some n) t ok.allowed ok.set, there n refl);
       target = refl;
       goes = behind-same condition t;
     })
 transfer-typed c below passed (Return condition) t x is ok there e =
-    subst (IsMoved c below (Return condition) t) (some-is (go.Return condition) x e)
+    subst (IsMoved c below (Return condition) t) (same_Some (go.Return condition) x e)
     (record {
       right = decides-return condition t ok.allowed ok.set;
       target = refl;

@@ -1,6 +1,7 @@
 -- What is left of a right program says what the program says.
 use Rattle.std.proofs.Common.{◌≡◌, ℕ, zero, suc, ◌+◌, ◌-◌, ◌<◌, ℤ, pos, Bool, true, false, not, cond, ◌&&◌, is_some, is_none, List, [], ◌∷◌, ◌++◌, length, slice_get, Option, None, Some, Ok, option_map, refl, ap, sym, subst, ◌∙◌, arith, append_assoc}
-use Rattle.std.proofs.lemmas.Bool.{and_parts}
+use Rattle.std.proofs.lemmas.Option.{same_Some, cond_some}
+use Rattle.std.proofs.lemmas.Bool.{and_parts, not-false}
 use Rattle.std.proofs.lemmas.List.{length-append}
 use Rattle.std.specs.List.{cons_option, list_all}
 use Rattle.std.specs.Prelude.{◌==◌}
@@ -62,9 +63,8 @@ use Rattle.il_check.specs.declared.typed.SimpleOperation.TheVariants as op
 use Rattle.il_check.specs.declared.typed.Transfer.{Transfer}
 use Rattle.il_check.specs.declared.typed.Transfer.TheVariants as go
 use Rattle.il_check.proofs.DeclaredLemmas.{number-is, initial-is}
-use Rattle.il_check.proofs.FaultlessLemmas.{both-none, if-none, not-false, and-false, right-from, entry-from, no-zero}
+use Rattle.il_check.proofs.FaultlessLemmas.{both-none, if-none, and-false, right-from, entry-from, no-zero}
 use Rattle.il_check.proofs.GivenLemmas.{AreNamed, found, named-from, allows-any, load-some, combined-some, arguments-some}
-use Rattle.il_check.proofs.LabellingLemmas.{if-some, some-is}
 use Rattle.il_check.proofs.NotedLemmas.{least_fault-none}
 use Rattle.il_check.proofs.OwnLemmas.{mean-own-places}
 use Rattle.il_check.proofs.DeclaredLemmas.{declares}
@@ -72,7 +72,7 @@ use Rattle.il_check.proofs.DeclaredLemmas.{declares}
 -- ---- values
 
 of_literal : (l : Literal) (v : Value) → typed_value l ≡ Some v → IsValueOf l v
-of_literal (literal.Truth b) v e = sym (some-is (value.Truth b) v e)
+of_literal (literal.Truth b) v e = sym (same_Some (value.Truth b) v e)
 of_literal (literal.Number z) v e = absurd (cc)
 of_literal (literal.Int z) v e = let h = value_is elementary.Int z v e in (h.type, h.number)
 of_literal (literal.Dint z) v e = let h = value_is elementary.Dint z v e in (h.type, h.number)
@@ -82,7 +82,7 @@ of_literal (literal.Time n) v e = let h = value_is elementary.Time (pos n) v e i
 of-type-from : (kind : ElementaryType) (o : Option Value) (v : Value) → of_type kind o ≡ Some v
     → o ≡ Some v
 of-type-from kind None v e = absurd (cc)
-of-type-from kind (Some w) v e = ap Some (if-some (same_type (type_of w) kind) w v e).1
+of-type-from kind (Some w) v e = ap Some (cond_some (same_type (type_of w) kind) w v e).1
 
 literal-begins : (kind : ElementaryType) (l : Literal) (v : Value) → literal_value kind l ≡ Some v
     → IsValueOf l v
@@ -104,7 +104,7 @@ default-zero elementary.Time = refl
 begins : (kind : ElementaryType) (o : Option Literal) (v : Value) → initial_in kind o ≡ Some v
     → BeginsWith o v
 begins kind None v e =
-    subst (λ (x : Value). number_of x ≡ pos 0) (some-is (default_value kind) v e)
+    subst (λ (x : Value). number_of x ≡ pos 0) (same_Some (default_value kind) v e)
     (default-zero kind)
 begins kind (Some l) v e = literal-begins kind l v e
 
@@ -179,7 +179,7 @@ labels-named : (es : List text.Entry) (from n m : ℕ) (x : List ℕ)
     → slice_get (labels_from from es) n ≡ Some (x, m) → slice_get (label_names es) n ≡ Some x
 labels-named [] from n m x e = absurd (cc)
 labels-named (text.label line name ∷ es) from zero m x e =
-    ap Some (ap (λ (p : List ℕ × ℕ). p.0) (some-is (upper name, from) (x, m) e))
+    ap Some (ap (λ (p : List ℕ × ℕ). p.0) (same_Some (upper name, from) (x, m) e))
 labels-named (text.label line name ∷ es) from (suc n) m x e = labels-named es (from + 1) n m x e
 labels-named (text.action line a ∷ es) from n m x e = labels-named es from n m x e
 labels-named (text.block line operator negated items end ∷ es) from n m x e =
@@ -230,7 +230,7 @@ module _ (c : Checked) (names : Names) (items : List text.Entry)
   known-kept l None kind x is e = absurd (cc)
   known-kept l (Some v) kind x is e =
       subst (IsOperandOf c (text.constant l))
-      (if-some (same_type (type_of v) kind) (operand.Literal v) x e).1 (is v refl)
+      (cond_some (same_type (type_of v) kind) (operand.Literal v) x e).1 (is v refl)
 
   number-kept : (z : ℤ) (kind : ElementaryType) (o : Option Value) (x : TypedOperand)
       → number_in kind z ≡ o → option_map (λ v. operand.Literal v) o ≡ Some x
@@ -238,7 +238,7 @@ module _ (c : Checked) (names : Names) (items : List text.Entry)
   number-kept z kind None x is e = absurd (cc)
   number-kept z kind (Some v) x is e =
       subst (IsOperandOf c (text.constant (literal.Number z)))
-      (some-is (operand.Literal v) x e) (value_is kind z v (number-is kind z v is)).number
+      (same_Some (operand.Literal v) x e) (value_is kind z v (number-is kind z v is)).number
 
   number-given-kept : (z : ℤ) (b : Bool) (kind : ElementaryType) (x : TypedOperand)
       → operand_in kind (cond b (Number z) Misused) ≡ Some x
@@ -267,7 +267,7 @@ module _ (c : Checked) (names : Names) (items : List text.Entry)
   variable-kept name None kind x is e = absurd (cc)
   variable-kept name (Some (meaning.Variable s k w)) kind x is e =
       subst (IsOperandOf c (text.variable (text.named name)))
-      (if-some (same_type k kind) (operand.Slot s) x e).1 (named-slot name s k w is)
+      (cond_some (same_type k kind) (operand.Slot s) x e).1 (named-slot name s k w is)
   variable-kept name (Some (meaning.Timer n)) kind x is e = absurd (cc)
 
   output-kept : (timer : List ℕ) (what : Output) (m : Option Meaning) (kind : ElementaryType)
@@ -277,7 +277,7 @@ module _ (c : Checked) (names : Names) (items : List text.Entry)
   output-kept timer what (Some (meaning.Variable s k w)) kind x is e = absurd (cc)
   output-kept timer what (Some (meaning.Timer n)) kind x is e =
       subst (IsOperandOf c (text.variable (text.output timer what)))
-      (if-some _ (operand.Output n what) x e).1 (named-timer timer n is, refl)
+      (cond_some _ (operand.Output n what) x e).1 (named-timer timer n is, refl)
 
   source-kept : (source : text.Source) (kind : ElementaryType) (x : TypedOperand)
       → operand_in kind (source_given names source) ≡ Some x → IsOperandOf c source x
@@ -291,7 +291,7 @@ module _ (c : Checked) (names : Names) (items : List text.Entry)
       → target_slot (variable_given m) ≡ Some s → slot_name c s ≡ Some (upper name)
   named-target name None s is e = absurd (cc)
   named-target name (Some (meaning.Variable r k w)) s is e =
-      subst (λ (y : Slot). slot_name c y ≡ Some (upper name)) (some-is r s e)
+      subst (λ (y : Slot). slot_name c y ≡ Some (upper name)) (same_Some r s e)
       (named-slot name r k w is)
   named-target name (Some (meaning.Timer n)) s is e = absurd (cc)
 
@@ -314,7 +314,7 @@ module _ (c : Checked) (names : Names) (items : List text.Entry)
       → IsOperationOf c (text.load negated source) o
   load-kept negated source kind None o is e = absurd (cc)
   load-kept negated source kind (Some x) o is e =
-      subst (IsOperationOf c (text.load negated source)) (some-is (op.Load negated x) o e)
+      subst (IsOperationOf c (text.load negated source)) (same_Some (op.Load negated x) o e)
       (refl, source-kept source kind x is)
 
   load-typed : (negated : Bool) (source : text.Source) (k : Option ElementaryType)
@@ -329,7 +329,7 @@ module _ (c : Checked) (names : Names) (items : List text.Entry)
       → IsOperationOf c (text.store how place) o
   store-kept how place None o is e = absurd (cc)
   store-kept how place (Some s) o is e =
-      subst (IsOperationOf c (text.store how place)) (some-is (op.Store how s) o e)
+      subst (IsOperationOf c (text.store how place)) (same_Some (op.Store how s) o e)
       (refl, target-kept place s is)
 
   combine-kept : (operator : Operator) (negated : Bool) (source : text.Source)
@@ -340,7 +340,7 @@ module _ (c : Checked) (names : Names) (items : List text.Entry)
   combine-kept operator negated source kind None o is e = absurd (cc)
   combine-kept operator negated source kind (Some x) o is e =
       subst (IsOperationOf c (text.combine operator negated source))
-      (some-is (op.Combine operator kind negated x) o e)
+      (same_Some (op.Combine operator kind negated x) o e)
       (refl, refl, source-kept source kind x is)
 
   operation-kept : (a : text.Action) (t : Option ElementaryType) (o : SimpleOperation)
@@ -353,9 +353,9 @@ module _ (c : Checked) (names : Names) (items : List text.Entry)
   operation-kept (text.combine operator negated source) (Some kind) o e =
       combine-kept operator negated source kind (operand_in kind (source_given names source)) o refl
       e
-  operation-kept text.invert t o e = subst (IsOperationOf c text.invert) (some-is op.Not o e) tt
+  operation-kept text.invert t o e = subst (IsOperationOf c text.invert) (same_Some op.Not o e) tt
   operation-kept (text.convert conversion) t o e =
-      subst (IsOperationOf c (text.convert conversion)) (some-is (op.Convert conversion) o e) refl
+      subst (IsOperationOf c (text.convert conversion)) (same_Some (op.Convert conversion) o e) refl
   operation-kept (text.jump condition name) t o e = absurd (cc)
   operation-kept (text.leave condition) t o e = absurd (cc)
   operation-kept (text.call timer args) t o e = absurd (cc)
@@ -476,7 +476,7 @@ module _ (c : Checked) (names : Names) (items : List text.Entry)
       → option_map (λ y. record { input = a.0; operand = y }) o ≡ Some x → IsArgumentOf c a x
   argument-case a None x is e = absurd (cc)
   argument-case a (Some y) x is e =
-      subst (IsArgumentOf c a) (some-is (record { input = a.0; operand = y }) x e)
+      subst (IsArgumentOf c a) (same_Some (record { input = a.0; operand = y }) x e)
       (refl, source-kept a.1 (input_type a.0) y is)
 
   argument-kept : (a : Input × text.Source) (x : TypedArgument)
@@ -489,7 +489,7 @@ module _ (c : Checked) (names : Names) (items : List text.Entry)
       → AreArgumentsOf c (a ∷ []) xs
   one-kept-of a None xs is e = absurd (cc)
   one-kept-of a (Some x) xs is e =
-      subst (AreArgumentsOf c (a ∷ [])) (some-is (typed.One x) xs e) (argument-kept a x is)
+      subst (AreArgumentsOf c (a ∷ [])) (same_Some (typed.One x) xs e) (argument-kept a x is)
 
   two-kept-of : (a b : Input × text.Source) (more : List (Input × text.Source))
       (o p : Option TypedArgument) (xs : TypedArguments)
@@ -498,12 +498,12 @@ module _ (c : Checked) (names : Names) (items : List text.Entry)
   two-kept-of a b more None p xs is also e = absurd (cc)
   two-kept-of a b more (Some x) None xs is also e = absurd (cc)
   two-kept-of a b more (Some x) (Some y) xs is also e =
-      subst (AreArgumentsOf c (a ∷ b ∷ more)) (some-is (typed.Two x y) xs e)
+      subst (AreArgumentsOf c (a ∷ b ∷ more)) (same_Some (typed.Two x y) xs e)
       (argument-kept a x is, argument-kept b y also)
 
   arguments-kept : (args : List (Input × text.Source)) (xs : TypedArguments)
       → arguments_in (arguments_given names args) ≡ Some xs → AreArgumentsOf c args xs
-  arguments-kept [] xs e = subst (AreArgumentsOf c []) (some-is typed.None xs e) tt
+  arguments-kept [] xs e = subst (AreArgumentsOf c []) (same_Some typed.None xs e) tt
   arguments-kept (a ∷ []) xs e =
       one-kept-of a (typed_argument (argument_given names a)) xs refl e
   arguments-kept (a ∷ b ∷ more) xs e =

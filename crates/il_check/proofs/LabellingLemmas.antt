@@ -1,8 +1,9 @@
 -- A program without a fault is one with a labelling.
 use Rattle.std.proofs.Common.{◌≡◌, ℕ, zero, suc, ◌+◌, ◌<◌, ◌≤◌, Bool, true, false, not, ◌&&◌, ◌||◌, cond, List, [], ◌∷◌, ◌++◌, length, map, slice_get, slice_set, refl, sym, ap, subst, ◌∙◌, arith, Option, Some, None, ◌↔◌, inl, inr}
+use Rattle.std.proofs.lemmas.Option.{same_Some, cond_some}
 use Rattle.std.specs.Prelude.{◌==◌, is_some, nat_le, nat_lt, option_map}
 use Rattle.std.proofs.lemmas.Bool.Decides.{nat_tests}
-use Rattle.std.proofs.lemmas.Bool.{cases_eq}
+use Rattle.std.proofs.lemmas.Bool.{cases_eq, not-false}
 use Rattle.std.specs.Str.{bytes_eq}
 use Rattle.bay_base.specs.Names.{upper}
 use Rattle.bay_base.specs.declared.types.ElementaryType.{ElementaryType}
@@ -19,7 +20,7 @@ use Rattle.il_check.specs.WellTyped.{Progress, is_first, items_faults, same_resu
 use Rattle.il_check.specs.declared.reach.Reach.{Reach}
 use Rattle.il_check.specs.declared.given.Resolved.{Resolved}
 use Rattle.il_check.specs.declared.given.Resolved.TheVariants.{Load, Store, Combine, Not, Convert, Jump, Return, Call}
-use Rattle.il_check.proofs.FaultlessLemmas.{two, both-none, none-both, if-none, none-if, not-false, right-from, right-to, entry-reached, becomes-along, becomes-under, right-under, after-under, or-true, entry-under, entry-to, entry-from}
+use Rattle.il_check.proofs.FaultlessLemmas.{two, both-none, none-both, if-none, none-if, right-from, right-to, entry-reached, becomes-along, becomes-under, right-under, after-under, or-true, entry-under, entry-to, entry-from}
 
 -- ---- where ways meet
 
@@ -176,14 +177,6 @@ some-if : {A : Type 0} (b : Bool) (x : A) → is_some (cond b (Some x) None) ≡
 some-if true x = refl
 some-if false x = refl
 
-pub some-is : {A : Type 0} (x y : A) → Some x ≡ Some y → x ≡ y
-some-is x y e = cc
-
-pub if-some : {A : Type 0} (b : Bool) (x y : A) → cond b (Some x) None ≡ Some y
-    → (b ≡ true) × (x ≡ y)
-if-some true x y e = (refl, cc)
-if-some false x y e = absurd (cc)
-
 -- ---- labels that are there
 
 -- Labels have numbers below this.
@@ -312,7 +305,7 @@ stands-behind-label labels count line names name named s now falls st =
     record {
       reached = either ∙ sym (some-if (is_some now || is_named named s.passed) (labels s.passed));
       typed = λ t e.
-          let c = if-some (is_some now || is_named named s.passed) (labels s.passed) t e in
+          let c = cond_some (is_some now || is_named named s.passed) (labels s.passed) t e in
           let left =
           λ (r : s.now.is_reached ≡ true). falls-in labels s.passed s.now.kind now falls
           (sym st.reached ∙ r) st.typed in
@@ -338,7 +331,7 @@ stands-behind-action labels count r t named s now is jumps range st =
     record {
       reached = goes ∙ sym (some-if (goes_on r) (type_after r t));
       typed = λ u e. subst (λ (v : Option ElementaryType). Becomes (type_after r s.now.kind) v)
-          (if-some (goes_on r) (type_after r t) u e).1 (after-under r s.now.kind t (st.typed t is));
+          (cond_some (goes_on r) (type_after r t) u e).1 (after-under r s.now.kind t (st.typed t is));
       brought = brings (target_of r) s.now named s.arrivals count reached range st.brought;
       under = brings-under labels (target_of r) s.now t named s.arrivals count reached
           (st.typed t is) jumps range st.brought st.under;
@@ -354,7 +347,7 @@ stands-behind-block labels count names line operator negated items end t named s
     record {
       reached = st.reached ∙ ap is_some is;
       typed = λ u e. subst (λ (v : Option ElementaryType). Becomes
-          (option_map (gives operator) s.now.kind) v) (some-is (option_map (gives operator) t) u e)
+          (option_map (gives operator) s.now.kind) v) (same_Some (option_map (gives operator) t) u e)
           (becomes-under (gives operator) s.now.kind t (st.typed t is));
       brought = st.brought;
       under = st.under;
@@ -680,7 +673,7 @@ within-case : (from line : ℕ) (other : List ℕ) (es : List text.Entry) (name 
     → m < (from + 1) + length (labels_from (from + 1) es))
     → n < from + suc (length (labels_from (from + 1) es))
 within-case from line other es name n true e more = let same : from ≡ n =
-    some-is from n e in omega arith
+    same_Some from n e in omega arith
 within-case from line other es name n false e more = let h = more n e in omega arith
 
 labels-within : (from : ℕ) (es : List text.Entry) (name : List ℕ) (n : ℕ)
@@ -702,7 +695,7 @@ begins : (points : List Point) (program : text.PlainProgram) (labels : Labelling
     → Stands labels (length (labels_from 0 program.items)) [] (initial_standing program) (Some None)
 begins points program labels = record {
   reached = refl;
-  typed = λ t e. inl (sym (some-is None t e));
+  typed = λ t e. inl (sym (same_Some None t e));
   brought =
       record {
         arrived = none-arrived (labels_from 0 program.items);

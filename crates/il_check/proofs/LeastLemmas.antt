@@ -1,5 +1,6 @@
 -- The fault that is answered is among the faults, and none of them comes before it.
 use Rattle.std.proofs.Common.{◌≡◌, ℕ, zero, suc, ◌<◌, ◌≤◌, ◌⊎◌, inl, inr, Bool, true, false, cond, ◌&&◌, ◌||◌, eqb, ltb, List, [], ◌∷◌, Some, refl, sym, ◌∙◌, subst, arith}
+use Rattle.std.proofs.lemmas.Option.{same_Some}
 use Rattle.std.specs.Prelude.{Contains, unwrap_or}
 use Rattle.std.proofs.lemmas.Bool.{cases_eq, cases_lt, eq-eqb, le-ltb, lt-ltb, ltb-false, ne_eqb}
 use Rattle.il_check.specs.Code.{code_of, line_of}
@@ -151,15 +152,12 @@ least_is f (g ∷ gs) =
     one-more f g gs (lesser f g) (least_of (lesser f g) gs) (lesser-is f g)
     (least_is (lesser f g) gs)
 
-some-same : (x y : CheckFault) → Some x ≡ Some y → x ≡ y
-some-same x y e = cc
-
 pub answered-is-least : (faults : List CheckFault) (f : CheckFault) → least_fault faults ≡ Some f
     → IsLeast f faults
 answered-is-least [] f e = absurd cc
 answered-is-least (g ∷ gs) f e =
     let l = least_is g gs in
-    subst (λ (x : CheckFault). IsLeast x (g ∷ gs)) (some-same (least_of g gs) f e) (record {
+    subst (λ (x : CheckFault). IsLeast x (g ∷ gs)) (same_Some (least_of g gs) f e) (record {
       among = elim l.among [
         | inl a
             ↦ subst (λ (x : CheckFault). Contains (g ∷ gs) x) (sym a) (in_front g gs)

@@ -1,5 +1,7 @@
 -- A name means its own place.
 use Rattle.std.proofs.Common.{◌≡◌, ℕ, zero, suc, ◌+◌, Bool, true, false, cond, ◌&&◌, ◌⊎◌, inl, inr, is_some, is_none, List, [], ◌∷◌, ◌++◌, length, slice_get, option_to_list, Option, None, Some, refl, ap, sym, subst, ◌∙◌, arith, append-nil, append_assoc}
+use Rattle.std.proofs.lemmas.Option.{same_Some}
+use Rattle.std.proofs.lemmas.Bool.{not-false}
 use Rattle.std.specs.Prelude.{Ok}
 use Rattle.std.specs.List.{cons_option, filter_map}
 use Rattle.std.specs.Str.{bytes_eq}
@@ -29,8 +31,7 @@ use Rattle.il_check.specs.declared.typed.Slot.TheVariants as slot
 use Rattle.il_check.specs.declared.typed.Timer.{Timer}
 use Rattle.il_check.specs.declared.typed.Variable.{Variable}
 use Rattle.il_check.proofs.DeclaredLemmas.{get-last, get-more, initial-is}
-use Rattle.il_check.proofs.FaultlessLemmas.{both-none, if-none, not-false}
-use Rattle.il_check.proofs.LabellingLemmas.{some-is}
+use Rattle.il_check.proofs.FaultlessLemmas.{both-none, if-none}
 use Rattle.il_check.proofs.NameLemmas.{looked_up-more}
 use Rattle.il_check.proofs.NotedLemmas.{least_fault-none}
 use Rattle.il_check.proofs.DeclarationsViewLemmas.{filter_map-more, meanings-more}
@@ -39,7 +40,7 @@ use Rattle.il_check.proofs.DeclarationsViewLemmas.{filter_map-more, meanings-mor
 
 get-old-or-last : {A : Type 0} (xs : List A) (x y : A) (n : ℕ) → slice_get (xs ++ x ∷ []) n ≡ Some y
     → (slice_get xs n ≡ Some y) ⊎ ((n ≡ length xs) × (x ≡ y))
-get-old-or-last [] x y zero e = inr (refl, some-is x y e)
+get-old-or-last [] x y zero e = inr (refl, same_Some x y e)
 get-old-or-last [] x y (suc n) e = absurd cc
 get-old-or-last (z ∷ xs) x y zero e = inl e
 get-old-or-last (z ∷ xs) x y (suc n) e =
@@ -215,7 +216,7 @@ new-found (Some z) b x e f = absurd cc
 either-way : {A : Type 0} (o : Option A) (b : Bool) (x y : A)
     → cond (is_some o) o (cond b (Some x) None) ≡ Some y → (o ≡ Some y) ⊎ ((b ≡ true) × (x ≡ y))
 either-way (Some z) b x y e = inl e
-either-way None true x y e = inr (refl, some-is x y e)
+either-way None true x y e = inr (refl, same_Some x y e)
 either-way None false x y e = absurd cc
 
 module _ (a b : Lists) (ms : List (List ℕ × Meaning)) (name : List ℕ) (m : Meaning)
@@ -331,7 +332,7 @@ owns-none points =
 
 label-case : (b : Bool) (here n : ℕ) (rest : Option ℕ) → cond b (Some here) rest ≡ Some n
     → ((b ≡ true) × (here ≡ n)) ⊎ (rest ≡ Some n)
-label-case true here n rest e = inl (refl, some-is here n e)
+label-case true here n rest e = inl (refl, same_Some here n e)
 label-case false here n rest e = inr e
 
 -- the label of a number stands as many labels behind the first
@@ -382,13 +383,13 @@ upper-external : (name : List ℕ) (kind : ElementaryType) (o : Option Point) (e
     → external_at name kind o ≡ Some e → upper e.name ≡ e.name
 upper-external name kind None e h = absurd cc
 upper-external name kind (Some p) e h =
-    subst (λ (x : External). upper x.name ≡ x.name) (some-is _ e h) (upper-upper name)
+    subst (λ (x : External). upper x.name ≡ x.name) (same_Some _ e h) (upper-upper name)
 
 upper-variable : (name : List ℕ) (o : Option Value) (v : Variable) → variable_at name o ≡ Some v
     → upper v.name ≡ v.name
 upper-variable name None v h = absurd cc
 upper-variable name (Some w) v h =
-    subst (λ (x : Variable). upper x.name ≡ x.name) (some-is _ v h) (upper-upper name)
+    subst (λ (x : Variable). upper x.name ≡ x.name) (same_Some _ v h) (upper-upper name)
 
 external-upper : (points : List Point) (d : text.Declared) (s : Scope) (k : DeclaredType)
     (e : External) → external_in points d s k ≡ Some e → upper e.name ≡ e.name
@@ -409,7 +410,7 @@ variable-upper d scope.External (type.Timer kind) v h = absurd cc
 timer-upper : (d : text.Declared) (k : DeclaredType) (t : Timer) → timer_in d k ≡ Some t
     → upper t.name ≡ t.name
 timer-upper d (type.Timer kind) t h =
-    subst (λ (x : Timer). upper x.name ≡ x.name) (some-is _ t h) (upper-upper d.name)
+    subst (λ (x : Timer). upper x.name ≡ x.name) (same_Some _ t h) (upper-upper d.name)
 timer-upper d (type.Elementary kind) t h = absurd cc
 
 -- what holds of all that is kept of a list
@@ -417,7 +418,7 @@ kept_case : {X Y : Type 0} (f : X → Option Y) (P : Y → Type 0) (x : X) (rest
     → ((z : Y) → f x ≡ Some z → P z) → ((n : ℕ) → slice_get rest n ≡ Some y → P y) → (o : Option Y)
     → f x ≡ o → (n : ℕ) → slice_get (cons_option o rest) n ≡ Some y → P y
 kept_case f P x rest y h more None is n e = more n e
-kept_case f P x rest y h more (Some z) is zero e = subst P (some-is z y e) (h z is)
+kept_case f P x rest y h more (Some z) is zero e = subst P (same_Some z y e) (h z is)
 kept_case f P x rest y h more (Some z) is (suc n) e = more n e
 
 kept_all : {X Y : Type 0} (f : X → Option Y) (P : Y → Type 0) (xs : List X)

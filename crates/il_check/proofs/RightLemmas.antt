@@ -1,5 +1,6 @@
 -- A program passes the checks exactly where it is right.
 use Rattle.std.proofs.Common.{◌≡◌, ℕ, Bool, true, false, not, cond, ◌&&◌, ◌||◌, ◌⊎◌, inl, inr, is_none, is_some, List, [], ◌∷◌, ◌++◌, Option, None, Some, refl, ap, sym, ◌∙◌, subst, append-nil, append_assoc}
+use Rattle.std.proofs.lemmas.Bool.{not-false}
 use Rattle.std.specs.Prelude.{◌↔◌, IsSome, Result, Ok, Err}
 use Rattle.std.specs.List.{list_any}
 use Rattle.std.specs.Str.{bytes_eq}
@@ -15,7 +16,7 @@ use Rattle.il_check.specs.RightProgram.{IsRightDeclaration, IsRightProgram}
 use Rattle.il_check.specs.WellTyped.{items_faults}
 use Rattle.il_check.specs.declared.fault.CheckFault.{CheckFault}
 use Rattle.il_check.specs.declared.fault.CheckFault.TheVariants.{OutOfMemory}
-use Rattle.il_check.proofs.FaultlessLemmas.{both-none, if-none, not-false}
+use Rattle.il_check.proofs.FaultlessLemmas.{both-none, if-none}
 use Rattle.il_check.proofs.LabellingLemmas.{some_labelling}
 use Rattle.il_check.proofs.LeastLemmas.{answered-is-least}
 use Rattle.il_check.proofs.NotedLemmas.{least_fault-none}

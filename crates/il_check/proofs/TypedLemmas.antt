@@ -2,7 +2,7 @@
 use Rattle.std.proofs.Common.{◌≡◌, ℕ, zero, suc, ◌+◌, ◌-◌, ◌<◌, ◌≤◌, max, Bool, true, cond, ◌||◌, inl, inr, List, [], ◌∷◌, length, Option, None, Some, Ok, option_map, refl, ap, sym, subst, ◌∙◌, arith}
 use Rattle.std.specs.Prelude.{◌==◌}
 use Rattle.std.specs.List.{cons_option}
-use Rattle.std.proofs.lemmas.Bool.{and_parts, cases_eq}
+use Rattle.std.proofs.lemmas.Bool.{and_parts, cases_eq, not-false}
 use Rattle.bay_base.specs.Exact.{unless_refused}
 use Rattle.bay_base.specs.Names.{upper}
 use Rattle.bay_base.specs.Types.{same_type}
@@ -29,7 +29,7 @@ use Rattle.il_check.specs.declared.typed.SimpleOperation.TheVariants as op
 use Rattle.il_check.specs.declared.typed.Transfer.{Transfer}
 use Rattle.il_check.proofs.DeclaredLemmas.{declares}
 use Rattle.il_check.proofs.GivenLemmas.{AreNamed, IsFound, found, named-from, operation-typed, operation-goes-on, left-same, transfer-typed, nothing-left}
-use Rattle.il_check.proofs.FaultlessLemmas.{both-none, not-false, or-true, no-zero, right-from, entry-reached, entry-from}
+use Rattle.il_check.proofs.FaultlessLemmas.{both-none, or-true, no-zero, right-from, entry-reached, entry-from}
 use Rattle.il_check.proofs.LabellingLemmas.{same-number, InRange, target-in, target-ahead, Brought, least, AreLeast, Exact, exact-now, exact-behind-label, exact-behind-action, exact-behind-block, least-behind-label, jumps-out, flows-from, first-labels, none-arrived, mapped-length}
 use Rattle.il_check.proofs.NotedLemmas.{least_fault-none}
 

@@ -1,5 +1,6 @@
 -- The code of operations and parentheses does what they mean.
 use Rattle.std.proofs.Common.{◌≡◌, ℕ, pos, ◌+◌, ◌<◌, ◌≤◌, ◌&&◌, Bool, true, false, not, List, [], ◌∷◌, length, Option, Some, None, option_map, refl, sym, ap, subst, ◌∙◌, arith}
+use Rattle.std.proofs.lemmas.Bool.{and_parts, and_left}
 use Rattle.std.specs.Prelude.{slice_get, slice_set}
 use Rattle.std.specs.Ordering.{int_eq}
 use Rattle.bay_base.specs.Options.{◌>>=◌}
@@ -40,17 +41,10 @@ Agrees (Some kind) result cell = (result ≡ Some cell) × (type_of cell ≡ kin
 abbrev pub holding : List Value → Memory → Core
 holding cells m = core cells (flat m) m.timers
 
-both-true : (a b : Bool) → a && b ≡ true → (a ≡ true) × (b ≡ true)
-both-true true b h = (refl, h)
-both-true false b h = absurd cc
-
 -- what is done with a value that is there
 pub bound : {A B : Type 0} (o : Option A) (x : A) (f : A → Option B) (y : B) → o ≡ Some x
     → f x ≡ Some y → o >>= f ≡ Some y
 bound {A = A} {B = B} o x f y e g = ap (λ (p : Option A). p >>= f) e ∙ g
-
-never : (a b : Bool) → a ≡ false → a && b ≡ false
-never a b h = ap (λ x. x && b) h
 
 module _ (c : Checked) (now : ℕ) where
   -- ---- operands
@@ -133,9 +127,9 @@ module _ (c : Checked) (now : ℕ) where
   stays o false kind v w h z e = let same : v ≡ w =
       cc in subst (λ x. rules.divides o && int_eq (number_of x) (pos 0) ≡ false) same z
   stays o true kind v w h z e =
-      let both = both-true (rules.takes o kind) (rules.may_negate true kind) h in
+      let both = and_parts (rules.takes o kind) (rules.may_negate true kind) h in
       let same = same-sense o in
-      never (rules.divides o) _
+      and_left (rules.divides o) _
       (same.divides ∙ numbers-alone (sense_of o)
       (sym (same.takes elementary.Bool) ∙ ap (rules.takes o) (sym (boolean-is kind both.1))
       ∙ both.0))
@@ -155,7 +149,7 @@ module _ (c : Checked) (now : ℕ) where
       → rules.works o negated kind ≡ true → rules.divides o && int_eq (number_of v) (pos 0) ≡ false
       → Joined o negated kind a v m cells
   operator-does o negated kind a v m cells ta tv h z =
-      let both_are = both-true (rules.takes o kind) (rules.may_negate negated kind) h in
+      let both_are = and_parts (rules.takes o kind) (rules.may_negate negated kind) h in
       let same = same-sense o in
       let t = turned negated v kind m (a ∷ cells) tv both_are.1 in
       let zero = stays o negated kind v t.value h z t.is in
@@ -446,7 +440,7 @@ module _ (c : Checked) (now : ℕ) where
         let g = entries-do es None (Some kind) (without_result s) (Truth false) (cell ∷ below) ok.0
         tt ty (omega arith) in
         let j = operator-does operator negated kind cell g.cell g.state.memory below a.1 g.agrees.1
-        ok.1 (never (rules.divides operator) _ ok.2) in
+        ok.1 (and_left (rules.divides operator) _ ok.2) in
         record {
           state = record { result = Some j.value; memory = g.state.memory };
           is = bound _ g.state _ _ g.is

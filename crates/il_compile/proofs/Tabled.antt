@@ -1,5 +1,6 @@
 -- The code of a well-typed program has a table of kinds, and writes what it may.
 use Rattle.std.proofs.Common.{◌≡◌, ℕ, ◌+◌, ◌⊎◌, inr, false, List, [], ◌∷◌, ◌++◌, length, Some, None, refl, sym, ap, subst, ◌∙◌, arith, append-nil}
+use Rattle.std.proofs.lemmas.Option.{same_Some}
 use Rattle.il_image.specs.Images.{Each, all_spelled}
 use Rattle.il_image.specs.Reading.{instr_at}
 use Rattle.il_image.specs.Spelling.{IsInstr, spelling}
@@ -29,9 +30,6 @@ each_at : {A : Type 0} (P : A → Type 0) (a : List A) (x : A) (b : List A) → 
     → P x
 each_at P [] x b h = h.0
 each_at P (y ∷ a) x b h = each_at P a x b h.1
-
-some-same : {A : Type 0} (x y : A) → Some x ≡ Some y → x ≡ y
-some-same x y e = cc
 
 whole : (c : Checked) → Each IsInstr (program_code c)
     → Stands (all_spelled (program_code c)) 0 (program_code c)
@@ -89,6 +87,6 @@ keeps-at c ok are place i next p e =
     let f = at-found (image_of c).code (program_code c) (whole c are) refl place a in
     let pair : Some (a.instr, place + length (spelling a.instr)) ≡ Some (i, next) = sym f ∙ e in
     let same : a.instr ≡ i =
-    ap (λ q. q.0) (some-same (a.instr, place + length (spelling a.instr)) (i, next) pair) in
+    ap (λ q. q.0) (same_Some (a.instr, place + length (spelling a.instr)) (i, next) pair) in
     subst (Keeps c) same (each_at (Keeps c) a.before a.instr a.behind
     (subst (Each (Keeps c)) a.is (all-keep c ok)))

@@ -1,5 +1,6 @@
 -- What operations, parentheses and calls make of the kinds on the stack.
 use Rattle.std.proofs.Common.{◌≡◌, ℕ, ◌+◌, ◌<◌, ◌≤◌, ◌&&◌, Bool, true, false, not, List, [], ◌∷◌, ◌++◌, length, Option, Some, None, refl, sym, ap, subst, ◌∙◌, arith}
+use Rattle.std.proofs.lemmas.Bool.{and_parts}
 use Rattle.std.specs.Prelude.{slice_get}
 use Rattle.bay_base.specs.declared.types.ElementaryType.{ElementaryType}
 use Rattle.bay_base.specs.declared.types.ElementaryType.TheVariants as elementary
@@ -33,10 +34,6 @@ use Rattle.il_compile.proofs.Values.{boolean-is, same-sense, sense_divides, sens
 abbrev pub Fits : Option ElementaryType → CellKind → Type 0
 Fits t top = is_within top (kind_at t) ≡ true
 
-both-true : (a b : Bool) → a && b ≡ true → (a ≡ true) × (b ≡ true)
-both-true true b h = (refl, h)
-both-true false b h = absurd cc
-
 -- what divides takes numbers
 numbers-alone : (x : Sense) (kind : ElementaryType) → sense_takes x kind ≡ true
     → sense_divides x ≡ true → rules.is_number kind ≡ true
@@ -48,7 +45,7 @@ numbers-divide : (o : Operator) (negated : Bool) (kind : ElementaryType)
     → rules.works o negated kind ≡ true → rules.divides o ≡ true → rules.is_number kind ≡ true
 numbers-divide o negated kind h d =
     let same = same-sense o in
-    let both = both-true (rules.takes o kind) (rules.may_negate negated kind) h in
+    let both = and_parts (rules.takes o kind) (rules.may_negate negated kind) h in
     numbers-alone (sense_of o) kind (sym (same.takes kind) ∙ both.0) (sym same.divides ∙ d)
 
 divisor-there : (d b : Bool) → d && not b ≡ false → d ≡ true → b ≡ true
@@ -88,7 +85,7 @@ module _ (c : Checked) where
       → Leaves (operator_code o kind negated) (v ∷ a ∷ below) below (Some (rules.gives o kind))
   operator-flows o false kind v a below h g works d room =
       let same = same-sense o in
-      let both = both-true (rules.takes o kind) (rules.may_negate false kind) works in
+      let both = and_parts (rules.takes o kind) (rules.may_negate false kind) works in
       let j = joined c (sense_of o) kind v a below (sym (same.takes kind) ∙ both.0) h g
       (λ e. d (same.divides ∙ e)) room in
       record {
@@ -98,7 +95,7 @@ module _ (c : Checked) where
       }
   operator-flows o true kind v a below h g works d room =
       let same = same-sense o in
-      let both = both-true (rules.takes o kind) (rules.may_negate true kind) works in
+      let both = and_parts (rules.takes o kind) (rules.may_negate true kind) works in
       let bool = boolean-is kind both.1 in
       let turned : is_within (Plain elementary.Bool) (Plain kind) ≡ true =
       subst (λ k. is_within (Plain elementary.Bool) (Plain k) ≡ true) (sym bool) refl in

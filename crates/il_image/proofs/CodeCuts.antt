@@ -1,5 +1,6 @@
 -- Code that is cut short: others complete it, or it ends in an instruction that has no room.
 use Rattle.std.proofs.Common.{◌≡◌, ℕ, zero, suc, ◌+◌, ◌-◌, ◌^◌, ◌<◌, ◌≤◌, Bool, true, false, cond, eqb, List, [], ◌∷◌, ◌++◌, length, take, drop, Option, Some, None, refl, sym, subst, ap, ◌∙◌, arith, append-nil, inl, inr}
+use Rattle.std.proofs.lemmas.Option.{same_Some}
 use Rattle.std.specs.Prelude.{Ok, Err, Result, ◌⊎◌}
 use Rattle.std.specs.Int.{from_be_bytes, w16}
 use Rattle.std.proofs.lemmas.Bool.{cases_eq, cases_lt, eq-eqb}
@@ -49,9 +50,6 @@ record InCode (version : Version) (octets : List ℕ) : Type 0 where
   pub on : (more : List ℕ) → code_fault version (length (cut ++ more)) (cut ++ more) ≡ None
       → code_fault version (length (octets ++ more)) (octets ++ more) ≡ None
 
-some-fault : (e f : ImageFault) → Some e ≡ Some f → e ≡ f
-some-fault e f h = cc
-
 code-cut : (version : Version) (n : ℕ) (octets : List ℕ) → length octets ≤ n → AreOctets octets
     → code_fault version n octets ≡ Some Truncated → InCode version octets
 code-cut version zero octets le fits e = absurd cc
@@ -70,7 +68,7 @@ code-cut version (suc n) (x ∷ octets) le fits e =
       parts = refl;
       whole = refl;
       some = omega arith;
-      short = is ∙ ap (λ (g : ImageFault). Err g) (some-fault f Truncated e);
+      short = is ∙ ap (λ (g : ImageFault). Err g) (same_Some f Truncated e);
       on = λ more h. h;
     }
     go on (Ok (i, rest)) is e =

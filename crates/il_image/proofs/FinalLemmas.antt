@@ -1,6 +1,7 @@
 -- What has to end where it ends: of octets it says the same whatever follows them, or wants more of
 -- them, or is whole and has others behind it.
 use Rattle.std.proofs.Common.{◌≡◌, ℕ, zero, suc, ◌<◌, ◌≤◌, Bool, true, false, cond, eqb, List, [], ◌∷◌, ◌++◌, length, take, drop, get_or, Option, Some, None, refl, sym, subst, ap, ◌∙◌, arith, append-nil, inl, inr}
+use Rattle.std.proofs.lemmas.Option.{same_Some}
 use Rattle.std.specs.Prelude.{Ok, Err, Result, ◌⊎◌}
 use Rattle.std.proofs.lemmas.Bool.{eqb-true, ne_eqb}
 use Rattle.std.proofs.lemmas.List.{length-append, take-append-drop, take-append-le}
@@ -60,9 +61,6 @@ final-map {A} {B} f h s octets more some = go (f octets) refl
 
 -- ---- the code
 
-fault-same : (e f : ImageFault) → Some e ≡ Some f → e ≡ f
-fault-same e f h = cc
-
 -- a fault of code stays, unless it wants more octets
 fault-on : (version : Version) (n k : ℕ) (octets more : List ℕ) (e : ImageFault)
     → (e ≡ Truncated → ⊥)
@@ -76,7 +74,7 @@ fault-on version n k octets more e ne on (Ok (i, rest)) is f =
     rw (ok-is (sound-instr version) octets more i rest is)
     (on rest (less version octets i rest is) f)
 fault-on version n k octets more e ne on (Err g) is f =
-    let same : g ≡ e = fault-same g e f in
+    let same : g ≡ e = same_Some g e f in
     rw (err-is (sound-instr version) octets more g is (λ h. ne (sym same ∙ h))) f
 
 -- a fault of code stays, unless it wants more octets

@@ -1,5 +1,6 @@
 -- Instructions at places of the code.
 use Rattle.std.proofs.Common.{◌≡◌, ℕ, ◌+◌, ◌-◌, ◌<◌, ◌≤◌, List, ◌++◌, length, take, drop, Option, Some, None, refl, subst, sym, ap, ◌∙◌, arith}
+use Rattle.std.proofs.lemmas.Option.{same_Some}
 use Rattle.std.specs.Prelude.{Ok, Err, IfSome, ◌↔◌}
 use Rattle.std.proofs.lemmas.List.{length-append, length-drop}
 use Rattle.std.proofs.Math.Seq.{drop-append_seam, drop-drop, take-length}
@@ -19,15 +20,12 @@ pub record Placed (code : List ℕ) (place : ℕ) (i : Instr) (next : ℕ) : Typ
   pub read : instr_from Two (drop place code) ≡ Ok (i, rest)
   pub is : next ≡ length code - length rest
 
-some-same : {A : Type 0} (x y : A) → Some x ≡ Some y → x ≡ y
-some-same x y e = cc
-
 placed-is : (size : ℕ) (r : Read Instr) (i : Instr) (next : ℕ)
     → with_next_place size r ≡ Some (i, next)
     → (rest : List ℕ) × (r ≡ Ok (i, rest)) × (next ≡ size - length rest)
 placed-is size (Err e) i next h = absurd cc
 placed-is size (Ok r) i next h =
-    let pair = some-same (r.0, size - length r.1) (i, next) h in
+    let pair = same_Some (r.0, size - length r.1) (i, next) h in
     let first : r.0 ≡ i = ap (λ q. q.0) pair in
     let second : size - length r.1 ≡ next = ap (λ q. q.1) pair in
     (r.1, ap (λ (j : Instr). Ok (j, r.1)) first, sym second)

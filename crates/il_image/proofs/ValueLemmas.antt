@@ -1,5 +1,6 @@
 -- Values and the numbers that they have.
 use Rattle.std.proofs.Common.{◌≡◌, ℕ, ◌^◌, ◌<◌, ◌≤◌, ℤ, pos, negsuc, FitsSigned, Bool, true, false, cond, eqb, leb, Some, None, refl, subst, sym, ap, arith}
+use Rattle.std.proofs.lemmas.Option.{cond_some}
 use Rattle.std.specs.Prelude.{IsSome}
 use Rattle.std.specs.Int.{Width as Bits, w16, w32, w64}
 use Rattle.std.proofs.lemmas.Bool.{leb-true, and_parts, eqb-true}
@@ -16,10 +17,6 @@ use Rattle.il_image.specs.Values.{type_of, number_of, value_of, default_value, s
 some-if : {A : Type 0} (b : Bool) (x : A) → IsSome (cond b (Some x) None) → b ≡ true
 some-if true x h = refl
 some-if false x h = h
-
-same-if : {A : Type 0} (b : Bool) (x y : A) → cond b (Some x) None ≡ Some y → (b ≡ true) × (x ≡ y)
-same-if true x y h = (refl, cc)
-same-if false x y h = absurd cc
 
 fits_between : (w : Bits) (m : ℕ) (z : ℤ) → m < 2 ^ hbits w → is_between (negsuc m) (pos m) z ≡ true
     → FitsSigned w z
@@ -52,7 +49,7 @@ truth-is n false false v e f h = absurd cc
 
 span-is : (n : ℕ) (v : Value) → span_of (pos n) ≡ Some v → IsOf elementary.Time (pos n) v
 span-is n v h =
-    let e = same-if (is_between (pos 0) (pos 0x7FFF_FFFF) (pos n)) (Span n) v h in
+    let e = cond_some (is_between (pos 0) (pos 0x7FFF_FFFF) (pos n)) (Span n) v h in
     let small : n ≤ 0x7FFF_FFFF =
     leb-true n 0x7FFF_FFFF (and_parts (leb 0 n) (leb n 0x7FFF_FFFF) e.0).1 in
     subst (IsOf elementary.Time (pos n)) e.1
@@ -62,11 +59,11 @@ pub value_is : (t : ElementaryType) (z : ℤ) (v : Value) → value_of t z ≡ S
 value_is elementary.Bool (pos n) v h = truth-is n (eqb n 0) (eqb n 1) v refl refl h
 value_is elementary.Bool (negsuc n) v h = absurd cc
 value_is elementary.Int z v h =
-    let e = same-if (is_between (negsuc 0x7FFF) (pos 0x7FFF) z) (Short z) v h in
+    let e = cond_some (is_between (negsuc 0x7FFF) (pos 0x7FFF) z) (Short z) v h in
     subst (IsOf elementary.Int z) e.1
     (record { type = refl; number = refl; fits = fits_between w16 0x7FFF z (omega arith) e.0 })
 value_is elementary.Dint z v h =
-    let e = same-if (is_between (negsuc 0x7FFF_FFFF) (pos 0x7FFF_FFFF) z) (Long z) v h in
+    let e = cond_some (is_between (negsuc 0x7FFF_FFFF) (pos 0x7FFF_FFFF) z) (Long z) v h in
     subst (IsOf elementary.Dint z) e.1
     (record {
       type = refl;
@@ -74,7 +71,7 @@ value_is elementary.Dint z v h =
       fits = fits_between w32 0x7FFF_FFFF z (omega arith) e.0;
     })
 value_is elementary.Lint z v h =
-    let e = same-if (is_between (negsuc 0x7FFF_FFFF_FFFF_FFFF) (pos 0x7FFF_FFFF_FFFF_FFFF) z)
+    let e = cond_some (is_between (negsuc 0x7FFF_FFFF_FFFF_FFFF) (pos 0x7FFF_FFFF_FFFF_FFFF) z)
     (Wide z) v h in
     subst (IsOf elementary.Lint z) e.1
     (record {

@@ -34,14 +34,15 @@ pub enum SlotUse {
     ResetIf,
 }
 
-/// A conversion of an integer type to the next wider one.
+/// A conversion of an integer type to the next wider one, as the machine has it. What a text says is
+/// il_text's `Conversion`: neither crate stands on the other.
 #[derive(Clone, Copy, PartialEq, Eq)]
 pub enum Widening {
     IntToDint,
     DintToLint,
 }
 
-/// When a jump is taken.
+/// When a jump of the machine is taken. What a text says is il_text's `Condition`.
 #[derive(Clone, Copy, PartialEq, Eq)]
 pub enum When {
     Always,

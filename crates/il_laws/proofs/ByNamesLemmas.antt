@@ -1,5 +1,7 @@
 -- What is read and written where a name says so is what maps from names have for it.
 use Rattle.std.proofs.Common.{◌≡◌, ℕ, zero, suc, Bool, true, false, cond, List, [], ◌∷◌, map, slice_get, Some, Ok, refl, sym, ap, ◌∙◌}
+use Rattle.std.proofs.lemmas.Option.{same_Some}
+use Rattle.std.proofs.lemmas.Bool.{false_from_ne_true}
 use Rattle.std.specs.Prelude.{slice_set}
 use Rattle.std.specs.Str.{bytes_eq}
 use Rattle.std.proofs.lemmas.Slice.Eq.{bytes_eq-Decides}
@@ -62,20 +64,13 @@ changed-here : {A : Type 0} (name : List ℕ) (x : A) (values : List ℕ → A) 
 changed-here {A} name x values other e =
     ap (λ (b : Bool). cond b x (values other)) ((bytes_eq-Decides name other).1 (sym e))
 
-not-true : (b : Bool) → (b ≡ true → ⊥) → b ≡ false
-not-true true h = absurd (h refl)
-not-true false h = refl
-
 changed-elsewhere : {A : Type 0} (name : List ℕ) (x : A) (values : List ℕ → A) (other : List ℕ)
     → (other ≡ name → ⊥) → values other ≡ changed_at name x values other
 changed-elsewhere {A} name x values other ne =
     ap (λ (b : Bool). cond b x (values other))
-    (sym (not-true (bytes_eq name other) (λ yes. ne (sym ((bytes_eq-Decides name other).0 yes)))))
+    (sym (false_from_ne_true (bytes_eq name other) (λ yes. ne (sym ((bytes_eq-Decides name other).0 yes)))))
 
 -- ---- a program's names
-
-some-same : (a b : Meaning) → Some a ≡ Some b → a ≡ b
-some-same a b e = cc
 
 module _ (points : List Point) (program : text.PlainProgram) (c : Checked)
     (o : MeanOwnPlaces (names_in points program) c program.items) (name : List ℕ) where
@@ -88,7 +83,7 @@ module _ (points : List Point) (program : text.PlainProgram) (c : Checked)
   one-meaning : (other : List ℕ) (m n : Meaning) → (names_in points program).meaning name ≡ Some m
       → (names_in points program).meaning other ≡ Some n → other ≡ upper name → n ≡ m
   one-meaning other m n e f same =
-      some-same n m (sym f ∙ ap (names_in points program).meaning same ∙ in-upper m e)
+      same_Some n m (sym f ∙ ap (names_in points program).meaning same ∙ in-upper m e)
 
   module _ (values : List ℕ → Value) (timers : List ℕ → TimerState) where
     memory-same : (es fs vs ws : List Value) (ts us : List TimerState) → es ≡ fs → vs ≡ ws → ts ≡ us

@@ -1,11 +1,12 @@
 -- The image of a checked program fits the points that it was checked with, and its code writes what
 -- it may.
 use Rattle.std.proofs.Common.{◌≡◌, ℕ, zero, suc, ◌+◌, ◌<◌, ◌≤◌, ◌&&◌, ◌||◌, Bool, true, false, not, cond, nat_le, if◌then◌else◌, List, [], ◌∷◌, ◌++◌, length, map, Option, Some, None, Result, Ok, Err, refl, sym, ap, subst, ◌∙◌, arith}
+use Rattle.std.proofs.lemmas.Option.{same_Some}
 use Rattle.std.specs.Prelude.{find, slice_get}
 use Rattle.std.specs.Bool.{beq}
 use Rattle.std.specs.List.{cons_option, list_any}
 use Rattle.std.specs.Str.{bytes_eq}
-use Rattle.std.proofs.lemmas.Bool.{leb-true, le-leb}
+use Rattle.std.proofs.lemmas.Bool.{leb-true, le-leb, false_from_ne_true, and_from, or_right, or_from, not-false}
 use Rattle.std.proofs.lemmas.List.{length-map}
 use Rattle.std.proofs.lemmas.Slice.Eq.{bytes_eq-Decides}
 use Rattle.bay_base.specs.Exact.{unless_refused}
@@ -50,22 +51,6 @@ use Rattle.il_compile.proofs.Spellable.{program-are}
 use Rattle.il_compile.proofs.Tabled.{has-table, keeps-at}
 use Rattle.il_compile.proofs.TabledSteps.{Keeps, writable}
 
-not-true : (b : Bool) → (b ≡ true → ⊥) → b ≡ false
-not-true true h = absurd (h refl)
-not-true false h = refl
-
-both : (a b : Bool) → a ≡ true → b ≡ true → a && b ≡ true
-both true b e f = f
-both false b e f = absurd cc
-
-either : (a b : Bool) → b ≡ true → a || b ≡ true
-either true b e = refl
-either false b e = e
-
-neither : (a b : Bool) → a ≡ false → b ≡ false → a || b ≡ false
-neither true b e f = absurd cc
-neither false b e f = f
-
 clash : (b : Bool) → b ≡ true → b ≡ false → ⊥
 clash b e f = absurd cc
 
@@ -75,15 +60,12 @@ clash b e f = absurd cc
 abbrev IsBound : List Point → External → Type 0
 IsBound points e = list_any (λ b. is_point (point_of e) b) points ≡ true
 
-some-same : {A : Type 0} (x y : A) → Some x ≡ Some y → x ≡ y
-some-same x y e = cc
-
 found-holds : (test : Point → Bool) (points : List Point) (p : Point) → find test points ≡ Some p
     → test p ≡ true
 found-holds test [] p e = absurd cc
 found-holds test (q ∷ points) p e =
     elim (test q) as (λ b. test q ≡ b → cond b (Some q) (find test points) ≡ Some p → test p ≡ true) [
-      | true ↦ (λ t g. (let same : q ≡ p = some-same q p g in subst (λ x. test x ≡ true) same t))
+      | true ↦ (λ t g. (let same : q ≡ p = same_Some q p g in subst (λ x. test x ≡ true) same t))
       | false ↦ (λ t g. found-holds test points p g)
     ] refl e
 
@@ -94,9 +76,9 @@ found-any test other (q ∷ points) p e h =
     elim (test q) as (λ b. cond b (Some q) (find test points) ≡ Some p
     → other q || list_any other points ≡ true) [
       | true ↦
-          (λ g. (let same : q ≡ p = some-same q p g in
+          (λ g. (let same : q ≡ p = same_Some q p g in
           ap (λ b. b || list_any other points) (ap other same ∙ h)))
-      | false ↦ (λ g. either (other q) (list_any other points) (found-any test other points p g h))
+      | false ↦ (λ g. or_right (other q) (list_any other points) (found-any test other points p g h))
     ] e
 
 equal-self : (b : Bool) → beq b b ≡ true
@@ -140,9 +122,9 @@ bound-at points name kind (Some p) es e t rest =
           (λ b. is_point (point_of
           (record { name = upper name; kind = kind; writable = p.writable; source = p.source })) b)
           points p e
-          (both (same_name (upper name) p.name) (same_type kind p.kind && beq p.writable p.writable)
+          (and_from (same_name (upper name) p.name) (same_type kind p.kind && beq p.writable p.writable)
           named
-          (both (same_type kind p.kind) (beq p.writable p.writable) typed (equal-self p.writable))),
+          (and_from (same_type kind p.kind) (beq p.writable p.writable) typed (equal-self p.writable))),
       rest,
     )
 
@@ -160,10 +142,6 @@ no_fault : (test : Bool) (f : CheckFault) → fault_if test f ≡ [] → test �
 no_fault true f none = absurd cc
 no_fault false f none = refl
 
-not-not : (b : Bool) → not b ≡ false → b ≡ true
-not-not true e = refl
-not-not false e = absurd cc
-
 all-bound : (points : List Point) (before ds : List text.Declared)
     → declarations_faults points before ds ≡ [] → Each (IsBound points) (externals_of points ds)
 all-bound points before [] none = tt
@@ -172,7 +150,7 @@ all-bound points before (d ∷ ds) none =
     append-none (declaration_faults points before d)
     (declarations_faults points (before ++ d ∷ []) ds) none in
     let typed : is_typed d.scope d.kind (declared_point points d.name) d.initial ≡ true =
-    not-not _ (no_fault _ _ (append-none _ _ (append-none _ _ (append-none _ _ two.0).1).1).0) in
+    not-false _ (no_fault _ _ (append-none _ _ (append-none _ _ (append-none _ _ two.0).1).1).0) in
     bound-in points d d.scope d.kind d.initial (externals_of points ds) typed
     (all-bound points (before ++ d ∷ []) ds two.1)
 
@@ -184,8 +162,8 @@ none-alike : (name : List ℕ) (es : List External) (ns : List (List ℕ))
     → list_any (λ q. bytes_eq q.name name) (map point_of es) ≡ false
 none-alike name [] ns h = refl
 none-alike name (e ∷ es) ns h =
-    neither (bytes_eq e.name name) (list_any (λ q. bytes_eq q.name name) (map point_of es))
-    (not-true (bytes_eq e.name name) (λ t.
+    or_from (bytes_eq e.name name) (list_any (λ q. bytes_eq q.name name) (map point_of es))
+    (false_from_ne_true (bytes_eq e.name name) (λ t.
     (let same : e.name ≡ name = (bytes_eq-Decides e.name name).0 t in
     let first : same_name name e.name ≡ false = h 0 (omega arith) in
     clash (same_name name name) (same-self-name name)
@@ -202,10 +180,10 @@ points-fit points [] ns h apart = refl
 points-fit points (e ∷ es) ns h apart =
     let alone : list_any (λ q. bytes_eq q.name e.name) (map point_of es) ≡ false =
     none-alike e.name es ns (λ j lt. apart 0 (suc j) (omega arith) (omega arith)) in
-    both (list_any (λ b. is_point (point_of e) b) points
+    and_from (list_any (λ b. is_point (point_of e) b) points
     && not (list_any (λ q. bytes_eq q.name e.name) (map point_of es)))
     (are_points points (map point_of es))
-    (both (list_any (λ b. is_point (point_of e) b) points)
+    (and_from (list_any (λ b. is_point (point_of e) b) points)
     (not (list_any (λ q. bytes_eq q.name e.name) (map point_of es))) h.0 (ap not alone))
     (points-fit points es ns h.1 (apart-rest e.name (map (λ x. x.name) es ++ ns) apart))
 
@@ -227,10 +205,10 @@ image-fits points c ok h =
     let a = length-map c.externals point_of in
     let b = length-map c.variables (λ v. v.initial) in
     let d = length-map c.timers (λ x. x.kind) in
-    both (nat_le (length (map point_of c.externals) + length (map (λ v. v.initial) c.variables)) 512
+    and_from (nat_le (length (map point_of c.externals) + length (map (λ v. v.initial) c.variables)) 512
     && nat_le (length (map (λ x. x.kind) c.timers)) 64)
     (are_points points (map point_of c.externals))
-    (both (nat_le (length (map point_of c.externals) + length (map (λ v. v.initial) c.variables))
+    (and_from (nat_le (length (map point_of c.externals) + length (map (λ v. v.initial) c.variables))
     512) (nat_le (length (map (λ x. x.kind) c.timers)) 64)
     (le-leb (length (map point_of c.externals) + length (map (λ v. v.initial) c.variables)) 512
     (omega arith)) (le-leb (length (map (λ x. x.kind) c.timers)) 64 (omega arith))) h
@@ -263,7 +241,7 @@ not-fixed : (es : List External) (vs : List Variable) (n : ℕ)
 not-fixed [] [] n h = refl
 not-fixed [] (v ∷ vs) zero h = refl
 not-fixed [] (v ∷ vs) (suc n) h = not-fixed [] vs n h
-not-fixed (e ∷ es) vs zero h = (let w : e.writable ≡ true = some-same e.writable true h in ap not w)
+not-fixed (e ∷ es) vs zero h = (let w : e.writable ≡ true = same_Some e.writable true h in ap not w)
 not-fixed (e ∷ es) vs (suc n) h = not-fixed es vs n h
 
 module _ (c : Checked) where

@@ -1,7 +1,7 @@
 -- An instruction is right by the checks' rules exactly where it is by the language's tables.
 use Rattle.std.proofs.Common.{◌≡◌, ◌↔◌, ℕ, ◌≤◌, ℤ, pos, negsuc, Bool as Truth, true, false, not, cond, ltb, ◌&&◌, ◌||◌, is_some, List, [], ◌∷◌, Option, Some, None, option_map, refl, sym, ap, subst, ◌∙◌, arith}
 use Rattle.std.specs.Prelude.{◌==◌}
-use Rattle.std.proofs.lemmas.Bool.{and_parts, eq-eqb, eqb-true}
+use Rattle.std.proofs.lemmas.Bool.{and_parts, eq-eqb, eqb-true, not-false}
 use Rattle.std.proofs.lemmas.Bool.Decides.{nat_tests}
 use Rattle.bay_base.specs.Types.{same_type}
 use Rattle.bay_base.specs.declared.types.ElementaryType.{ElementaryType}
@@ -31,7 +31,6 @@ use Rattle.il_check.specs.declared.given.Meaning.{Meaning}
 use Rattle.il_check.specs.declared.given.Meaning.TheVariants as meaning
 use Rattle.il_check.specs.declared.given.Resolved.{Resolved}
 use Rattle.il_check.specs.declared.given.Resolved.TheVariants as resolved
-use Rattle.il_check.proofs.FaultlessLemmas.{not-false}
 use Rattle.il_check.proofs.GivenLemmas.{allows-any}
 use Rattle.il_laws.specs.Instructions.{AreGiven, CanHave, Combines, DoesNotDivide, IsDivisor, IsLiteralOf, IsLoaded, IsNotZero, IsRightAction, IsRightBlock, IsTimer, IsWritable, MayDivide, MayWrite, place_kind, timer_output, variable_kind}
 use Rattle.il_laws.specs.Table.{IsFirstFit, MayNegate, Stores, Tests, input_kind, output_kind, wider_type}

@@ -1,5 +1,6 @@
 -- Sums and differences of numbers in ranges.
 use Rattle.std.proofs.Common.{◌≡◌, ℤ, pos, negsuc, ◌+ℤ◌, ◌-ℤ◌, Bool, true, false, cond, refl, sym, subst, arith, FitsSigned, Option, Some, None}
+use Rattle.std.proofs.lemmas.Bool.{and_left, and_right}
 use Rattle.std.specs.Prelude.{◌≤ℤ◌, ◌&&◌, SomeIff}
 use Rattle.std.specs.Int.{w64}
 use Rattle.std.proofs.lemmas.Grind.{common_steps}
@@ -94,13 +95,6 @@ out-of w z no_fit = go (fits_in w z) refl
     go false e = refl
     go true e = absurd (no_fit (wide w z (fit-bounds w z e)))
 
-none-left : (b c : Bool) → b ≡ false → (b && c) ≡ false
-none-left b c e = grind (arith, common_steps)
-
-none-right : (b c : Bool) → c ≡ false → (b && c) ≡ false
-none-right true c e = e
-none-right false c e = refl
-
 unwrapped : (b c : Bool) (w : Width) (low high : ℤ) → (b && c) ≡ false
     → all_of w ≡ cond (b && c) (Between low high) (all_of w)
 unwrapped b c w low high e = grind (arith, common_steps)
@@ -111,7 +105,7 @@ wrapped-by w (Some a) (Some b) x y h k =
     let left : a ≡ x = h.1 in let right : b ≡ y = k.1 in cc
 wrapped-by w (Some a) None x y h k =
     unwrapped (fits_in w x) (fits_in w y) w x y
-    (none-right (fits_in w x) (fits_in w y) (out-of w y k))
+    (and_right (fits_in w x) (fits_in w y) (out-of w y k))
 wrapped-by w None high x y h k =
     unwrapped (fits_in w x) (fits_in w y) w x y
-    (none-left (fits_in w x) (fits_in w y) (out-of w x h))
+    (and_left (fits_in w x) (fits_in w y) (out-of w x h))

@@ -1,5 +1,6 @@
 -- The values that a range stands for, under what is done with one value or two.
 use Rattle.std.proofs.Common.{◌≡◌, ℤ, pos, Bool, true, false, refl, ap, subst, arith, Option, Some, None}
+use Rattle.std.proofs.lemmas.Bool.{and_parts}
 use Rattle.std.specs.Prelude.{◌≤ℤ◌, ◌<ℤ◌, ◌&&◌, ◌||◌, not, int_lt, int_le}
 use Rattle.std.specs.Ordering.{int_eq}
 use Rattle.std.proofs.lemmas.Int.{ints}
@@ -233,15 +234,10 @@ eq-false a b ne = go (int_eq a b) (Decides-int_eq a b).0
     go true h = absurd (ne (h refl))
     go false h = refl
 
-both-true : (s t : Bool) → (s && t) ≡ true → (s ≡ true) × (t ≡ true)
-both-true true true e = (refl, refl)
-both-true true false e = absurd (cc)
-both-true false t e = absurd (cc)
-
 equal : (v u : Value) (r s : Range) → IsIn v r → IsIn u s
     → (surely_le r s && surely_le s r) ≡ true → int_eq (number_of v) (number_of u) ≡ true
 equal v u r s h k e =
-    let t = both-true (surely_le r s) (surely_le s r) e in
+    let t = and_parts (surely_le r s) (surely_le s r) e in
     eq-true (number_of v) (number_of u) (is-le v u r s h k t.0) (is-le u v s r k h t.1)
 
 unequal : (v u : Value) (r s : Range) → IsIn v r → IsIn u s

@@ -2,7 +2,7 @@
 use Rattle.std.proofs.Common.{◌≡◌, ℕ, zero, suc, ◌<◌, ◌≤◌, Bool, true, false, cond, List, [], ◌∷◌, length, refl, sym, ap, subst, ◌∙◌, arith, Option, Some, None}
 use Rattle.std.specs.Prelude.{slice_get, slice_set}
 use Rattle.std.proofs.lemmas.List.{length-map}
-use Rattle.std.proofs.lemmas.Option.{slice_get-get_or}
+use Rattle.std.proofs.lemmas.Option.{slice_get-get_or, same_Some}
 use Rattle.bay_base.specs.declared.types.ElementaryType.{ElementaryType}
 use Rattle.il_image.specs.declared.kind.CellKind.{CellKind}
 use Rattle.il_image.specs.declared.timer.TimerPhase.{TimerPhase}
@@ -17,7 +17,6 @@ use Rattle.il_image.specs.Machine.{Turn, Traps, MissingSlot, MissingTimer}
 use Rattle.il_image.specs.Timers.{after_call, elapsed_of, first_state, phase_after}
 use Rattle.il_image.specs.Values.{number_of, type_of}
 use Rattle.il_image.proofs.KindLemmas.{kind-above}
-use Rattle.il_verify.proofs.EffectLemmas.{some-same}
 use Rattle.il_scan.specs.Standing.{Fit, IsTimer}
 use Rattle.il_scan.specs.Words.{AreTyped, slot_at, words_of}
 use Rattle.il_scan.specs.Working.{timer_at}
@@ -49,7 +48,7 @@ on-top wanted (k ∷ kinds) rest P e does (v ∷ others) fit = go (is_within k w
         → P (v ∷ others)
     go true f g =
         does v others (kind-above v k wanted f fit.0.0) fit.0.1
-        (subst (Fit others) (some-same kinds rest g) fit.1) fit
+        (subst (Fit others) (same_Some kinds rest g) fit.1) fit
     go false f g = absurd cc
 
 -- ---- slots
@@ -71,7 +70,7 @@ slot-there (s ∷ types) (v ∷ slots) zero t e typed =
     record {
       value = v;
       get = refl;
-      type = typed.0.0 ∙ some-same s t e;
+      type = typed.0.0 ∙ same_Some s t e;
       is_value = typed.0.1;
       word = refl;
       below = omega arith;
@@ -94,7 +93,7 @@ pub slot-set : (types : List ElementaryType) (slots : List Value) (n : ℕ) (t :
 slot-set [] slots n t v e typed is value = absurd cc
 slot-set (s ∷ types) [] n t v e typed is value = absurd typed
 slot-set (s ∷ types) (u ∷ slots) zero t v e typed is value =
-    ((is ∙ sym (some-same s t e), value), typed.1)
+    ((is ∙ sym (same_Some s t e), value), typed.1)
 slot-set (s ∷ types) (u ∷ slots) (suc n) t v e typed is value =
     (typed.0, slot-set types slots n t v e typed.1 is value)
 

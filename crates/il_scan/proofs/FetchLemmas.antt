@@ -1,5 +1,6 @@
 -- The instruction at a place, by the parts in which it is read.
 use Rattle.std.proofs.Common.{◌≡◌, ℕ, suc, false, ltb, ◌+◌, ◌-◌, ◌<◌, ◌≤◌, List, [], ◌∷◌, ◌++◌, length, drop, get_or, refl, sym, ap, ◌∙◌, arith, ℤ, Option, Some, None}
+use Rattle.std.proofs.lemmas.Option.{same_Some}
 use Rattle.std.specs.Prelude.{IsOk, IsSome, Result, Ok, Err}
 use Rattle.std.specs.Int.{w16, cast_signed, from_be_bytes}
 use Rattle.std.proofs.lemmas.Bool.{le-ltb}
@@ -17,7 +18,7 @@ use Rattle.il_image.specs.Spelling.{opcode_of_instr, operand_of}
 use Rattle.il_image.proofs.InstrLemmas.{back-instr, opcode-back}
 use Rattle.il_image.proofs.PlaceLemmas.{stands}
 use Rattle.il_image.proofs.ReadLemmas.{ok-same}
-use Rattle.il_verify.proofs.EffectLemmas.{not-both, some-same}
+use Rattle.il_verify.proofs.EffectLemmas.{not-both}
 use Rattle.il_verify.proofs.SizeLemmas.{opcode-there}
 
 there : {A : Type 0} (o : Option A) → IsSome o → (x : A) × (o ≡ Some x)
@@ -127,7 +128,7 @@ module _ (code : List ℕ) (place : ℕ) (fits : AreOctets code) (h : IsSome (in
     module _ (o : Opcode) (is : opcode_of (get_or code place 0) ≡ Some o) where
       same-opcode : opcode_of_instr (found code place fits h).0 ≡ o
       same-opcode = let f =
-          found code place fits h in some-same (opcode_of_instr f.0) o (sym f.2.opcode ∙ is)
+          found code place fits h in same_Some (opcode_of_instr f.0) o (sym f.2.opcode ∙ is)
 
       operand-there : operand_from Two o (drop (place + 1) code)
           ≡ Ok ((found code place fits h).0, drop (found code place fits h).1 code)

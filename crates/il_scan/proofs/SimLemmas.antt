@@ -1,6 +1,7 @@
 -- An instruction that is allowed on the kinds before it does to words what the machine of typed
 -- values does to the values that they stand for.
 use Rattle.std.proofs.Common.{◌≡◌, ℕ, ◌<◌, ◌≤◌, ℤ, pos, Bool, true, false, cond, ◌&&◌, List, [], ◌∷◌, length, refl, sym, ap, subst, ◌∙◌, arith, Option, Some, None}
+use Rattle.std.proofs.lemmas.Option.{cond_some, same_Some}
 use Rattle.std.specs.Prelude.{slice_get, nat_lt}
 use Rattle.std.specs.Ordering.{int_eq}
 use Rattle.std.proofs.lemmas.Bool.{ltb-true}
@@ -34,7 +35,7 @@ use Rattle.il_image.specs.Machine.{divides, value_of_width}
 use Rattle.il_image.specs.Spelling.{IsInstr}
 use Rattle.il_image.specs.Values.{number_of, type_of}
 use Rattle.il_image.proofs.KindLemmas.{kind-above, same-is}
-use Rattle.il_verify.proofs.EffectLemmas.{some-same, bind-some}
+use Rattle.il_verify.proofs.EffectLemmas.{bind-some}
 use Rattle.il_scan.specs.Standing.{Fit, Typed}
 use Rattle.il_scan.proofs.ValueLemmas.{number_in, number-there, span-there, truth-there, type-in}
 use Rattle.il_scan.proofs.CellLemmas.{on-top}
@@ -45,7 +46,7 @@ use Rattle.il_scan.proofs.DoesLemmas.{Does, does-combine, does-compare, does-com
 room-of : (given after : List CellKind) → Some given ≡ Some after → length after ≤ 32
     → length given ≤ 32
 room-of given after e room = let size : length given ≡ length after =
-    ap (λ (k : List CellKind). length k) (some-same given after e) in omega arith
+    ap (λ (k : List CellKind). length k) (same_Some given after e) in omega arith
 
 not-zero : (z : ℤ) → (z ≡ pos 0 → ⊥) → int_eq z (pos 0) ≡ false
 not-zero z ne = go (int_eq z (pos 0)) (Decides-int_eq z (pos 0)).0
@@ -65,15 +66,11 @@ divisor-of Div w v h = record { type = h.0; test = not-zero (number_of v) h.1; d
 divisor-of Mod w v h = record { type = h.0; test = not-zero (number_of v) h.1; divisor = h.1 }
 divisor-of i w v h = record { type = h; test = refl; divisor = tt }
 
-if-some : {A : Type 0} (b : Bool) (x y : A) → cond b (Some x) None ≡ Some y → (b ≡ true) × (x ≡ y)
-if-some true x y e = (refl, some-same x y e)
-if-some false x y e = absurd cc
-
 shown : (v : Value) (k : CellKind) (t : ElementaryType) → HasKind v k → type_of_kind k ≡ Some t
     → type_of v ≡ t
 shown v Any t h e = absurd cc
-shown v (Plain u) t h e = h ∙ some-same u t e
-shown v (NotZero w) t h e = h.0 ∙ some-same (type_of_width w) t e
+shown v (Plain u) t h e = h ∙ same_Some u t e
+shown v (NotZero w) t h e = h.0 ∙ same_Some (type_of_width w) t e
 
 module _ (types : List ElementaryType) (count now next p : ℕ) (slots : List Value)
     (timers : List TimerState) (after : List CellKind) (typed : Typed types count slots timers)
@@ -83,7 +80,7 @@ module _ (types : List ElementaryType) (count now next p : ℕ) (slots : List Va
 
     to-kinds : (i : Instr) (cells : List Value) (given : List CellKind) → Some given ≡ Some after
         → Done i cells given → Done i cells after
-    to-kinds i cells given e d = subst (Done i cells) (some-same given after e) d
+    to-kinds i cells given e d = subst (Done i cells) (same_Some given after e) d
 
     -- a BOOL is on top
     on-bool : (i : Instr) (kinds rest given : List CellKind)
@@ -180,7 +177,7 @@ module _ (types : List ElementaryType) (count now next p : ℕ) (slots : List Va
         let t = bind-some (type_of_kind k) _ _ e
         in
         let s = bind-some (type_of_kind l) _ _ t.2 in
-        let b = if-some (are_compared c s.0 t.0) (Plain elementary.Bool ∷ rest) after s.2 in
+        let b = cond_some (are_compared c s.0 t.0) (Plain elementary.Bool ∷ rest) after s.2 in
         to-kinds (Compare c) (v ∷ u ∷ others) (Plain elementary.Bool ∷ rest)
         (ap (λ (x : List CellKind). Some x) b.1)
         (does-compare types count now next p others slots timers rest fit.1.1 typed c u v

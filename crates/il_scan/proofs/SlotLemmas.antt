@@ -1,5 +1,6 @@
 -- Inputs, outputs and first values, told by words and by the values that they stand for.
 use Rattle.std.proofs.lemmas.Grind.{common_steps}
+use Rattle.std.proofs.lemmas.Option.{same_Some}
 use Rattle.std.proofs.Common.{◌≡◌, ℕ, zero, suc, ◌+◌, ◌<◌, ◌≤◌, ℤ, pos, Bool, true, false, not, cond, List, [], ◌∷◌, ◌++◌, length, get_or, map, take, drop, refl, sym, ap, subst, ◌∙◌, arith, Option, Some, None, ◌&&◌}
 use Rattle.std.specs.Prelude.{IsSome, slice_get}
 use Rattle.bay_base.specs.declared.types.ElementaryType.{ElementaryType}
@@ -13,7 +14,6 @@ use Rattle.il_image.specs.Values.{default_value, number_of, type_of, value_of}
 use Rattle.il_image.specs.Tables.{slot_types}
 use Rattle.il_verify.specs.Judging.{is_read_only}
 use Rattle.il_verify.specs.Slots.{point_slot, slots_of, variable_slot}
-use Rattle.il_verify.proofs.EffectLemmas.{some-same}
 use Rattle.il_image.specs.declared.value.Value.TheVariants.{Truth}
 use Rattle.il_image.proofs.KindLemmas.{same-is, same-self}
 use Rattle.il_image.proofs.MapLemmas.{mapped-turn}
@@ -140,7 +140,7 @@ point-only : (points : List ImagePoint) (variables : List Value) (n : ℕ) (p : 
     → is_read_only (map point_slot points ++ map variable_slot variables) n ≡ true
 point-only [] variables n p e w = absurd cc
 point-only (q ∷ points) variables zero p e w = let same : q ≡ p =
-    some-same q p e in ap (λ (o : ImagePoint). not o.writable) same ∙ ap (λ (b : Bool). not b) w
+    same_Some q p e in ap (λ (o : ImagePoint). not o.writable) same ∙ ap (λ (b : Bool). not b) w
 point-only (q ∷ points) variables (suc n) p e w = point-only points variables n p e w
 
 pub only-read : (image : Image) (n : ℕ) (p : ImagePoint) → slice_get image.points n ≡ Some p

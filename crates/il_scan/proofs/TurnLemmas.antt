@@ -1,5 +1,6 @@
 -- One turn of the machine of words is one turn of the machine of typed values.
 use Rattle.std.proofs.Common.{◌≡◌, ℕ, zero, suc, ◌+◌, ◌<◌, ◌≤◌, ℤ, pos, Bool, true, false, cond, List, [], ◌∷◌, length, refl, sym, ap, subst, ◌∙◌, arith, Option, Some, None, ◌⊎◌, inl, inr}
+use Rattle.std.proofs.lemmas.Option.{same_Some}
 use Rattle.std.specs.Prelude.{IsSome, slice_get, slice_set}
 use Rattle.std.specs.Ordering.{int_eq}
 use Rattle.il_image.specs.declared.instr.Instr.{Instr}
@@ -20,7 +21,6 @@ use Rattle.il_image.proofs.KindLemmas.{kind-above}
 use Rattle.il_image.proofs.PlaceLemmas.{stands}
 use Rattle.il_verify.specs.Judging.{is_read_only, writes_read_only}
 use Rattle.il_verify.specs.Slots.{slots_of}
-use Rattle.il_verify.proofs.EffectLemmas.{some-same}
 use Rattle.il_verify.proofs.TableLemmas.{same-instr, some-way}
 use Rattle.il_verify.proofs.WithinLemmas.{within-length}
 use Rattle.il_image.specs.declared.value.Value.{Value}
@@ -33,8 +33,8 @@ use Rattle.il_scan.proofs.SimLemmas.{does}
 -- ---- where words lead
 
 chosen : (b : Bool) (x y to : ℕ) → Some (cond b x y) ≡ Some to → (to ≡ x) ⊎ (to ≡ y)
-chosen true x y to e = inl (sym (some-same x to e))
-chosen false x y to e = inr (sym (some-same y to e))
+chosen true x y to e = inl (sym (same_Some x to e))
+chosen false x y to e = inr (sym (same_Some y to e))
 
 turned-round : {A B : Type 0} → A ⊎ B → B ⊎ A
 turned-round h = elim h [ inl a ↦ inr a | inr b ↦ inl b ]
@@ -42,12 +42,12 @@ turned-round h = elim h [ inl a ↦ inr a | inr b ↦ inl b ]
 leads-there : (i : Instr) (next : ℕ) (stack : List ℤ) (to : ℕ) → leads i next stack ≡ Some to
     → LeadsTo i next to
 leads-there Halt next stack to e = absurd cc
-leads-there (Jump Always distance) next stack to e = sym (some-same (next + distance) to e)
+leads-there (Jump Always distance) next stack to e = sym (same_Some (next + distance) to e)
 leads-there (Jump IfTrue distance) next stack to e =
     chosen (int_eq (top stack) (pos 0)) next (next + distance) to e
 leads-there (Jump IfFalse distance) next stack to e =
     turned-round (chosen (int_eq (top stack) (pos 0)) (next + distance) next to e)
-leads-there i next stack to e = sym (some-same next to e)
+leads-there i next stack to e = sym (same_Some next to e)
 
 -- ---- slots of points that may only be read
 
@@ -176,7 +176,7 @@ module _ (image : Image) (now : ℕ) (s : State) (h : StandsAs image s) where
         let d = doing to way in
         let a = allows in
         let enter = a.enters to way in
-        let there : d.to ≡ to = some-same d.to to (sym d.leads_to ∙ e) in
+        let there : d.to ≡ to = same_Some d.to to (sym d.leads_to ∙ e) in
         let t : State =
         record { place = to; cells = d.new_cells; slots = d.new_slots; timers = d.new_timers }
         in (

@@ -1,7 +1,7 @@
 -- The first piece of a text, from its characters.
 use Rattle.std.proofs.Common.{◌≡◌, ◌≢◌, ℕ, suc, zero, ◌+◌, ◌-◌, ◌<◌, ◌≤◌, ◌&&◌, not, Bool, true, false, cond, List, [], ◌∷◌, length, drop, slice_index, slice_range, eqb, refl, sym, ap, subst, ◌∙◌, arith, add-zero, inl, inr, ◌⊎◌, ⊎_elim}
 use Rattle.std.proofs.lemmas.Grind.{common_steps}
-use Rattle.std.proofs.lemmas.Bool.{false≢true, eqb-true, eq-eqb, ne_eqb, cases_lt}
+use Rattle.std.proofs.lemmas.Bool.{false≢true, eqb-true, eq-eqb, ne_eqb, cases_lt, false_from_ne_true}
 use Rattle.std.proofs.lemmas.Bool.Decides.{nat_tests}
 use Rattle.std.proofs.Math.Bool.{and-false, or-true}
 use Rattle.std.specs.Char.{to_ascii_uppercase}
@@ -245,10 +245,6 @@ long-first n ((z ∷ zs) ∷ ps) h =
     ap (λ (q : List (List ℕ)). same_name (first_piece q) N) (join-linked n (z ∷ zs) ps h)
     ∙ long-N n z zs
 
-false-of : (b : Bool) → (b ≡ true → ⊥) → b ≡ false
-false-of true h = absurd (h refl)
-false-of false h = refl
-
 past : (bs : List ℕ) (k : ℕ) → length bs ≤ k → slice_index bs k ≡ 0
 past bs k l = grind (arith, common_steps)
 
@@ -306,7 +302,7 @@ negated-cut bs s w h =
 not-negated : (bs : List ℕ) (s : ℕ) → is_negated_and bs s ≡ false
     → is_N (slice_index bs s) (cut_at bs (s + 1)) ≡ false
 unfolding is_negated_and
-not-negated bs s h = false-of _ (λ e.
+not-negated bs s h = false_from_ne_true _ (λ e.
     let n : ℕ = slice_index bs (s + 1) in
     let a = and-left (eqb (slice_index bs s) 38) _ e in
     let same : same_name (first_piece (cut_at bs (s + 1))) N ≡ true =

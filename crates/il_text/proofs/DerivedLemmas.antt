@@ -5,7 +5,7 @@ use Rattle.std.proofs.Common.{◌≡◌, ℕ, ◌&&◌, ◌||◌, Bool, true, fa
 use Rattle.std.specs.List.{flat_map, list_all}
 use Rattle.std.specs.Option.{is_none}
 use Rattle.std.proofs.Math.Bool.{or-true}
-use Rattle.std.proofs.lemmas.Bool.{false≢true}
+use Rattle.std.proofs.lemmas.Bool.{false≢true, or_left, and_parts}
 use Rattle.il_text.specs.Grammar.{Numbered, Declaration, Block, declaration_part, block_parts, names_declared, block_declared, may_declare, is_allowed, entry_parts, entries_parts, is_plain, is_first, is_inner, all_inner, is_parenthesis, is_outer, Derives}
 use Rattle.il_text.specs.Listing.{Action, Entry, label, action, block, Entries, no_entries, entry, entries_of, Declared, PlainProgram}
 use Rattle.il_text.specs.Parts.{Part, heading, opening, declaring, closing, labelling, acting, entering, leaving, ending}
@@ -16,7 +16,7 @@ use Rattle.il_text.specs.declared.program.Literal.{Literal}
 use Rattle.il_text.specs.declared.program.Operator.{Operator}
 use Rattle.il_text.specs.declared.program.Scope.{Scope}
 use Rattle.il_text.specs.declared.program.Scope.TheVariants.{Local, External}
-use Rattle.il_text.proofs.GrammarLemmas.{and-both, run}
+use Rattle.il_text.proofs.GrammarLemmas.{run}
 
 -- what is reached, by its parts
 abbrev pub state : Stage → List ℕ → List Declared → List Entry → List Opened → Reached
@@ -111,9 +111,6 @@ abbrev starts : Entries → Bool
 starts no_entries = true
 starts (entry e es) = is_first e
 
-or-more : (b c : Bool) → b ≡ true → b || c ≡ true
-or-more b c h = rw h refl
-
 or-none : (b : Bool) → b || false ≡ true → b ≡ true
 or-none true h = refl
 or-none false h = h
@@ -121,7 +118,7 @@ or-none false h = h
 parenthesis-starts : (es : Entries) → is_parenthesis es ≡ true
     → (starts es ≡ true) × (all_inner es ≡ true)
 parenthesis-starts no_entries h = absurd (false≢true h)
-parenthesis-starts (entry e es) h = and-both (is_first e) (is_inner e && all_inner es) h
+parenthesis-starts (entry e es) h = and_parts (is_first e) (is_inner e && all_inner es) h
 
 mutual
   -- an entry of a parenthesis
@@ -147,10 +144,10 @@ mutual
   entries-inside no_entries name ds is fs ps i k =
       ap (λ (x : List Entry). run (state place.Body name ds x fs) ps) (sym (append-nil is))
   entries-inside (entry e es) name ds is fs ps i k =
-      let a = and-both (is_inner e) (all_inner es) i in
+      let a = and_parts (is_inner e) (all_inner es) i in
       ap (run (state place.Body name ds is fs)) (append_assoc (entry_parts e) (entries_parts es) ps)
       ∙ entry-inside e name ds is fs (entries_parts es ++ ps) a.0 k
-      ∙ entries-inside es name ds (is ++ e ∷ []) fs ps a.1 (or-more _ (starts es) (some-more is e))
+      ∙ entries-inside es name ds (is ++ e ∷ []) fs ps a.1 (or_left _ (starts es) (some-more is e))
       ∙ ap (λ (x : List Entry). run (state place.Body name ds x fs) ps)
       (append_assoc is (e ∷ []) (list_of es))
 
@@ -178,7 +175,7 @@ items-run : (es : List Entry) (name : List ℕ) (p : Stage) (ds : List Declared)
 items-run [] name p ds is ps b i =
     (p, b, ap (λ (x : List Entry). run (state p name ds x []) ps) (sym (append-nil is)))
 items-run (e ∷ es) name p ds is ps b i =
-    let a = and-both (is_outer e) (list_all is_outer es) i in
+    let a = and_parts (is_outer e) (list_all is_outer es) i in
     let k = items-run es name place.Body ds (is ++ e ∷ []) ps refl a.1 in (
       k.0,
       k.1,
@@ -212,7 +209,7 @@ declarations-run [] scope name ds ps h =
     ap (λ (x : List Declared). run (state (place.Block scope) name x [] []) ps)
     (sym (append-nil ds))
 declarations-run (d ∷ dls) scope name ds ps h =
-    let a = and-both (may_declare scope d) (list_all (may_declare scope) dls) h in
+    let a = and_parts (may_declare scope d) (list_all (may_declare scope) dls) h in
     run-step d.line (state (place.Block scope) name ds [] [])
     (state (place.Block scope) name (ds ++ names_declared scope d) [] [])
     (declaring d.names d.kind d.initial) (map declaration_part dls ++ ps)
@@ -256,7 +253,7 @@ blocks-run : (bs : List Block) (name : List ℕ) (ds : List Declared) (ps : List
 blocks-run [] name ds ps h =
     ap (λ (x : List Declared). run (state place.Declarations name x [] []) ps) (sym (append-nil ds))
 blocks-run (b ∷ bs) name ds ps h =
-    let a = and-both (is_allowed b) (list_all is_allowed bs) h in
+    let a = and_parts (is_allowed b) (list_all is_allowed bs) h in
     ap (run (state place.Declarations name ds [] []))
     (append_assoc (block_parts b) (flat_map block_parts bs) ps)
     ∙ one-block b name ds (flat_map block_parts bs ++ ps) a.0

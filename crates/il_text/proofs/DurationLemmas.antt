@@ -1,5 +1,6 @@
 -- Parts of a duration, with totals past every bound counted as one.
 use Rattle.std.proofs.Common.{◌≡◌, ℕ, ◌+◌, ◌-◌, ◌*◌, ◌^◌, ◌<◌, ◌≤◌, ◌&&◌, ◌==◌, Bool, true, cond, List, Option, Some, None, option_and_then, length, take, drop, min, refl, sym, ap, subst, ◌∙◌, arith, ⊎_elim, leb, false}
+use Rattle.std.proofs.lemmas.Option.{same_Some}
 use Rattle.std.proofs.lemmas.Bool.{cases_lt}
 use Rattle.std.proofs.Math.Nat.{mul-le-mul_left, mul-le-mul_right}
 use Rattle.bay_base.specs.Names.{same_name}
@@ -20,9 +21,6 @@ cap-sum t n f h = ⊎_elim
     rw e (omega arith))
     (λ (k : n ≤ 2 ^ 32). let e : min n (2 ^ 32) ≡ n = omega arith in rw e (omega arith))
     (cases_lt (2 ^ 32) n)
-
-some-same : (a b : Duration) → Some a ≡ Some b → a ≡ b
-some-same a b e = cc
 
 pub none-from : (o : Option Duration) → capped_duration o ≡ None → o ≡ None
 none-from None e = refl
@@ -46,7 +44,7 @@ pub part-other : (o : Option Duration) (s : Duration) (u : List ℕ) (f : ℕ)
     → capped_duration (option_and_then (part u f) o) ≡ Some s
 part-other None s u f e h = cc
 part-other (Some d) s u f e h =
-    let same = some-same (capped_one d) s e in
+    let same = same_Some (capped_one d) s e in
     other-here d u f (subst (λ (r : List ℕ). same_name (unit_of r) u ≡ false)
     (sym (ap (λ (x : Duration). x.rest) same)) h) ∙ e
 
@@ -71,7 +69,7 @@ pub part-bad : (o : Option Duration) (s : Duration) (u : List ℕ) (f : ℕ)
     → capped_duration (option_and_then (part u f) o) ≡ None
 part-bad None s u f e h n = cc
 part-bad (Some d) s u f e h n =
-    let same = sym (some-same (capped_one d) s e) in
+    let same = sym (same_Some (capped_one d) s e) in
     bad-here d u f (subst (λ (x : Duration). same_name (unit_of x.rest) u ≡ true) same h)
     (subst (λ (x : Duration). capped_number
     (number_of_part x.begun (take (number_len x.rest) x.rest))
@@ -117,7 +115,7 @@ pub part-more : (o : Option Duration) (s : Duration) (u : List ℕ) (f v : ℕ) 
     })
 part-more None s u f v p e h n = cc
 part-more (Some d) s u f v p e h n =
-    let back = some-same (capped_one d) s e in
+    let back = same_Some (capped_one d) s e in
     let same = sym back in
     more-here d u f v p (subst (λ (x : Duration). same_name (unit_of x.rest) u ≡ true) same h)
     (subst (λ (x : Duration). capped_number
@@ -145,7 +143,7 @@ pub total-from : (o : Option Duration) (s : Duration) → capped_duration o ≡ 
 total-from None s e = cc
 total-from (Some d) s e =
     total-here d ∙ ap (λ (x : Duration). cond (x.begun && length x.rest == 0) (Some x.total) None)
-    (some-same (capped_one d) s e)
+    (same_Some (capped_one d) s e)
 
 pub time_capped : (o : Option ℕ) → time_literal (capped_time o) ≡ time_literal o
 time_capped None = refl

@@ -1,8 +1,9 @@
 -- Durations as parts in falling units: the unit taken first, and those left.
 use Rattle.std.proofs.lemmas.Grind.{common_steps}
+use Rattle.std.proofs.lemmas.Option.{same_Some}
 use Rattle.std.proofs.Common.{◌≡◌, ℕ, ◌+◌, ◌<◌, ◌&&◌, ◌==◌, ◌⊎◌, inl, inr, Bool, true, false, cond, List, [], ◌∷◌, ◌++◌, Option, Some, None, option_and_then, length, take, drop, refl, sym, ap, subst, ◌∙◌, arith, append_assoc, append-nil, zero-add, get_or, ◌*◌, ◌≤◌, add-zero, ◌||◌, not, map, eqb, ltb, ⊎_elim}
 use Rattle.std.specs.Prelude.{⊤}
-use Rattle.std.proofs.lemmas.Bool.{eqb-true, eq-eqb, cases_lt, false≢true}
+use Rattle.std.proofs.lemmas.Bool.{eqb-true, eq-eqb, cases_lt, false≢true, and_parts}
 use Rattle.std.proofs.Math.Bool.{or-true, or-false}
 use Rattle.std.proofs.Math.Seq.{take-append_seam, drop-append_seam}
 use Rattle.std.proofs.lemmas.Bool.Decides.{nat_tests}
@@ -50,9 +51,6 @@ record Read (above : ℕ) (d e : Duration) : Type 0 where
   summed : e.total ≡ d.total + sum_by value ps
   none : ps ≡ [] → e.begun ≡ d.begun
 
-same-some : {A : Type 0} (a b : A) → Some a ≡ Some b → a ≡ b
-same-some a b e = cc
-
 no-run : (us : List Unit) (e : Duration) → run us None ≡ Some e → ⊥
 no-run [] e h = cc
 no-run (u ∷ us) e h = no-run us e h
@@ -68,7 +66,7 @@ taken-with : (u : Unit) (d e : Duration) (o : Option ℕ)
     → same_name (take (unit_len d.rest) (drop (number_len d.rest) d.rest)) (letters u) ≡ true
     → with_part (size u) d o ≡ Some e → Taken u d e
 taken-with u d e None n s h = cc
-taken-with u d e (Some k) n s h = subst (λ (x : Duration). Taken u d x) (same-some _ e h) (record {
+taken-with u d e (Some k) n s h = subst (λ (x : Duration). Taken u d x) (same_Some _ e h) (record {
   p = record {
     digits = take (number_len d.rest) d.rest;
     name = take (unit_len d.rest) (drop (number_len d.rest) d.rest);
@@ -87,7 +85,7 @@ taken-or-same : (u : Unit) (d e : Duration) (b : Bool)
     → cond b (with_part (size u) d (number_of_part d.begun (take (number_len d.rest) d.rest)))
     (Some d) ≡ Some e → (d ≡ e) ⊎ Taken u d e
 taken-or-same u d e true s h = inr (taken-with u d e _ refl s h)
-taken-or-same u d e false s h = inl (same-some d e h)
+taken-or-same u d e false s h = inl (same_Some d e h)
 
 one-unit : (u : Unit) (d e : Duration) → part (letters u) (size u) d ≡ Some e
     → (d ≡ e) ⊎ Taken u d e
@@ -142,7 +140,7 @@ read-from u us above d e (Some m) h more s r = ⊎_elim
 
 read-units : (us : List Unit) (above : ℕ) (d e : Duration) → Below above us
     → run us (Some d) ≡ Some e → Read above d e
-read-units [] above d e b r = subst (λ (x : Duration). Read above d x) (same-some d e r)
+read-units [] above d e b r = subst (λ (x : Duration). Read above d x) (same_Some d e r)
     (record { ps = []; fall = tt; spelled = refl; summed = omega arith; none = λ z. refl })
 read-units (u ∷ us) above d e b r =
     read-from u us above d e _ b.0 (λ m k. read-units us (size u) m e b.1 k) refl r
@@ -165,7 +163,7 @@ total-if true d ms h = rest-if (length d.rest == 0) d ms refl h where
   rest-if : (b : Bool) (d : Duration) (ms : ℕ) → (length d.rest == 0) ≡ b
       → cond b (Some d.total) None ≡ Some ms → (true ≡ true) × (d.rest ≡ []) × (d.total ≡ ms)
   rest-if false d ms e h = cc
-  rest-if true d ms e h = (refl, nil_from_length d.rest (eqb-true _ _ e), same-some _ ms h)
+  rest-if true d ms e h = (refl, nil_from_length d.rest (eqb-true _ _ e), same_Some _ ms h)
 
 total-found : (d : Duration) (ms : ℕ) → total_of d ≡ Some ms
     → (d.begun ≡ true) × (d.rest ≡ []) × (d.total ≡ ms)
@@ -211,10 +209,6 @@ no-letter x h = grind (arith, nat_tests)
 numeral-up : (x : ℕ) → numeral (up x) ≡ numeral x
 numeral-up x = rw (up-digit x, up-underscore x) refl
 
-both : (a b : Bool) → (a && b) ≡ true → (a ≡ true) × (b ≡ true)
-both true b h = (refl, h)
-both false b h = cc
-
 some-if : (b : Bool) (v k : ℕ) → cond b (Some v) None ≡ Some k → b ≡ true
 some-if true v k h = refl
 some-if false v k h = cc
@@ -226,13 +220,13 @@ head-if : (x : ℕ) (xs : List ℕ) (u : Bool) → (u ≡ true → eqb x 95 ≡ 
     → cond u (is_integer 10 true xs) (ltb (digit_value x) 10 && is_integer 10 false xs) ≡ true
     → Head x xs
 head-if x xs true e h = (true, numeral-underscore x (e refl), h)
-head-if x xs false e h = let p = both _ _ h in (false, numeral-digit x p.0, p.1)
+head-if x xs false e h = let p = and_parts _ _ h in (false, numeral-digit x p.0, p.1)
 
 integer-head : (x : ℕ) (xs : List ℕ) (wanted : Bool) → is_integer 10 wanted (x ∷ xs) ≡ true
     → Head x xs
 unfolding is_integer
 integer-head x xs wanted h =
-    unfold is_integer in head-if x xs (not wanted && eqb x 95) (λ e. (both _ _ e).1) h
+    unfold is_integer in head-if x xs (not wanted && eqb x 95) (λ e. (and_parts _ _ e).1) h
 
 number-integer : (ds : List ℕ) (k : ℕ) → number 10 ds ≡ Some k → is_integer 10 true ds ≡ true
 unfolding number
@@ -245,7 +239,7 @@ part-if x xs k false e h = integer-head x xs true (number-integer (x ∷ xs) k h
 
 part-head : (behind : Bool) (x : ℕ) (xs : List ℕ) (k : ℕ) → number_of_part behind (x ∷ xs) ≡ Some k
     → Head x xs
-part-head behind x xs k h = part-if x xs k (behind && eqb x 95) (λ e. (both _ _ e).1) h
+part-head behind x xs k h = part-if x xs k (behind && eqb x 95) (λ e. (and_parts _ _ e).1) h
 
 no-digits : (k : ℕ) (b : Bool) → cond b (number 10 []) (number 10 []) ≡ Some k → ⊥
 unfolding number is_integer

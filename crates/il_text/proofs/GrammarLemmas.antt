@@ -1,9 +1,10 @@
 -- What parts reach is what the grammar derives: each part that is taken is the next of the
 -- grammar's.
 use Rattle.std.proofs.Common.{◌≡◌, ℕ, ◌&&◌, ◌||◌, Bool, true, false, cond, List, [], ◌∷◌, ◌++◌, Option, Some, None, option_and_then, map, refl, sym, ap, subst, ◌∙◌, append-nil, append_assoc}
+use Rattle.std.proofs.lemmas.Option.{cond_some}
 use Rattle.std.specs.List.{flat_map, list_all}
 use Rattle.std.specs.Option.{is_none}
-use Rattle.std.proofs.lemmas.Bool.{false≢true}
+use Rattle.std.proofs.lemmas.Bool.{false≢true, and_parts, and_from}
 use Rattle.std.proofs.lemmas.Grind.{flat_map-append}
 use Rattle.std.proofs.lemmas.List.{map-append}
 use Rattle.il_text.specs.Grammar.{Numbered, Declaration, Block, declaration_part, block_parts, names_declared, block_declared, may_declare, is_allowed, entry_parts, entries_parts, is_plain, is_first, is_inner, all_inner, is_parenthesis, is_outer, Derives}
@@ -96,18 +97,6 @@ ReachesAt ps r place.Finished = Derives ps (program_made r)
 abbrev pub Reaches : List Numbered → Reached → Type 0
 Reaches ps r = ReachesAt ps r r.place
 
-pub cond-some : {A : Type 0} → (b : Bool) (x y : A) → cond b (Some x) None ≡ Some y
-    → (b ≡ true) × (x ≡ y)
-cond-some true x y e = (refl, cc)
-cond-some false x y e = cc
-
-pub and-both : (a b : Bool) → a && b ≡ true → (a ≡ true) × (b ≡ true)
-and-both true b h = (refl, h)
-and-both false b h = absurd (false≢true h)
-
-pub both-and : (a b : Bool) → a ≡ true → b ≡ true → a && b ≡ true
-both-and a b h k = rw (h, k) refl
-
 body-at : (ps : List Numbered) (r : Reached) (p : Stage) → is_body p ≡ true → ReachesAt ps r p
     → InBody ps r
 body-at ps r place.Declarations h x = x.body
@@ -138,7 +127,7 @@ all-more : {A : Type 0} → (f : A → Bool) (xs : List A) (x : A) → list_all 
     → list_all f (xs ++ x ∷ []) ≡ true
 all-more f [] x h k = rw k refl
 all-more f (y ∷ xs) x h k = let p =
-    and-both (f y) (list_all f xs) h in both-and (f y) _ p.0 (all-more f xs x p.1 k)
+    and_parts (f y) (list_all f xs) h in and_from (f y) _ p.0 (all-more f xs x p.1 k)
 
 pub flat-one : {X A : Type 0} → (f : X → List A) (xs : List X) (x : X)
     → flat_map f (xs ++ x ∷ []) ≡ flat_map f xs ++ f x
@@ -297,8 +286,8 @@ right-inner : (f : Opened) (fs : List Opened) (es : List Entry) (e : Entry)
     → items_right (f ∷ fs) es ≡ true → is_inner e ≡ true → is_some es || is_first e ≡ true
     → items_right (f ∷ fs) (es ++ e ∷ []) ≡ true
 right-inner f fs es e h i k =
-    let p = and-both (starts_right es) (list_all is_inner es) h in
-    both-and (starts_right (es ++ e ∷ [])) _ (starts-more es e p.0 k) (all-more is_inner es e p.1 i)
+    let p = and_parts (starts_right es) (list_all is_inner es) h in
+    and_from (starts_right (es ++ e ∷ [])) _ (starts-more es e p.0 k) (all-more is_inner es e p.1 i)
 
 or-first : (b : Bool) (n : ℕ) (a : Action) → b || is_load a ≡ true
     → b || is_first (action n a) ≡ true
@@ -310,7 +299,7 @@ right-action : (n : ℕ) (a : Action) (fs : List Opened) (es : List Entry) → i
     → items_right fs (es ++ action n a ∷ []) ≡ true
 right-action n a [] es h k = all-more is_outer es (action n a) h refl
 right-action n a (f ∷ fs) es h k =
-    let p = and-both (is_plain a) (is_some es || is_load a) k in
+    let p = and_parts (is_plain a) (is_some es || is_load a) k in
     right-inner f fs es (action n a) h p.0 (or-first (is_some es) n a p.1)
 
 entering-taken : (n : ℕ) (o : Operator) (g : Bool) (ps : List Numbered) (r : Reached) → InBody ps r
@@ -329,14 +318,14 @@ entering-taken n o g ps r b k = record {
   blocks_allowed = b.blocks_allowed;
   right = refl;
   opened =
-      both-and (is_outside r.parentheses || is_some r.items) _ k
-      (both-and (items_right r.parentheses r.items) _ b.right b.opened);
+      and_from (is_outside r.parentheses || is_some r.items) _ k
+      (and_from (items_right r.parentheses r.items) _ b.right b.opened);
 }
 
 inner-is : (es : List Entry) → list_all is_inner es ≡ true → all_inner (entries_of es) ≡ true
 inner-is [] h = refl
 inner-is (e ∷ es) h = let p =
-    and-both (is_inner e) (list_all is_inner es) h in both-and (is_inner e) _ p.0 (inner-is es p.1)
+    and_parts (is_inner e) (list_all is_inner es) h in and_from (is_inner e) _ p.0 (inner-is es p.1)
 
 or-false : (b : Bool) → b ≡ true → b || false ≡ true
 or-false true h = refl
@@ -347,8 +336,8 @@ parenthesis-is : (es : List Entry) → starts_right es ≡ true → list_all is_
     → is_some es ≡ true → is_parenthesis (entries_of es) ≡ true
 parenthesis-is [] s h k = absurd (false≢true k)
 parenthesis-is (e ∷ es) s h k =
-    let p = and-both (is_inner e) (list_all is_inner es) h in
-    both-and (is_first e) _ s (both-and (is_inner e) _ p.0 (inner-is es p.1))
+    let p = and_parts (is_inner e) (list_all is_inner es) h in
+    and_from (is_first e) _ s (and_from (is_inner e) _ p.0 (inner-is es p.1))
 
 right-block : (n m : ℕ) (o : Operator) (g : Bool) (inner : Entries) (fs : List Opened)
     (es : List Entry) → is_parenthesis inner ≡ true → items_right fs es ≡ true
@@ -374,11 +363,11 @@ leaving-taken n f fs ps r b q k =
     subst (λ (x : List Opened). items_right x r.items ≡ true) q b.right in
     let opened : opened_right (f ∷ fs) ≡ true =
     subst (λ (x : List Opened). opened_right x ≡ true) q b.opened in
-    let inner = and-both (starts_right r.items) (list_all is_inner r.items) right in
+    let inner = and_parts (starts_right r.items) (list_all is_inner r.items) right in
     let outer =
-    and-both (is_outside fs || is_some f.outer) (items_right fs f.outer && opened_right fs)
+    and_parts (is_outside fs || is_some f.outer) (items_right fs f.outer && opened_right fs)
     opened in
-    let rest = and-both (items_right fs f.outer) (opened_right fs) outer.1 in
+    let rest = and_parts (items_right fs f.outer) (opened_right fs) outer.1 in
     record {
       first = b.first;
       blocks = b.blocks;
@@ -423,7 +412,7 @@ pub declared-some : (n : ℕ) (ns : List (List ℕ)) (kind : DeclaredType) (init
     × (with_declarations (map (declared_in n scope kind initial) ns) r ≡ s)
 declared-some n ns kind initial r s None e = cc
 declared-some n ns kind initial r s (Some scope) e =
-    let c = cond-some (may_begin_with scope initial)
+    let c = cond_some (may_begin_with scope initial)
     (with_declarations (map (declared_in n scope kind initial) ns) r) s e in
     (scope, refl, c.0, c.1)
 
@@ -453,11 +442,11 @@ step-reaches : (n : ℕ) (ps : List Numbered) (r s : Reached) (p : Part) → Rea
     → step n r p ≡ Some s → Reaches (ps ++ (n, p) ∷ []) s
 unfolding step may_stand may_act may_enter may_leave
 step-reaches n ps r s (heading name) x e =
-    let c = cond-some (is_start r.place) (with_name name r) s e in
+    let c = cond_some (is_start r.place) (with_name name r) s e in
     subst (λ (t : Reached). Reaches (ps ++ (n, heading name) ∷ []) t) c.1
     (heading-taken n name ps r (start-at ps r r.place c.0 x))
 step-reaches n ps r s (opening scope) x e =
-    let c = cond-some (is_between_blocks r.place) (at_place (place.Block scope) r) s e in
+    let c = cond_some (is_between_blocks r.place) (at_place (place.Block scope) r) s e in
     subst (λ (t : Reached). Reaches (ps ++ (n, opening scope) ∷ []) t) c.1
     (opening-taken n scope ps r (between-at ps r r.place c.0 x))
 step-reaches n ps r s (declaring ns kind initial) x e =
@@ -470,38 +459,38 @@ step-reaches n ps r s closing x e =
     subst (λ (t : Reached). Reaches (ps ++ (n, closing) ∷ []) t) c.2
     (closing-taken n c.0 ps r (block-at ps r r.place c.0 c.1 x))
 step-reaches n ps r s (labelling name) x e =
-    let c = cond-some (is_body r.place && is_outside r.parentheses) (with_item (label n name) r) s e
+    let c = cond_some (is_body r.place && is_outside r.parentheses) (with_item (label n name) r) s e
     in
-    let h = and-both (is_body r.place) (is_outside r.parentheses) c.0 in
+    let h = and_parts (is_body r.place) (is_outside r.parentheses) c.0 in
     let b = body-at ps r r.place h.0 x in
     subst (λ (t : Reached). Reaches (ps ++ (n, labelling name) ∷ []) t) c.1
     (more-item ps r (label n name) b
     (right-outer r.parentheses r.items (label n name) h.1 b.right refl))
 step-reaches n ps r s (acting a) x e =
-    let c = cond-some (is_body r.place
+    let c = cond_some (is_body r.place
     && (is_outside r.parentheses || (is_plain a && (is_some r.items || is_load a))))
     (with_item (action n a) r) s e in
-    let h = and-both (is_body r.place)
+    let h = and_parts (is_body r.place)
     (is_outside r.parentheses || (is_plain a && (is_some r.items || is_load a))) c.0 in
     let b = body-at ps r r.place h.0 x in
     subst (λ (t : Reached). Reaches (ps ++ (n, acting a) ∷ []) t) c.1
     (more-item ps r (action n a) b (right-action n a r.parentheses r.items b.right h.1))
 step-reaches n ps r s (entering o g) x e =
-    let c = cond-some (is_body r.place && (is_outside r.parentheses || is_some r.items))
+    let c = cond_some (is_body r.place && (is_outside r.parentheses || is_some r.items))
     (with_opened n o g r) s e in
-    let h = and-both (is_body r.place) (is_outside r.parentheses || is_some r.items) c.0 in
+    let h = and_parts (is_body r.place) (is_outside r.parentheses || is_some r.items) c.0 in
     subst (λ (t : Reached). Reaches (ps ++ (n, entering o g) ∷ []) t) c.1
     (entering-taken n o g ps r (body-at ps r r.place h.0 x) h.1)
 step-reaches n ps r s leaving x e =
     let c = cond-left (is_body r.place && is_some r.items) (left_here n r r.parentheses) s e in
-    let h = and-both (is_body r.place) (is_some r.items) c.0 in
+    let h = and_parts (is_body r.place) (is_some r.items) c.0 in
     let l = left-some n r s r.parentheses c.1 in
     subst (λ (t : Reached). Reaches (ps ++ (n, leaving) ∷ []) t) l.3
     (leaving-taken n l.0 l.1 ps r (body-at ps r r.place h.0 x) l.2 h.1)
 step-reaches n ps r s ending x e =
-    let c = cond-some (is_body r.place && is_outside r.parentheses) (at_place place.Finished r) s e
+    let c = cond_some (is_body r.place && is_outside r.parentheses) (at_place place.Finished r) s e
     in
-    let h = and-both (is_body r.place) (is_outside r.parentheses) c.0 in
+    let h = and_parts (is_body r.place) (is_outside r.parentheses) c.0 in
     subst (λ (t : Reached). Reaches (ps ++ (n, ending) ∷ []) t) c.1
     (ending-taken n ps r (body-at ps r r.place h.0 x) h.1)
 

@@ -1,5 +1,6 @@
 -- What a line does to the draft.
 use Rattle.std.proofs.Common.{◌≡◌, ℕ, ◌+◌, ◌<◌, ◌≤◌, suc, Bool, true, false, cond, Ok, Err, List, [], ◌∷◌, ◌++◌, Option, Some, None, option_map, option_and_then, map, reverse, length, get_or, drop, refl, sym, ap, ◌∙◌, rules, arith, add-one, drop-cons, append-nil, append_assoc, Vec, Global, Bor}
+use Rattle.std.proofs.lemmas.Option.{same_Some}
 use Rattle.std.proofs.lemmas.Grind.{common_steps}
 use Rattle.std.proofs.lemmas.List.{length-map, length-reverse, map-append, reverse-append}
 use Rattle.il_text.specs.Forms.{name_of, is_mark, names_from, declared_names, parts_of}
@@ -149,9 +150,6 @@ steps-none n r p ps e = rw e refl
 
 pub ruleset steps_rules = (steps-one, steps-more, steps-none)
 
-same-listed : (a b : List Declared) → Some a ≡ Some b → a ≡ b
-same-listed a b e = cc
-
 -- what is reached with these declarations in the place of the others
 abbrev pub with_listed : Reached → List Declared → Reached
 with_listed r ds =
@@ -173,7 +171,7 @@ unfolding step
 declared-with line r scope t None ds p b e = cc
 declared-with line r scope t (Some ns) ds p b e =
     let d : r.declarations ++ map (declared_in line scope t.kind t.initial) ns ≡ ds =
-    same-listed _ _ e in
+    same_Some _ _ e in
     let one : step line r (declaring ns t.kind t.initial)
     ≡ Some (with_listed r (r.declarations ++ map (declared_in line scope t.kind t.initial) ns))
     = rw (p, b) refl in

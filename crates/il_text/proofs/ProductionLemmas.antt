@@ -1,5 +1,7 @@
 -- The parts that a line is read to are those of its production.
 use Rattle.std.proofs.Common.{◌≡◌, ℕ, zero, suc, ◌≤◌, Bool, true, false, cond, ◌&&◌, List, [], ◌∷◌, ◌++◌, length, Option, Some, None, option_map, option_and_then, refl, sym, ap, ◌∙◌, subst, arith}
+use Rattle.std.proofs.lemmas.Bool.{and_parts, or_parts}
+use Rattle.std.proofs.lemmas.Option.{same_Some}
 use Rattle.std.specs.List.{list_any}
 use Rattle.bay_base.specs.declared.types.ElementaryType.{ElementaryType}
 use Rattle.il_text.specs.Forms.{alone, argument, argument_list, arguments, both, call_action, closed_arguments, closed_by, operator_parts, declaration, declared_by, declared_names, elementary_of, ends_with, parenthesis_parts, keyword_line, input_named, is_mark, label_or, label_rest, label_parts, literal_of, literal_or, mark_parts, may_follow_label, name_of, named_line, names_from, one_part, only, only_literal, only_name, operand, output_by, output_named, split_at_mark, parts_of, place, same_input, statement, statement_by, tail, type_of}
@@ -21,7 +23,7 @@ use Rattle.il_text.specs.declared.token.Mark.{Mark}
 use Rattle.il_text.specs.declared.token.Mark.TheVariants as mark
 use Rattle.il_text.specs.declared.token.Mnemonic.{Mnemonic}
 use Rattle.il_text.specs.declared.token.Mnemonic.TheVariants as mnemonic
-use Rattle.il_text.proofs.TokenLemmas.{some-same, map-some, then-some, if-some, both-true, either-false, named-is, literal-is, type-is, elementary-is, only-mark, parted-at, not-parted, was-parted}
+use Rattle.il_text.proofs.TokenLemmas.{map-some, then-some, if-some, named-is, literal-is, type-is, elementary-is, only-mark, parted-at, not-parted, was-parted}
 
 -- ---- what is produced is read
 
@@ -89,7 +91,7 @@ none-joined : (f : Symbol → Bool) (xs ys : List Symbol) → list_any f xs ≡ 
     → list_any f ys ≡ false → list_any f (xs ++ ys) ≡ false
 none-joined f [] ys e h = h
 none-joined f (x ∷ xs) ys e h = let two =
-    either-false (f x) (list_any f xs) e in rw two.0 (none-joined f xs ys two.1 h)
+    or_parts (f x) (list_any f xs) e in rw two.0 (none-joined f xs ys two.1 h)
 
 none-in-arguments : (ts : List Symbol) (given : List (Input × Source)) → AreArguments ts given
     → list_any (is_mark mark.Close) ts ≡ false
@@ -380,7 +382,7 @@ only-literal-is (s ∷ t ∷ ss) v e = absurd cc
 either-operand : (ts : List Symbol) (l : Option Literal) (q : Option Place) (x : Source)
     → only_literal ts ≡ l → place ts ≡ q → literal_or l q ≡ Some x → IsOperand ts x
 either-operand ts (Some v) q x e f h =
-    of_literal v (only-literal-is ts v e) (sym (some-same (constant v) x h))
+    of_literal v (only-literal-is ts v e) (sym (same_Some (constant v) x h))
 either-operand ts None q x e f h = let m =
     map-some (λ p. variable p) q x h in of_place m.0 (place-read ts m.0 (f ∙ m.1)) (sym m.2)
 
@@ -413,7 +415,7 @@ argument-read (i ∷ s ∷ ss) a e =
 
 none-if : {A : Type 0} (b : Bool) (x y : A) → cond b None (Some x) ≡ Some y → (b ≡ false) × (x ≡ y)
 none-if true x y e = absurd cc
-none-if false x y e = (refl, some-same x y e)
+none-if false x y e = (refl, same_Some x y e)
 
 arguments-case : (ts : List Symbol) (given : List (Input × Source))
     (o : Option (List Symbol × List Symbol)) → split_at_mark mark.Comma ts ≡ o
@@ -432,7 +434,7 @@ arguments-case ts given (Some p) is e =
 arguments-read : (ts : List Symbol) (given : List (Input × Source)) → arguments ts ≡ Some given
     → AreArguments ts given
 unfolding arguments
-arguments-read [] given e = no_argument refl (sym (some-same [] given e))
+arguments-read [] given e = no_argument refl (sym (same_Some [] given e))
 arguments-read (s ∷ ss) given e =
     arguments-case (s ∷ ss) given (split_at_mark mark.Comma (s ∷ ss)) refl e
 
@@ -500,13 +502,13 @@ only-name-is (s ∷ t ∷ ss) n e = absurd cc
 
 alone-is : (a : Action) (ss : List Symbol) (ps : List Part) → alone a ss ≡ Some ps
     → (ss ≡ []) × (ps ≡ acting a ∷ [])
-alone-is a [] ps e = (refl, sym (some-same (acting a ∷ []) ps e))
+alone-is a [] ps e = (refl, sym (same_Some (acting a ∷ []) ps e))
 alone-is a (s ∷ ss) ps e = absurd cc
 
 entered-read : (o : Operator) (n : Bool) (ss : List Symbol) (ps : List Part)
     → parenthesis_parts o n ss ≡ Some ps
     → IsStatement (mnemonic_word (mnemonic.Combine o n) ∷ mark_symbol mark.Open ∷ ss) ps
-entered-read o n [] ps e = enters o n refl (sym (some-same (entering o n ∷ []) ps e))
+entered-read o n [] ps e = enters o n refl (sym (same_Some (entering o n ∷ []) ps e))
 entered-read o n (s ∷ ss) ps e =
     let m = map-some (λ x. entering o n ∷ acting (load false x) ∷ []) (operand (s ∷ ss)) ps e in
     enters_with o n (s ∷ ss) m.0 refl (operand-read (s ∷ ss) m.0 m.1) (sym m.2)
@@ -574,7 +576,7 @@ one-name s n [] ns is e more =
     record {
       first = n;
       more = [];
-      are = ap (λ (xs : List (List ℕ)). n ∷ xs) (sym (some-same [] ns e));
+      are = ap (λ (xs : List (List ℕ)). n ∷ xs) (sym (same_Some [] ns e));
       spelled = ap (λ (x : Symbol). x ∷ []) is;
     }
 one-name s n (c ∷ cs) ns is e more =
@@ -631,7 +633,7 @@ tail-read (k ∷ a ∷ v ∷ s ∷ []) t e =
     let i = if-some (is_mark mark.Assign a && is_mark mark.Semicolon s)
     (option_and_then (λ x. option_map (λ y. record { kind = x; initial = Some y })
     (literal_of v)) (elementary_of k)) t e in
-    let w = both-true (is_mark mark.Assign a) (is_mark mark.Semicolon s) i.0 in
+    let w = and_parts (is_mark mark.Assign a) (is_mark mark.Semicolon s) i.0 in
     let x = then-some (λ (x : DeclaredType). option_map
     (λ (y : Literal). (let r : Tail = record { kind = x; initial = Some y } in r))
     (literal_of v)) (elementary_of k) t i.1 in
@@ -690,7 +692,7 @@ statement-by-read i ss ps e = absurd cc
 labelled-read : (n : List ℕ) (rest : List Symbol) (ps : List Part) (ts : List Symbol)
     → ts ≡ name n ∷ mark_symbol mark.Colon ∷ rest → label_parts n rest ≡ Some ps → IsLine ts ps
 unfolding label_parts
-labelled-read n [] ps ts is e = labels n is (sym (some-same (labelling n ∷ []) ps e))
+labelled-read n [] ps ts is e = labels n is (sym (same_Some (labelling n ∷ []) ps e))
 labelled-read n (m ∷ ss) ps ts is e =
     let q = map-some (λ xs. labelling n ∷ xs) (statement_by m ss) ps e in
     labels_with n (m ∷ ss) q.0 is (statement-by-read m ss q.0 q.1) (sym q.2)
@@ -701,9 +703,9 @@ unfolding label_rest
 rest-is [] more e = absurd cc
 rest-is (c ∷ ss) more e =
     let i = if-some (is_mark mark.Colon c && may_follow_label ss) (Some ss) more e in
-    let w = both-true (is_mark mark.Colon c) (may_follow_label ss) i.0 in
+    let w = and_parts (is_mark mark.Colon c) (may_follow_label ss) i.0 in
     ap (λ (x : Symbol). x ∷ ss) (only-mark mark.Colon c w.0)
-    ∙ ap (λ (xs : List Symbol). mark_symbol mark.Colon ∷ xs) (some-same ss more i.1)
+    ∙ ap (λ (xs : List Symbol). mark_symbol mark.Colon ∷ xs) (same_Some ss more i.1)
 
 named-case : (n : List ℕ) (rest : List Symbol) (ps : List Part) (o : Option (List Symbol))
     → label_rest rest ≡ o → label_or n (name n ∷ rest) o ≡ Some ps → IsLine (name n ∷ rest) ps
@@ -714,7 +716,7 @@ named-case n rest ps None is e = declaration-read (name n ∷ rest) ps e
 
 only-is : (p : Part) (ss : List Symbol) (ps : List Part) → only p ss ≡ Some ps
     → (ss ≡ []) × (ps ≡ p ∷ [])
-only-is p [] ps e = (refl, sym (some-same (p ∷ []) ps e))
+only-is p [] ps e = (refl, sym (same_Some (p ∷ []) ps e))
 only-is p (s ∷ ss) ps e = absurd cc
 
 keyword-line-read : (w : Keyword) (ss : List Symbol) (ps : List Part) → keyword_line w ss ≡ Some ps
@@ -742,7 +744,7 @@ marked-read i ss ps e = absurd cc
 
 line-read : (ts : List Symbol) (ps : List Part) → parts_of ts ≡ Some ps → IsLine ts ps
 unfolding parts_of named_line
-line-read [] ps e = blank refl (sym (some-same [] ps e))
+line-read [] ps e = blank refl (sym (same_Some [] ps e))
 line-read (name n ∷ ss) ps e = named-case n ss ps (label_rest ss) refl e
 line-read (keyword_word w ∷ ss) ps e = keyword-line-read w ss ps e
 line-read (type_word k ∷ ss) ps e = absurd cc

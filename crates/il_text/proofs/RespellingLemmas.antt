@@ -1,7 +1,7 @@
 -- Blanks between two parts of a text.
 use Rattle.std.proofs.Common.{◌≡◌, ◌≢◌, ℕ, ◌+◌, ◌<◌, ◌&&◌, ◌||◌, not, Bool, true, false, cond, List, [], ◌∷◌, ◌++◌, map, length, slice_index, eqb, refl, sym, ap, subst, ◌∙◌, arith, length-append, Result, inl, inr, ◌⊎◌, ⊎_elim}
 use Rattle.std.specs.List.{list_all}
-use Rattle.std.proofs.lemmas.Bool.{false≢true, eqb-true, ne_eqb, lt-ltb}
+use Rattle.std.proofs.lemmas.Bool.{false≢true, eqb-true, ne_eqb, lt-ltb, and_from, not-true}
 use Rattle.std.proofs.lemmas.List.{map-append}
 use Rattle.std.proofs.Math.Bool.{and-false, or-true}
 use Rattle.il_text.specs.Characters.{is_blank, are_linked}
@@ -229,9 +229,6 @@ no_end-inside : (b : Bool) → is_blank (cond b 10 32) ≡ true → not b ≡ tr
 no_end-inside true h = absurd (false≢true h)
 no_end-inside false h = refl
 
-both : (a b : Bool) → a ≡ true → b ≡ true → a && b ≡ true
-both a b h k = rw (h, k) refl
-
 ends-step : (x y : ℕ) (xs : List ℕ) (e : Bool) → ends (x ∷ y ∷ xs) ≡ e
     → list_all is_blank (without_comments true (x ∷ y ∷ xs)) ≡ true
     → (list_all is_blank (without_comments false xs) ≡ true → list_all no_end xs ≡ true)
@@ -245,10 +242,10 @@ ends-step x y xs true e h f g =
     let second =
     no_end-of y 41 (eqb-true _ _ (and-right (eqb x 42) (eqb y 41) e))
     (λ k. absurd (omega (arith, k))) in
-    both (no_end x) _ first (both (no_end y) _ second (f (rw e at h)))
+    and_from (no_end x) _ first (and_from (no_end y) _ second (f (rw e at h)))
 ends-step x y xs false e h f g =
     let q = rw e at h in
-    both (no_end x) _ (no_end-inside (eqb x 10) (and-left (is_blank (blank_of x)) _ q))
+    and_from (no_end x) _ (no_end-inside (eqb x 10) (and-left (is_blank (blank_of x)) _ q))
     (g (and-right (is_blank (blank_of x)) _ q))
 
 opens-step : (x y : ℕ) (xs : List ℕ) (o : Bool) → opens (x ∷ y ∷ xs) ≡ o
@@ -265,11 +262,11 @@ opens-step x y xs true o h f g =
     no_end-of y 42 (eqb-true _ _ (and-right (eqb x 40) (eqb y 42) o))
     (λ k. absurd (omega (arith, k))) in
     let q = rw o at h in
-    both (no_end x) _ first (both (no_end y) _ second
+    and_from (no_end x) _ first (and_from (no_end y) _ second
     (f (and-right (is_blank (cond (closes xs) 32 256)) _ q)))
 opens-step x y xs false o h f g =
     let q = rw o at h in
-    both (no_end x) _ (no_end-blank x (and-left (is_blank x) _ q)) (g (and-right (is_blank x) _ q))
+    and_from (no_end x) _ (no_end-blank x (and-left (is_blank x) _ q)) (g (and-right (is_blank x) _ q))
 
 -- where a line end stands, no blank does
 no-ends-inside : (b : Bool) (w : List ℕ) → list_all is_blank (without_comments b w) ≡ true
@@ -277,19 +274,15 @@ no-ends-inside : (b : Bool) (w : List ℕ) → list_all is_blank (without_commen
 unfolding without_comments
 no-ends-inside b [] a = refl
 no-ends-inside true (x ∷ []) a =
-    both (no_end x) true (no_end-inside (eqb x 10) (and-left (is_blank (blank_of x)) true a)) refl
+    and_from (no_end x) true (no_end-inside (eqb x 10) (and-left (is_blank (blank_of x)) true a)) refl
 no-ends-inside false (x ∷ []) a =
-    both (no_end x) true (no_end-blank x (and-left (is_blank x) true a)) refl
+    and_from (no_end x) true (no_end-blank x (and-left (is_blank x) true a)) refl
 no-ends-inside true (x ∷ y ∷ xs) a =
     ends-step x y xs _ refl a (λ k. unfold without_comments in no-ends-inside false xs k)
     (λ k. unfold without_comments in no-ends-inside true (y ∷ xs) k)
 no-ends-inside false (x ∷ y ∷ xs) a =
     opens-step x y xs _ refl a (λ k. unfold without_comments in no-ends-inside true xs k)
     (λ k. unfold without_comments in no-ends-inside false (y ∷ xs) k)
-
-not-true : (b : Bool) → not b ≡ true → b ≡ false
-not-true true h = absurd (false≢true h)
-not-true false h = refl
 
 last-line-blanks : (w t : List ℕ) → list_all no_end w ≡ true → last_line (w ++ t) ≡ last_line t
 unfolding last_line

@@ -1,7 +1,8 @@
 -- What the lines of a text reach is what the text reads as.
 use Rattle.std.proofs.Common.{◌≡◌, ℕ, ◌+◌, ◌<◌, ◌≤◌, ◌⊎◌, inl, inr, ◌||◌, Bool, true, false, cond, List, [], ◌∷◌, ◌++◌, map, length, Option, Some, None, option_and_then, Result, Ok, Err, refl, sym, ap, ◌∙◌, arith, leb, ltb, zero-add}
+use Rattle.std.proofs.lemmas.Option.{cond_some, same_Some}
 use Rattle.std.specs.List.{count_by}
-use Rattle.std.proofs.lemmas.Bool.{false≢true, ltb-true, ltb-false, leb-true, leb-false}
+use Rattle.std.proofs.lemmas.Bool.{false≢true, ltb-true, ltb-false, leb-true, leb-false, or_parts}
 use Rattle.std.proofs.lemmas.List.Recursion.{is_count_by}
 use Rattle.bay_base.specs.Results.{◌>>=◌}
 use Rattle.il_text.specs.Forms.{parts_of}
@@ -18,7 +19,7 @@ use Rattle.il_text.specs.declared.fault.TextFault.{TextFault}
 use Rattle.il_text.specs.declared.fault.TextFault.TheVariants.{TooDeep, TooLong}
 use Rattle.il_text.specs.declared.listing.Stage.{Stage}
 use Rattle.il_text.specs.declared.listing.Stage.TheVariants as place
-use Rattle.il_text.proofs.GrammarLemmas.{run, run-append, and-then-same, then-some, cond-some, cond-left, declared-some, closed-some, left-some, flat-one}
+use Rattle.il_text.proofs.GrammarLemmas.{run, run-append, and-then-same, then-some, cond-left, declared-some, closed-some, left-some, flat-one}
 use Rattle.il_text.proofs.DerivedLemmas.{state, derived-runs}
 use Rattle.il_text.proofs.FinishLemmas.{goes_on, stops, ended-derives}
 
@@ -35,10 +36,10 @@ part-depth : (n : ℕ) (r s : Reached) (p : Part) → step n r p ≡ Some s
 unfolding step
 part-depth n r s (heading name) e =
     let d = depth_of r s (with_name name r) refl
-    (cond-some (is_start r.place) (with_name name r) s e).1 in omega (arith, d)
+    (cond_some (is_start r.place) (with_name name r) s e).1 in omega (arith, d)
 part-depth n r s (opening scope) e =
     let d = depth_of r s (at_place (place.Block scope) r) refl
-    (cond-some (is_between_blocks r.place) (at_place (place.Block scope) r) s e).1 in
+    (cond_some (is_between_blocks r.place) (at_place (place.Block scope) r) s e).1 in
     omega (arith, d)
 part-depth n r s (declaring ns kind initial) e =
     let c = declared-some n ns kind initial r s (block_scope r.place) e in
@@ -49,13 +50,13 @@ part-depth n r s closing e =
     let d = depth_of r s (at_place place.Declarations r) refl c.2 in omega (arith, d)
 part-depth n r s (labelling name) e =
     let d = depth_of r s (with_item (label n name) r) refl
-    (cond-some (may_stand r) (with_item (label n name) r) s e).1 in omega (arith, d)
+    (cond_some (may_stand r) (with_item (label n name) r) s e).1 in omega (arith, d)
 part-depth n r s (acting a) e =
     let d = depth_of r s (with_item (action n a) r) refl
-    (cond-some (may_act r a) (with_item (action n a) r) s e).1 in omega (arith, d)
+    (cond_some (may_act r a) (with_item (action n a) r) s e).1 in omega (arith, d)
 part-depth n r s (entering o g) e =
     let d : depth (with_opened n o g r) ≡ depth s =
-    ap depth (cond-some (may_enter r) (with_opened n o g r) s e).1 in omega (arith, d)
+    ap depth (cond_some (may_enter r) (with_opened n o g r) s e).1 in omega (arith, d)
 part-depth n r s leaving e =
     let c = cond-left (may_leave r) (left_here n r r.parentheses) s e in
     let l = left-some n r s r.parentheses c.1 in
@@ -64,7 +65,7 @@ part-depth n r s leaving e =
     omega (arith, d, f)
 part-depth n r s ending e =
     let d = depth_of r s (at_place place.Finished r) refl
-    (cond-some (may_stand r) (at_place place.Finished r) s e).1 in omega (arith, d)
+    (cond_some (may_stand r) (at_place place.Finished r) s e).1 in omega (arith, d)
 
 -- how many pass a test
 abbrev tally : {A : Type 0} → (A → Bool) → List A → ℕ
@@ -116,10 +117,6 @@ quiet-part n (entering o g) h = absurd (false≢true (sym h))
 quiet-part n leaving h = absurd (false≢true (sym h))
 quiet-part n i h = (refl, refl)
 
-or-neither : (a b : Bool) → a || b ≡ false → (a ≡ false) × (b ≡ false)
-or-neither true b h = absurd (false≢true (sym h))
-or-neither false b h = (refl, h)
-
 quiet-sum : (a b : ℕ) (p q : Bool) → p ≡ false → q ≡ false → a + cond p 1 0 ≡ b + cond q 1 0 → a ≡ b
 quiet-sum a b p q e f h = let k : a + 0 ≡ b + 0 = rw (e, f) at h in omega (arith, k)
 
@@ -128,7 +125,7 @@ quiet-depth : (n : ℕ) (ps : List Part) (r s : Reached) → has_instruction ps 
 unfolding steps
 quiet-depth n [] r s h e = let k : r ≡ s = cc in ap depth (sym k)
 quiet-depth n (p ∷ ps) r s h e =
-    let q = or-neither (is_instruction p) (has_instruction ps) h in
+    let q = or_parts (is_instruction p) (has_instruction ps) h in
     let c = then-some (step n r p) (λ t. steps n t ps) s e in
     let one = part-depth n r c.0 p c.1 in
     let f = quiet-part n p q.0 in
@@ -182,9 +179,6 @@ abbrev is_finished : Stage → Bool
 is_finished place.Finished = true
 is_finished other = false
 
-some-same : (s t : Reached) → Some s ≡ Some t → s ≡ t
-some-same s t e = cc
-
 not-finished : (before : List TextLine) (s : Reached) (p : Stage) → p ≡ s.place
     → is_finished p ≡ false
     → run nothing_read (all_parts before) ≡ Some s
@@ -192,7 +186,7 @@ not-finished : (before : List TextLine) (s : Reached) (p : Stage) → p ≡ s.pl
 not-finished before s p e f h program d =
     let k = derived-runs (all_parts before) program d in
     let same : s ≡ state place.Finished program.name program.declarations program.items [] =
-    some-same _ _ (sym h ∙ k) in
+    same_Some _ _ (sym h ∙ k) in
     let q : p ≡ place.Finished = e ∙ ap (λ (t : Reached). t.place) same in
     false≢true (sym f ∙ ap is_finished q)
 

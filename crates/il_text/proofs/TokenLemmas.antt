@@ -1,5 +1,7 @@
 -- What a token is, and what stands before and after one.
 use Rattle.std.proofs.lemmas.Grind.{common_steps}
+use Rattle.std.proofs.lemmas.Bool.{or_parts}
+use Rattle.std.proofs.lemmas.Option.{same_Some}
 use Rattle.std.proofs.Common.{◌≡◌, ℕ, suc, ◌+◌, Bool, true, false, not, cond, ◌&&◌, ◌||◌, List, [], ◌∷◌, ◌++◌, length, take, drop, Option, Some, None, option_map, option_and_then, refl, sym, ap, ◌∙◌, arith}
 use Rattle.std.specs.List.{list_any, position_or_len}
 use Rattle.std.proofs.Math.ListN.{drop_of_length-le}
@@ -15,13 +17,10 @@ use Rattle.il_text.specs.declared.token.Mark.{Mark}
 
 -- ---- options
 
-pub some-same : {A : Type 0} (x y : A) → Some x ≡ Some y → x ≡ y
-some-same x y e = cc
-
 pub map-some : {A B : Type 0} (f : A → B) (o : Option A) (y : B) → option_map f o ≡ Some y
     → (x : A) × (o ≡ Some x) × (f x ≡ y)
 map-some f None y e = absurd cc
-map-some f (Some x) y e = (x, refl, some-same (f x) y e)
+map-some f (Some x) y e = (x, refl, same_Some (f x) y e)
 
 pub then-some : {A B : Type 0} (f : A → Option B) (o : Option A) (y : B)
     → option_and_then f o ≡ Some y
@@ -34,31 +33,23 @@ pub if-some : {A : Type 0} (b : Bool) (o : Option A) (y : A) → cond b o None �
 if-some true o y e = (refl, e)
 if-some false o y e = absurd cc
 
-pub both-true : (a b : Bool) → a && b ≡ true → (a ≡ true) × (b ≡ true)
-both-true true b e = (refl, e)
-both-true false b e = absurd cc
-
-pub either-false : (a b : Bool) → a || b ≡ false → (a ≡ false) × (b ≡ false)
-either-false true b e = absurd cc
-either-false false b e = (refl, e)
-
 -- ---- tokens
 
 pub named-is : (s : Symbol) (n : List ℕ) → name_of s ≡ Some n → s ≡ name n
-named-is (name m) n e = ap (λ (x : List ℕ). name x) (some-same m n e)
+named-is (name m) n e = ap (λ (x : List ℕ). name x) (same_Some m n e)
 named-is i n e = absurd cc
 
 pub literal-is : (s : Symbol) (v : Literal) → literal_of s ≡ Some v → s ≡ literal v
-literal-is (literal u) v e = ap (λ (x : Literal). literal x) (some-same u v e)
+literal-is (literal u) v e = ap (λ (x : Literal). literal x) (same_Some u v e)
 literal-is i v e = absurd cc
 
 pub type-is : (s : Symbol) (k : DeclaredType) → type_of s ≡ Some k → s ≡ type_word k
-type-is (type_word l) k e = ap (λ (x : DeclaredType). type_word x) (some-same l k e)
+type-is (type_word l) k e = ap (λ (x : DeclaredType). type_word x) (same_Some l k e)
 type-is i k e = absurd cc
 
 pub elementary-is : (s : Symbol) (k : DeclaredType) → elementary_of s ≡ Some k
     → (t : ElementaryType) × (s ≡ type_word (Elementary t)) × (k ≡ Elementary t)
-elementary-is (type_word (Elementary t)) k e = (t, refl, sym (some-same (Elementary t) k e))
+elementary-is (type_word (Elementary t)) k e = (t, refl, sym (same_Some (Elementary t) k e))
 elementary-is i k e = absurd cc
 
 pub mark-is : (m n : Mark) → same_mark m n ≡ true → n ≡ m
@@ -75,7 +66,7 @@ pub first_position : (f : Symbol → Bool) (front back : List Symbol) (s : Symbo
 first_position f [] back s none is =
     ap (λ (b : Bool). cond (not b) (1 + position_or_len f back) 0) is
 first_position f (x ∷ front) back s none is =
-    let two = either-false (f x) (list_any f front) none in
+    let two = or_parts (f x) (list_any f front) none in
     let more : position_or_len f (front ++ s ∷ back) ≡ length front =
     first_position f front back s two.1 is in
     ap (λ (b : Bool). cond (not b) (1 + position_or_len f (front ++ s ∷ back)) 0) two.0
@@ -86,7 +77,7 @@ pub no_position : (f : Symbol → Bool) (ts : List Symbol) → list_any f ts ≡
     → position_or_len f ts ≡ length ts
 no_position f [] none = refl
 no_position f (x ∷ ts) none =
-    let two = either-false (f x) (list_any f ts) none in
+    let two = or_parts (f x) (list_any f ts) none in
     let more : position_or_len f ts ≡ length ts = no_position f ts two.1 in
     ap (λ (b : Bool). cond (not b) (1 + position_or_len f ts) 0) two.0 ∙ ap (λ (n : ℕ). 1 + n) more
     ∙ (let e : 1 + length ts ≡ suc (length ts) = omega arith in e)
@@ -133,7 +124,7 @@ pub cut_at : (front back a b : List Symbol) → after_front front back ≡ Some 
 cut_at front [] a b e = absurd cc
 cut_at front (s ∷ rest) a b e =
     let p : ◌≡◌ {A = List Symbol × List Symbol} (front, rest) (a, b) =
-    some-same (front, rest) (a, b) e in (
+    same_Some (front, rest) (a, b) e in (
       s,
       ap (λ (q : List Symbol × List Symbol). q.0) p,
       ap (λ (q : List Symbol × List Symbol). s ∷ q.1) p,

@@ -1,6 +1,7 @@
 -- An instruction that is allowed on kinds is allowed on kinds within them, and gives kinds within
 -- those that it gives there.
 use Rattle.std.proofs.Common.{sym, ◌≡◌, ℕ, Bool, true, false, cond, List, [], ◌∷◌, refl, ap, subst, ◌∙◌, Option, Some, None}
+use Rattle.std.proofs.lemmas.Option.{same_Some, cond_some}
 use Rattle.std.specs.Prelude.{nat_lt, slice_get}
 use Rattle.bay_base.specs.Options.{◌>>=◌}
 use Rattle.bay_base.specs.declared.types.ElementaryType.{ElementaryType}
@@ -22,9 +23,6 @@ use Rattle.il_image.specs.Effects.{are_compared, below, compares, effect, kind_o
 use Rattle.il_image.specs.Kinds.{AreWithin, is_within}
 use Rattle.il_image.proofs.KindLemmas.{within-along, within-self, same-self, same-is}
 
-pub some-same : {A : Type 0} (x y : A) → Some x ≡ Some y → x ≡ y
-some-same x y e = cc
-
 pub not-both : {A : Type 0} (o : Option A) (x : A) → o ≡ None → o ≡ Some x → ⊥
 not-both o x e f = cc
 
@@ -36,7 +34,7 @@ bind-some (Some x) f y e = (x, refl, e)
 pub bind-is : {A B : Type 0} (o : Option A) (f : A → Option B) (x : A) (r : Option B) → o ≡ Some x
     → f x ≡ r → (o >>= f) ≡ r
 bind-is None f x r e g = absurd cc
-bind-is (Some y) f x r e g = ap f (some-same y x e) ∙ g
+bind-is (Some y) f x r e g = ap f (same_Some y x e) ∙ g
 
 -- What comes of smaller kinds is there, and within what came of the others.
 pub record Lowers (made : Option (List CellKind)) (upper : List CellKind) : Type 0 where
@@ -48,7 +46,7 @@ lowers-at : (made : Option (List CellKind)) (xs ys upper : List CellKind) → ma
     → AreWithin xs ys
     → Some ys ≡ Some upper → Lowers made upper
 lowers-at made xs ys upper e h is =
-    record { lower = xs; is = e; within = subst (AreWithin xs) (some-same ys upper is) h }
+    record { lower = xs; is = e; within = subst (AreWithin xs) (same_Some ys upper is) h }
 
 below-case : (wanted x y : CellKind) (xs ys rest : List CellKind) (b : Bool)
     → is_within y wanted ≡ b
@@ -125,10 +123,6 @@ shown-lower (Plain u) (NotZero v) t h e = absurd cc
 shown-lower (NotZero w) (NotZero v) t h e =
     ap (λ (w : ElementaryType). Some w) (same-is (type_of_width w) (type_of_width v) h) ∙ e
 
-if-some : {A : Type 0} (b : Bool) (x y : A) → cond b (Some x) None ≡ Some y → (b ≡ true) × (x ≡ y)
-if-some true x y e = (refl, some-same x y e)
-if-some false x y e = absurd cc
-
 compares-lower : (c : Comparison) (xs ys upper : List CellKind) → AreWithin xs ys
     → compares c ys ≡ Some upper → Lowers (compares c xs) upper
 compares-lower c [] [] upper h e = absurd cc
@@ -144,7 +138,7 @@ compares-lower c (x ∷ v ∷ xs) (y ∷ u ∷ ys) upper h e =
     let s = bind-some (type_of_kind u)
     (λ (s : ElementaryType). cond (are_compared c s t.0) (Some (Plain elementary.Bool ∷ ys))
     None) upper t.2 in
-    let b = if-some (are_compared c s.0 t.0) (Plain elementary.Bool ∷ ys) upper s.2 in
+    let b = cond_some (are_compared c s.0 t.0) (Plain elementary.Bool ∷ ys) upper s.2 in
     let made : compares c (x ∷ v ∷ xs) ≡ Some (Plain elementary.Bool ∷ xs) =
     (rw (shown-lower x y t.0 h.0 t.1) (rw (shown-lower v u s.0 h.1.0 s.1) (rw b.0 refl))) in
     lowers-at (compares c (x ∷ v ∷ xs)) (Plain elementary.Bool ∷ xs) (Plain elementary.Bool ∷ ys)

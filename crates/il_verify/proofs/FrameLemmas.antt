@@ -1,5 +1,6 @@
 -- What comes of a frame where another path comes to its place.
 use Rattle.std.proofs.Common.{◌≡◌, ℕ, ◌≤◌, max, List, [], ◌∷◌, length, refl, sym, ap, subst, ◌∙◌, arith, Option, Some, None, reverse, ◌⊎◌, inl, inr}
+use Rattle.std.proofs.lemmas.Option.{same_Some}
 use Rattle.std.proofs.lemmas.List.{reverse-reverse, length-reverse}
 use Rattle.std.proofs.lemmas.Bool.{cases_lt}
 use Rattle.std.specs.Prelude.{option_map, Result, Ok, Err, IfErr}
@@ -8,7 +9,6 @@ use Rattle.il_image.specs.Kinds.{AreWithin}
 use Rattle.il_image.proofs.KindLemmas.{join-over, join-least}
 use Rattle.il_verify.specs.declared.frame.Frame.{Frame}
 use Rattle.il_verify.specs.Frames.{Clashing, Grows, PlainFrame, join_all, plain_frame}
-use Rattle.il_verify.proofs.EffectLemmas.{some-same}
 use Rattle.il_verify.proofs.WithinLemmas.{all-within-along, all-within-self, within-reverse}
 
 join-all-over : (xs ys : List CellKind) → length xs ≡ length ys
@@ -56,13 +56,13 @@ grown olds news a b e =
     let over = join-all-over olds news e in
     record {
       over = within-reverse news (join_all olds news) over.1;
-      keeps = λ m is. let same : plain olds a ≡ m = some-same _ m is in
+      keeps = λ m is. let same : plain olds a ≡ m = same_Some _ m is in
           subst (λ (v : PlainFrame). AreWithin v.kinds (reverse (join_all olds news))) same
           (within-reverse olds (join_all olds news) over.0);
       least = λ top h g. join-all-least-reversed olds news top (g (plain olds a) refl) h;
       longer = omega arith;
       keeps_longer = λ m is. let same : plain olds a ≡ m =
-          some-same _ m is in subst (λ (v : PlainFrame). v.longest ≤ max a b) same (omega arith);
+          same_Some _ m is in subst (λ (v : PlainFrame). v.longest ≤ max a b) same (omega arith);
       from = which a b (plain olds a) refl;
     }
 
@@ -98,14 +98,14 @@ grows-along come old mid new h g = record {
   over = g.over;
   keeps = λ m is. all-within-along m.kinds mid.kinds new.kinds (h.keeps m is) (g.keeps mid refl);
   least = λ top c o. g.least top c
-      (λ m is. subst (λ (v : PlainFrame). AreWithin v.kinds top) (some-same mid m is)
+      (λ m is. subst (λ (v : PlainFrame). AreWithin v.kinds top) (same_Some mid m is)
       (h.least top c o));
   longer = g.longer;
   keeps_longer = λ m is. let first : m.longest ≤ mid.longest = h.keeps_longer m is in
       let then : mid.longest ≤ new.longest = g.keeps_longer mid refl in omega arith;
   from = elim g.from [
     | inl e ↦ inl e
-    | inr w ↦ (let same : mid ≡ w.0 = some-same mid w.0 w.1 in
+    | inr w ↦ (let same : mid ≡ w.0 = same_Some mid w.0 w.1 in
         let e : new.longest ≡ mid.longest = w.2 ∙ ap (λ (v : PlainFrame). v.longest) (sym same) in
         elim h.from [ inl f ↦ inl (e ∙ f) | inr v ↦ inr (v.0, v.1, e ∙ v.2) ])
   ];

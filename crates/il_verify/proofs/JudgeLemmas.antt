@@ -4,7 +4,7 @@ use Rattle.std.proofs.Common.{◌≡◌, ℕ, suc, ◌<◌, ◌≤◌, Bool, tru
 use Rattle.std.specs.Prelude.{nat_lt, slice_get}
 use Rattle.std.proofs.lemmas.Bool.{cases_lt, lt-ltb, le-ltb}
 use Rattle.std.proofs.lemmas.List.{length-map, map-append}
-use Rattle.std.proofs.lemmas.Option.{slice_get_within}
+use Rattle.std.proofs.lemmas.Option.{slice_get_within, same_Some}
 use Rattle.std.proofs.lemmas.Simd.{map-map}
 use Rattle.bay_base.specs.Options.{◌>>=◌}
 use Rattle.bay_base.specs.declared.types.ElementaryType.{ElementaryType}
@@ -31,7 +31,7 @@ use Rattle.il_verify.specs.declared.fault.VerifyFault.TheVariants.{StackEmpty, S
 use Rattle.il_verify.specs.declared.slots.SlotType.{SlotType}
 use Rattle.il_verify.specs.Judging.{◌or_else◌, fault_of, is_full, misfit, missing, operands, without_divisor, unfit, where_so, writes_read_only}
 use Rattle.il_verify.specs.Slots.{point_slot, slots_of, types_of, variable_slot}
-use Rattle.il_verify.proofs.EffectLemmas.{some-same, bind-some}
+use Rattle.il_verify.proofs.EffectLemmas.{bind-some}
 
 pub types-are : (image : Image) → types_of (slots_of image) ≡ slot_types image
 unfolding slots_of
@@ -115,7 +115,7 @@ below-some wanted [] rest e = absurd cc
 below-some wanted (k ∷ kinds) rest e = go (is_within k wanted) e
   where
     go : (b : Bool) → cond b (Some kinds) None ≡ Some rest → suc (length kinds) ≡ suc (length rest)
-    go true f = ap (λ (v : List CellKind). suc (length v)) (some-same kinds rest f)
+    go true f = ap (λ (v : List CellKind). suc (length v)) (same_Some kinds rest f)
     go false f = absurd cc
 
 looks-some : (wanted : CellKind) (kinds gives : List CellKind) → looks_at wanted kinds ≡ Some gives

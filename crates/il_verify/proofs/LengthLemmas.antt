@@ -1,5 +1,6 @@
 -- The longest paths: what holds before a place, and what one visit makes of it.
 use Rattle.std.proofs.Common.{◌≡◌, ℕ, zero, suc, ◌+◌, ◌<◌, ◌≤◌, max, Bool, true, false, List, length, refl, sym, ap, subst, ◌∙◌, arith, add-one, Some, None, ◌⊎◌, inl, inr}
+use Rattle.std.proofs.lemmas.Option.{same_Some}
 use Rattle.std.specs.Prelude.{IsTrue, ◌↔◌}
 use Rattle.std.proofs.lemmas.Bool.{cases_lt, cases_eq}
 use Rattle.il_image.specs.declared.instr.Instr.{Instr}
@@ -11,7 +12,7 @@ use Rattle.il_image.proofs.PlaceLemmas.{goes-forward}
 use Rattle.il_verify.specs.Frames.{PlainFrame, PlainFrames, Visits}
 use Rattle.il_verify.specs.Passing.{raised_budget}
 use Rattle.il_verify.specs.Verdicts.{IsBudget}
-use Rattle.il_verify.proofs.EffectLemmas.{not-both, some-same}
+use Rattle.il_verify.proofs.EffectLemmas.{not-both}
 use Rattle.il_verify.proofs.OrderLemmas.{none-between}
 use Rattle.il_verify.proofs.StepLemmas.{spreads}
 use Rattle.il_verify.proofs.TableLemmas.{leads-forward, leads-on, same-instr, some-way}
@@ -100,7 +101,7 @@ module _ (image : Image) (place : ℕ) (instr : Instr) (next : ℕ) (come : Plai
   to-here n p =
       let m = l.most place n (omega arith) (arrives-at n place (omega arith) p) in
       let same : m.0.longest ≡ come.longest =
-      ap (λ (v : PlainFrame). v.longest) (some-same m.0 come (sym m.1 ∙ was)) in
+      ap (λ (v : PlainFrame). v.longest) (same_Some m.0 come (sym m.1 ∙ was)) in
       let least : n ≤ m.0.longest = m.2 in
       omega arith
 
@@ -137,7 +138,7 @@ module _ (image : Image) (place : ℕ) (instr : Instr) (next : ℕ) (come : Plai
     | inl c ↦
         (let f : place < next = forward in
         let same : c.1.0.longest ≡ m.longest =
-        ap (λ (v : PlainFrame). v.longest) (some-same c.1.0 m (sym c.1.1 ∙ is)) in
+        ap (λ (v : PlainFrame). v.longest) (same_Some c.1.0 m (sym c.1.1 ∙ is)) in
         let its : Path image.code c.1.0.longest q = elim c.1.2.from [
           | inl e ↦ subst (λ (n : ℕ). Path image.code n q) (sym e)
               (path-on image.code come.longest place q (l.paths place come (omega arith) was)
@@ -269,7 +270,7 @@ lengths-first code frames come is one none = record {
     | inl at ↦
         (let same : come.longest ≡ m.longest =
         ap (λ (v : PlainFrame). v.longest)
-        (some-same come m (sym is ∙ (ap frames (sym at) ∙ here))) in
+        (same_Some come m (sym is ∙ (ap frames (sym at) ∙ here))) in
         subst (λ (n : ℕ). Path code n q) (sym one ∙ same) at)
     | inr ne ↦ absurd (not-both (frames q) m (none q ne) here)
   ];

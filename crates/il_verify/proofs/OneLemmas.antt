@@ -1,5 +1,6 @@
 -- An image has one first fault.
 use Rattle.std.proofs.lemmas.Grind.{common_steps}
+use Rattle.std.proofs.lemmas.Option.{same_Some}
 use Rattle.std.proofs.Common.{◌≡◌, ℕ, ◌<◌, List, [], ◌∷◌, length, true, refl, sym, ap, subst, ◌∙◌, arith, Option, Some, None, ◌⊎◌, inl, inr}
 use Rattle.std.specs.Prelude.{zero, suc}
 use Rattle.std.proofs.lemmas.Bool.{cases_lt}
@@ -20,7 +21,6 @@ use Rattle.il_verify.specs.declared.fault.VerifyFault.TheVariants.{StackEmpty, S
 use Rattle.il_verify.specs.Judging.{fault_of}
 use Rattle.il_verify.specs.Slots.{slots_of}
 use Rattle.il_verify.specs.Refusals.{after, Arrives, Clashes, Comes, FailsAt, GoesPast, HasOwn, IsFaultAt, IsFront, IsJoin, IsRefusal, JumpsBadly, JumpsTo, Passes, own_fault}
-use Rattle.il_verify.proofs.EffectLemmas.{some-same}
 use Rattle.il_verify.proofs.TableLemmas.{leads-by-jump}
 
 -- ---- kinds
@@ -126,7 +126,7 @@ fronts-alike image t u d e place f g low high q less =
 
 here-same : (code : List ℕ) (place : ℕ) (i j : Instr) (n m : ℕ) → instr_at code place ≡ Some (i, n)
     → instr_at code place ≡ Some (j, m) → ◌≡◌ {A = Instr × ℕ} (i, n) (j, m)
-here-same code place i j n m h g = some-same (i, n) (j, m) (sym h ∙ g)
+here-same code place i j n m h g = same_Some (i, n) (j, m) (sym h ∙ g)
 
 leads-same : (x y : Instr × ℕ) (to : ℕ) → x ≡ y → LeadsTo x.0 x.1 to → LeadsTo y.0 y.1 to
 leads-same x y to e h = subst (λ (z : Instr × ℕ). LeadsTo z.0 z.1 to) e h
@@ -258,7 +258,7 @@ past-or-not image t place g b all =
 reasons-same : (image : Image) (t : Table) (place : ℕ) (f g : VerifyFault) → Reason image t place f
     → Reason image t place g → f ≡ g
 reasons-same image t place f g (inl h) (inl k) =
-    some-same f g (sym h.1 ∙ own-same image t place h.0 k.0 ∙ k.1)
+    same_Some f g (sym h.1 ∙ own-same image t place h.0 k.0 ∙ k.1)
 reasons-same image t place f g (inl h) (inr (inl k)) =
     absurd (own-or-none image t place f h.0 k.1.at h.1 k.1.faultless)
 reasons-same image t place f g (inl h) (inr (inr (inl k))) =
@@ -321,7 +321,7 @@ no-reason image t place fault p m (inr (inr (inr h))) =
     let e = met image t place c.at (arrives_there image t place p m) in
     let same =
     ap (λ (x : Instr × ℕ). after image x.0 c.at.kinds) e.0 ∙ ap (after image p.instr) e.1 in
-    let gives = some-same c.gives p.gives (sym c.effect ∙ same ∙ p.effect) in
+    let gives = same_Some c.gives p.gives (sym c.effect ∙ same ∙ p.effect) in
     let leads = leads-same (c.at.instr, c.at.next) (p.instr, p.next) c.to e.0 c.leads in
     c.unequal (p.depths c.to leads c.others c.comes ∙ sym (ap length gives))
 

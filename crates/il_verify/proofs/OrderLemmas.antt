@@ -1,5 +1,6 @@
 -- The places of the code in their order.
 use Rattle.std.proofs.Common.{◌≡◌, ℕ, zero, suc, ◌+◌, ◌-◌, ◌<◌, ◌≤◌, Bool, true, false, List, [], ◌∷◌, length, drop, refl, sym, ap, subst, ◌∙◌, arith, Option, Some, None, inl, inr}
+use Rattle.std.proofs.lemmas.Option.{same_Some}
 use Rattle.std.specs.Prelude.{◌↔◌, option_map, slice_get}
 use Rattle.std.proofs.Math.ListN.{replicate, set}
 use Rattle.std.proofs.Math.Seq.{drop-append_seam, drop-drop}
@@ -14,7 +15,7 @@ use Rattle.il_image.specs.Tables.{IsPlace, behind_place, place_of}
 use Rattle.il_image.proofs.InstrLemmas.{back-instr}
 use Rattle.il_image.proofs.PlaceLemmas.{Forward, forward, goes-forward}
 use Rattle.il_verify.specs.Frames.{MarksPlaces}
-use Rattle.il_verify.proofs.EffectLemmas.{not-both, some-same}
+use Rattle.il_verify.proofs.EffectLemmas.{not-both}
 
 -- ---- one place behind the other
 
@@ -43,7 +44,7 @@ before-case code n next (Some place) is e = read (instr_at code place) refl e
           place = place;
           instr = r.0;
           is = is;
-          here = here ∙ ap (λ (m : ℕ). Some (r.0, m)) (some-same r.1 next f);
+          here = here ∙ ap (λ (m : ℕ). Some (r.0, m)) (same_Some r.1 next f);
         }
 
 pub before : (code : List ℕ) (n next : ℕ) → place_of code (suc n) ≡ Some next → Before code n next
@@ -58,7 +59,7 @@ pub rises : (code : List ℕ) (n k p q : ℕ) → place_of code n ≡ Some p
 rises code n zero p q e f =
     let b = before code (n + 0) q f in
     let same : b.place ≡ p =
-    some-same b.place p (sym b.is ∙ at-number code (n + 0) n (omega arith) ∙ e) in
+    same_Some b.place p (sym b.is ∙ at-number code (n + 0) n (omega arith) ∙ e) in
     let g : b.place < q = (goes-forward code b.place b.instr q b.here).0 in
     omega arith
 rises code n (suc k) p q e f =
@@ -75,14 +76,14 @@ pub none-between : (code : List ℕ) (n m p q : ℕ) (i : Instr) (next : ℕ) �
 none-between code n m p q i next e here f less = elim (cases_lt n m) [
   | inr le ↦ elim (cases_eq m n) [
     | inl same ↦ absurd (let equal : p ≡ q =
-        some-same p q (sym e ∙ ap (place_of code) (sym same) ∙ f) in omega arith)
+        same_Some p q (sym e ∙ ap (place_of code) (sym same) ∙ f) in omega arith)
     | inr ne ↦ absurd (let back : q < p =
         rises code m (n - suc m) q p f (at-number code (suc (m + (n - suc m))) n (omega arith) ∙ e)
         in omega arith)
   ]
   | inl lt ↦ elim (cases_eq m (suc n)) [
     | inl same ↦ (let equal : next ≡ q =
-        some-same next q (sym (place-behind code n p i next e here) ∙ ap (place_of code) (sym same)
+        same_Some next q (sym (place-behind code n p i next e here) ∙ ap (place_of code) (sym same)
         ∙ f) in omega arith)
     | inr ne ↦ (let later : next < q =
         rises code (suc n) (m - suc (suc n)) next q (place-behind code n p i next e here)
@@ -113,7 +114,7 @@ rest-behind code place next j [] are e here =
     absurd (omega arith)
 rest-behind code place next j (i ∷ more) are e here =
     let pair : (i, length code - length (all_spelled more)) ≡ (j, next) =
-    some-same (i, length code - length (all_spelled more)) (j, next)
+    same_Some (i, length code - length (all_spelled more)) (j, next)
     (sym (read-first code place i more are.0 e) ∙ here) in
     let second : length code - length (all_spelled more) ≡ next =
     ap (λ (q : Instr × ℕ). q.1) pair in
@@ -131,7 +132,7 @@ rest-behind code place next j (i ∷ more) are e here =
 pub rest-at : (code : List ℕ) → IsCode code → (n place : ℕ) → place_of code n ≡ Some place
     → Rest code place
 rest-at code c zero place e =
-    let start : 0 ≡ place = some-same 0 place e in
+    let start : 0 ≡ place = same_Some 0 place e in
     subst (Rest code) start (record { instrs = c.instrs; are = c.are; is = c.spelled })
 rest-at code c (suc n) place e =
     let b = before code n place e in

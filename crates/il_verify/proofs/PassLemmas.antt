@@ -1,5 +1,6 @@
 -- What holds before each place of the pass, and what comes of a place where it stops.
 use Rattle.std.proofs.Common.{◌≡◌, ℕ, suc, ◌+◌, ◌<◌, ◌≤◌, max, Bool, List, [], length, refl, sym, ap, subst, ◌∙◌, arith, Option, Some, None, ◌⊎◌, inl, inr}
+use Rattle.std.proofs.lemmas.Option.{same_Some}
 use Rattle.std.specs.Prelude.{IsTrue, ◌↔◌}
 use Rattle.std.proofs.lemmas.Bool.{cases_lt, cases_eq}
 use Rattle.il_image.specs.declared.instr.Instr.{Instr}
@@ -15,7 +16,6 @@ use Rattle.il_verify.specs.Frames.{Clashing, Collides, ComesWhere, FailsVisit, G
 use Rattle.il_verify.specs.Passing.{raised_budget}
 use Rattle.il_verify.specs.Refusals.{Arrives, Clashes, FailsAt, HasOwn, IsFaultAt, IsFront, IsJoin, JumpsTo}
 use Rattle.il_verify.specs.Verdicts.{IsMeasured}
-use Rattle.il_verify.proofs.EffectLemmas.{some-same}
 use Rattle.il_verify.proofs.JudgeLemmas.{IsOwn, own-of, types-are}
 use Rattle.il_verify.proofs.LengthLemmas.{Lengths, is-budget, lengths-first, lengths-more, path-short}
 use Rattle.il_verify.proofs.MapLemmas.{beside-here, beside-other}
@@ -66,7 +66,7 @@ module _ (image : Image) (place : ℕ) (instr : Instr) (next : ℕ) (come : Plai
   deepest-more = record {
     most = λ q kinds is. elim (cases_eq q place) [
       | inl e ↦ (let same : length come.kinds ≡ length kinds =
-          ap length (some-same come.kinds kinds (sym at-it ∙ ap tables (sym e) ∙ is)) in
+          ap length (same_Some come.kinds kinds (sym at-it ∙ ap tables (sym e) ∙ is)) in
           omega arith)
       | inr ne ↦ (let h : length kinds ≤ depth = p.deepest.most q kinds (sym (off-it q ne) ∙ is) in
           omega arith)

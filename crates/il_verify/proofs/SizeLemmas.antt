@@ -1,5 +1,6 @@
 -- The number of octets of the instruction that begins at a place is told by its first octet.
 use Rattle.std.proofs.Common.{arith}
+use Rattle.std.proofs.lemmas.Option.{same_Some}
 use Rattle.std.proofs.lemmas.Grind.{common_steps}
 use Rattle.std.proofs.Common.{◌≡◌, ℕ, zero, suc, ◌+◌, List, [], ◌∷◌, ◌++◌, length, drop, get_or, refl, sym, ap, ◌∙◌, Some, None}
 use Rattle.std.specs.Prelude.{ℤ}
@@ -15,7 +16,7 @@ use Rattle.il_image.proofs.InstrLemmas.{opcode-back}
 use Rattle.il_image.proofs.PlaceLemmas.{stands}
 use Rattle.il_image.specs.declared.opcode.Opcode.{Opcode}
 use Rattle.il_verify.specs.Sizes.{size_of_opcode}
-use Rattle.il_verify.proofs.EffectLemmas.{not-both, some-same}
+use Rattle.il_verify.proofs.EffectLemmas.{not-both}
 use Rattle.il_verify.proofs.OrderLemmas.{There}
 
 length-signed : (t : ElementaryType) (z : ℤ)
@@ -52,7 +53,7 @@ pub next-by : (code : List ℕ) (place d : ℕ) (o : Opcode) (n : ℕ) (t : Ther
     → instr_at code place ≡ Some (t.instr, place + n)
 next-by code place d o n t fits e size =
     let same : opcode_of_instr t.instr ≡ o =
-    some-same (opcode_of_instr t.instr) o
+    same_Some (opcode_of_instr t.instr) o
     (sym (opcode-there code place d t.instr t.next fits t.is) ∙ e) in
     let next : t.next ≡ place + n =
     next-there code place t.instr t.next fits t.is

@@ -1,5 +1,6 @@
 -- What holds before each place of the pass, and what one visit makes of it.
 use Rattle.std.proofs.Common.{◌≡◌, ℕ, suc, ◌+◌, ◌<◌, ◌≤◌, true, false, List, [], length, refl, sym, ap, subst, ◌∙◌, arith, Option, Some, None, ◌⊎◌, inl, inr}
+use Rattle.std.proofs.lemmas.Option.{same_Some}
 use Rattle.std.proofs.lemmas.Bool.{cases_lt, cases_eq}
 use Rattle.bay_base.specs.declared.types.ElementaryType.{ElementaryType}
 use Rattle.il_image.specs.declared.instr.Instr.{Instr}
@@ -14,7 +15,7 @@ use Rattle.il_image.specs.Tables.{IsPlace, LeadsTo, Table, place_of}
 use Rattle.il_image.proofs.PlaceLemmas.{goes-forward}
 use Rattle.il_verify.specs.Frames.{ComesWhere, GoesOn, Grows, LeadsRight, PlainFrame, PlainFrames, Visits, beside}
 use Rattle.il_verify.specs.Refusals.{Comes, IsFront, IsJoin, JumpsTo, Passes, after}
-use Rattle.il_verify.proofs.EffectLemmas.{not-both, some-same}
+use Rattle.il_verify.proofs.EffectLemmas.{not-both}
 use Rattle.il_verify.proofs.FrameLemmas.{grows-along}
 use Rattle.il_verify.proofs.JudgeLemmas.{types-are}
 use Rattle.il_verify.proofs.MapLemmas.{beside-here, beside-other}
@@ -220,14 +221,14 @@ module _ (image : Image) (place : ℕ) (instr : Instr) (next : ℕ) (come : Plai
           (let same = same-instr image.code place f.instr instr f.next next
           (ap (instr_at image.code) (sym e) ∙ f.here) here in
           let known : f.before ≡ come.kinds =
-          some-same f.before come.kinds (sym f.known ∙ ap table_more e ∙ at_place) in
+          same_Some f.before come.kinds (sym f.known ∙ ap table_more e ∙ at_place) in
           let gives : Some kinds ≡ Some v.gives =
           sym f.gives ∙ ap (λ (j : Instr). after image j f.before) same.0
           ∙ ap (after image instr) known ∙ effect_is in
           inr (
             subst (λ (n : ℕ). LeadsTo instr n q) same.1
                 (subst (λ (j : Instr). LeadsTo j f.next q) same.0 f.leads),
-            sym (some-same kinds v.gives gives),
+            sym (same_Some kinds v.gives gives),
           ))
       | inr ne ↦
           (let known : s.table d.0 ≡ Some f.before = sym (not-at d.0 ne) ∙ f.known in
@@ -370,7 +371,7 @@ module _ (image : Image) (place : ℕ) (instr : Instr) (next : ℕ) (come : Plai
     joined = λ q kinds is. elim (cases_eq q place) [
       | inl e ↦
           (let its : come.kinds ≡ kinds =
-          some-same come.kinds kinds (sym at_place ∙ ap table_more (sym e) ∙ is) in
+          same_Some come.kinds kinds (sym at_place ∙ ap table_more (sym e) ∙ is) in
           let there : IsJoin image table_more place place kinds =
           subst (IsJoin image table_more place place) its
           (join-keep image place place s.table table_more come.kinds same-so-far joined-here) in

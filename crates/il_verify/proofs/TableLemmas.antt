@@ -1,6 +1,7 @@
 -- The least table of code whose places have no fault agrees with the code, and a first fault leaves
 -- no table that agrees.
 use Rattle.std.proofs.Common.{◌≡◌, ℕ, zero, suc, ◌+◌, ◌<◌, ◌≤◌, true, false, List, [], length, refl, sym, ap, subst, ◌∙◌, arith, Option, Some, None, ◌⊎◌, inl, inr}
+use Rattle.std.proofs.lemmas.Option.{same_Some}
 use Rattle.std.specs.Prelude.{IsSome}
 use Rattle.std.proofs.lemmas.Bool.{cases_eq}
 use Rattle.bay_base.specs.declared.types.ElementaryType.{ElementaryType}
@@ -22,7 +23,7 @@ use Rattle.il_verify.specs.Judging.{fault_of}
 use Rattle.il_verify.specs.Refusals.{Arrives, Clashes, Comes, GoesPast, IsFaultAt, IsFront, IsJoin, IsRefusal, JumpsBadly, JumpsTo, Passes, after, own_fault}
 use Rattle.il_verify.specs.Slots.{slots_of, types_of}
 use Rattle.il_verify.specs.Verdicts.{IsDepth, IsLongest, IsSafe, KeepsReadOnly}
-use Rattle.il_verify.proofs.EffectLemmas.{effect-lower, not-both, some-same}
+use Rattle.il_verify.proofs.EffectLemmas.{effect-lower, not-both}
 use Rattle.il_verify.proofs.JudgeLemmas.{allowed-faultless, faultless-fine, types-are}
 use Rattle.il_verify.proofs.WithinLemmas.{all-within-along, within-length, within-none}
 
@@ -61,7 +62,7 @@ leads-on code from to i next here leads =
 pub same-instr : (code : List ℕ) (place : ℕ) (i j : Instr) (n m : ℕ)
     → instr_at code place ≡ Some (i, n) → instr_at code place ≡ Some (j, m) → (i ≡ j) × (n ≡ m)
 same-instr code place i j n m e f =
-    let pair : (i, n) ≡ (j, m) = some-same (i, n) (j, m) (sym e ∙ f) in
+    let pair : (i, n) ≡ (j, m) = same_Some (i, n) (j, m) (sym e ∙ f) in
     (ap (λ (q : Instr × ℕ). q.0) pair, ap (λ (q : Instr × ℕ). q.1) pair)
 
 value_of : {A : Type 0} (o : Option A) → IsSome o → (x : A) × (o ≡ Some x)
@@ -84,7 +85,7 @@ passed-fault : (image : Image) (table : Table) (place : ℕ) (i : Instr) (next :
     → fault_of (slots_of image) (length image.timers) i kinds ≡ None
 passed-fault image table place i next kinds p here known =
     let same = same-instr image.code place p.instr i p.next next p.here here in
-    let its : p.kinds ≡ kinds = some-same p.kinds kinds (sym p.known ∙ known) in
+    let its : p.kinds ≡ kinds = same_Some p.kinds kinds (sym p.known ∙ known) in
     ap (λ (j : Instr). fault_of (slots_of image) (length image.timers) j kinds) (sym same.0)
     ∙ ap (fault_of (slots_of image) (length image.timers) p.instr) (sym its) ∙ p.faultless
 
@@ -143,7 +144,7 @@ module _ (image : Image) (table : Table) (front : IsFront image table (length im
   allowed-there place kinds is =
       let o = front.only place kinds is in
       let p = front.passes place o.0 o.1 in
-      let its : p.kinds ≡ kinds = some-same p.kinds kinds (sym p.known ∙ is) in
+      let its : p.kinds ≡ kinds = same_Some p.kinds kinds (sym p.known ∙ is) in
       record {
         instr = p.instr;
         next = p.next;
@@ -211,7 +212,7 @@ module _ (image : Image) (table : Table) (done : ℕ) (front : IsFront image tab
       → Comes image table bound to others → AreWithin others top
   comes-within bound to top others is below comes = elim comes [
     | inl e ↦
-        (let same : [] ≡ top = some-same [] top (sym agrees_so.starts ∙ ap other (sym e.0) ∙ is) in
+        (let same : [] ≡ top = same_Some [] top (sym agrees_so.starts ∙ ap other (sym e.0) ∙ is) in
         subst (λ (v : List CellKind). AreWithin v top) (sym e.1) (subst (AreWithin []) same tt))
     | inr c ↦
         (let f = c.2 in
@@ -221,13 +222,13 @@ module _ (image : Image) (table : Table) (done : ℕ) (front : IsFront image tab
         let l = effect-lower (slot_types image) (length image.timers) a.instr f.before e.0 a.after
         e.2 a.effect in
         let its : l.lower ≡ others =
-        some-same l.lower others
+        same_Some l.lower others
         (sym l.is ∙ ap (λ (j : Instr). after image j f.before) same.0 ∙ f.gives) in
         let leads : LeadsTo a.instr a.next to =
         subst (λ (n : ℕ). LeadsTo a.instr n to) (sym same.1)
         (subst (λ (j : Instr). LeadsTo j f.next to) (sym same.0) f.leads) in
         let g = a.enters to leads in
-        let most : g.0 ≡ top = some-same g.0 top (sym g.1 ∙ is) in
+        let most : g.0 ≡ top = same_Some g.0 top (sym g.1 ∙ is) in
         subst (λ (v : List CellKind). AreWithin v top) its
         (subst (AreWithin l.lower) most (all-within-along l.lower a.after g.0 l.within g.2)))
   ]
@@ -261,7 +262,7 @@ module _ (image : Image) (table : Table) (done : ℕ) (front : IsFront image tab
       → after image i kinds ≡ Some gives
       → kinds ≡ gives
   halts-small i kinds gives e is =
-      some-same kinds gives (ap (λ (j : Instr). after image j kinds) (sym e) ∙ is)
+      same_Some kinds gives (ap (λ (j : Instr). after image j kinds) (sym e) ∙ is)
 
   does : (place : ℕ) (a : Arrives image table place) → IsPlace image.code place → Does place a
   does place a is =
@@ -328,7 +329,7 @@ module _ (image : Image) (table : Table) (done : ℕ) (front : IsFront image tab
     no-clash : Clashes image table place → ⊥
     no-clash c =
         let d = does place c.at is in
-        let same : d.gives ≡ c.gives = some-same d.gives c.gives (sym d.effect_is ∙ c.effect) in
+        let same : d.gives ≡ c.gives = same_Some d.gives c.gives (sym d.effect_is ∙ c.effect) in
         let e = d.enters c.to c.leads in
         let size : length d.gives ≡ length e.0 = within-length d.gives e.0 e.2 in
         let theirs : length c.others ≡ length e.0 =
@@ -396,7 +397,7 @@ longest-so image table front depth l other agrees_so = record {
       let p = front.passes place place-is.0 place-is in
       let e = lies-above image table (length image.code) front other agrees_so place p.kinds p.known
       in
-      let same : e.0 ≡ kinds = some-same e.0 kinds (sym e.1 ∙ is) in
+      let same : e.0 ≡ kinds = same_Some e.0 kinds (sym e.1 ∙ is) in
       let size : length p.kinds ≡ length e.0 = within-length p.kinds e.0 e.2 in
       let its : length e.0 ≡ length kinds = ap length same in
       let most : length p.kinds ≤ depth = l.most place p.kinds p.known in

@@ -1,5 +1,6 @@
 -- What the visit of a place comes to.
 use Rattle.std.proofs.Common.{◌≡◌, ℕ, ◌+◌, Bool, true, false, List, length, refl, sym, ap, subst, ◌∙◌, Option, Some, inl, inr}
+use Rattle.std.proofs.lemmas.Option.{same_Some}
 use Rattle.std.specs.Prelude.{slice_get, IsTrue, ◌↔◌}
 use Rattle.std.specs.Bool.{OnFalse}
 use Rattle.il_image.specs.declared.instr.Instr.{Instr}
@@ -13,7 +14,6 @@ use Rattle.il_verify.specs.declared.slots.SlotType.{SlotType}
 use Rattle.il_verify.specs.Frames.{Clashing, Jumps, JumpsWrong, PlainFrame, PlainFrames, MarksPlaces}
 use Rattle.il_verify.specs.Judging.{fault_of}
 use Rattle.il_verify.specs.Slots.{slots_of, types_of}
-use Rattle.il_verify.proofs.EffectLemmas.{some-same}
 use Rattle.il_verify.proofs.WithinLemmas.{within-length}
 
 pub fault-there : (image : Image) (slots : List SlotType) (timers : ℕ) (instr : Instr)
@@ -38,7 +38,7 @@ pub clash-before : (instr : Instr) (next : ℕ) (come : PlainFrame) (old mid : P
     → Clashing (old next) come.kinds
 clash-before instr next come old mid jumps clash = elim (jumps next) [
   | inl c ↦
-      absurd (let same : c.1.0 ≡ clash.0 = some-same c.1.0 clash.0 (sym c.1.1 ∙ clash.1) in
+      absurd (let same : c.1.0 ≡ clash.0 = same_Some c.1.0 clash.0 (sym c.1.1 ∙ clash.1) in
       clash.2 (ap (λ (m : PlainFrame). length m.kinds) (sym same)
       ∙ sym (within-length come.kinds c.1.0.kinds c.1.2.over)))
   | inr c ↦ (clash.0, sym c.1 ∙ clash.1, clash.2)

@@ -49,7 +49,7 @@ fn check_page(page: &Names, words: &[&str], start: usize, count: usize) -> Resul
     Ok(at)
 }
 
-/// Checks the names of a tree in pages of `count`, each page after a name given as text and as
+/// Checks the names of a tree in pages of `count`, and where each page begins after a name given as
 /// octets.
 fn check_pages(alloc: Global, tree: &Tree, words: &[&str], count: usize) -> Result<()> {
     let mut at = 0usize;
@@ -57,13 +57,7 @@ fn check_pages(alloc: Global, tree: &Tree, words: &[&str], count: usize) -> Resu
         let before = name_at(words, at.wrapping_sub(1));
         let next = check_page(&tree.names_after(alloc, before, count)?, words, at, count)?;
         let octets = before.map(|name| name.as_bytes());
-        let same = check_page(
-            &tree.names_after_octets(alloc, octets, count)?,
-            words,
-            at,
-            count,
-        )?;
-        check(same == next)?;
+        check(tree.place_after(octets)? == at)?;
         at = next;
     }
     check(at == words.len())
@@ -77,7 +71,7 @@ fn check_found(alloc: Global, tree: &Tree, words: &[&str]) -> Result<()> {
     }
     let no_text: &[u8] = &[255];
     check(tree.find_octets(no_text).is_err())?;
-    check(tree.names_after_octets(alloc, Some(no_text), 1).is_err())
+    check(tree.place_after(Some(no_text)).is_err())
 }
 
 /// Checks that a tree has the names of these words, and lists them in pages of several sizes.

@@ -1,7 +1,6 @@
 use Rattle.std.proofs.Common.{◌≡◌, ◌++◌, ◌∷◌, [], length, sym, ap, ◌∙◌, subst}
 use Rattle.std.proofs.lemmas.Bool.{eqb-true}
-use Rattle.std.proofs.lemmas.List.{append-nil}
-use Rattle.bay_process.proofs.ListLemmas.{length-none}
+use Rattle.std.proofs.lemmas.List.{append-nil, nil_from_length}
 use Rattle.bay_audit.specs.Rules.{IsLeft, IsVerdict, program}
 use Rattle.bay_audit.proofs.audit.answer.Goals as goal
 use Rattle.bay_audit.proofs.audit.answer.Goals.{in-Obeyed, in-Split+in_ok-split-in-Split, else-loop-test, then-loop-test+in_default}
@@ -30,7 +29,7 @@ returns-then-is_empty c =
     let g = program c.args.verified.now c.args.wires.now.reads.items c.args.wires.now.writes.items
     in
     let none : c.loop-test.left.items ≡ [] =
-    length-none c.loop-test.left.items
+    nil_from_length c.loop-test.left.items
     (ap length (sym c.as_slice.ensures.value)
     ∙ eqb-true (length c.as_slice.result.now) 0 (sym c.if-is_empty.ensures)) in
     elim c.loop-test.branch [

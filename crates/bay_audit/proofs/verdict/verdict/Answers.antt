@@ -1,9 +1,10 @@
 use Rattle.std.proofs.Common.{sym, ◌∙◌, ap, ap₂}
+use Rattle.std.proofs.lemmas.Bool.{not-true}
 use Rattle.bay_audit.specs.Conditions.{asked_of}
 use Rattle.bay_audit.specs.Rules.{program}
 use Rattle.bay_audit.specs.declared.outlook.Outlook.{Outlook}
 use Rattle.bay_audit.proofs.verdict.verdict.Goals as goal
-use Rattle.bay_audit.proofs.RuleLemmas.{idle-in, not-true}
+use Rattle.bay_audit.proofs.RuleLemmas.{idle-in}
 
 pub returns-then-not-asked : goal.returns-then-not-asked
 returns-then-not-asked c =

@@ -1,8 +1,9 @@
 use Rattle.std.proofs.Common.{◌≡◌, ◌+◌, ◌<◌, ◌∷◌, ◌++◌, length, length-append, append_assoc, append-nil, List, [], ap, sym, ◌∙◌, refl, rules, arith}
+use Rattle.std.proofs.lemmas.List.{nil_from_length}
 use Rattle.bay_nodes.specs.declared.switch.Switch.{Switch}
 use Rattle.bay_process.specs.Layout.{bound_from, outputs_at}
 use Rattle.bay_process.specs.declared.switch.BoundSwitch.{BoundSwitch}
-use Rattle.bay_process.proofs.ListLemmas.{length-none, length-snoc}
+use Rattle.bay_process.proofs.ListLemmas.{length-snoc}
 use Rattle.bay_process.proofs.BoundLemmas.{bound-snoc}
 use Rattle.bay_process.proofs.bind.bind_switches.Goals as goal
 
@@ -67,7 +68,7 @@ pub returns : goal.returns
 returns c =
     let rest = c.loop-switch.switch-iterator.rest in
     let none : rest.items ≡ [] =
-    length-none rest.items (omega (arith, c.in-None.ensures.steps.0, rest.ok.0)) in
+    nil_from_length rest.items (omega (arith, c.in-None.ensures.steps.0, rest.ok.0)) in
     let whole : c.args.switches.items ≡ c.loop-switch.yielded =
     c.loop-switch.invariant.whole ∙ ap (λ (ss : List Switch). c.loop-switch.yielded ++ ss) none
     ∙ append-nil c.loop-switch.yielded in

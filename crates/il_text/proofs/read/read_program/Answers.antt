@@ -1,4 +1,5 @@
 use Rattle.std.proofs.Common.{◌≡◌, ℕ, List, [], ◌∷◌, length, Result, Err, refl, subst, sym, ◌∙◌, arith}
+use Rattle.std.proofs.lemmas.List.{nil_from_length}
 use Rattle.std.proofs.lemmas.Bool.{eqb-true}
 use Rattle.std.proofs.lemmas.Result.{err_from_is_err_and}
 use Rattle.il_text.specs.Listing.{PlainProgram}
@@ -16,10 +17,6 @@ use Rattle.il_text.proofs.TextLemmas.{text-reads}
 use Rattle.il_text.proofs.UniqueLemmas.{items-rise}
 use Rattle.il_text.proofs.read.read_program.Goals as goal
 
-no_octets : (octets : List ℕ) → length octets ≡ 0 → octets ≡ []
-no_octets [] e = refl
-no_octets (octet ∷ octets) e = absurd (omega (arith, e))
-
 nothing_read : program_of [] ≡ Err (BadLine 1)
 unfolding program_of reading last_line lines pieces_of without_comments pieces tokens_of after_line parts_of steps
 nothing_read = refl
@@ -29,7 +26,7 @@ returns-then-is_empty-clause-refused c =
     let reads : ReadsAs [] (Err (BadLine 1)) =
     subst (λ (x : Result PlainProgram TextFault). ReadsAs [] x) nothing_read (text-reads []) in
     λ m. subst (λ (text : List ℕ). ReadsAs text (Err (BadLine 1)))
-    (sym (no_octets c.args.text.now
+    (sym (nil_from_length c.args.text.now
     (eqb-true (length c.args.text.now) 0 (sym c.is_empty.ensures ∙ c.if-is_empty.true)))) reads
 
 pub returns-in_err-program-clause-refused : goal.returns-in_err-program-clause-refused
