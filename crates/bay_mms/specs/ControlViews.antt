@@ -24,17 +24,7 @@ cancelling c =
 
 -- an operate, or an enhanced select
 abbrev pub operating : operate.Operate → Operate
-operating o = record {
-  control =
-      record {
-        ctl_val = o.ctl_val;
-        origin = originating o.origin;
-        ctl_num = pos o.ctl_num;
-        t = o.t;
-        test = o.test;
-      };
-  check = o.check;
-}
+operating o = record { control = cancelling o.control; check = o.check }
 
 -- what was read of a control, in any range
 abbrev pub shaping : Shape → Control

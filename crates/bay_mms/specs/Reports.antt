@@ -70,14 +70,14 @@ origin_text o = element (constructed 2) (origin_parts o)
 -- ctlVal, origin and ctlNum
 abbrev pub operate_front : Operate → List ℕ
 operate_front o =
-    element (context 3) (truth_octets o.ctl_val)
-    ++ (origin_text o.origin ++ element (context 6) (integer_octets (pos o.ctl_num)))
+    element (context 3) (truth_octets o.control.ctl_val)
+    ++ (origin_text o.control.origin ++ element (context 6) (integer_octets (pos o.control.ctl_num)))
 
 -- T, Test and Check
 abbrev pub operate_back : Operate → List ℕ
 operate_back o =
-    element (context 17) o.t
-    ++ (element (context 3) (truth_octets o.test)
+    element (context 17) o.control.t
+    ++ (element (context 3) (truth_octets o.control.test)
     ++ element (context 4) (bit_string_octets (position_octet o.check ∷ []) 2))
 
 -- CntrlObj and Error

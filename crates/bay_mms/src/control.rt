@@ -25,13 +25,8 @@ pub struct Origin<'a> {
 /// The parameters of a select with value or an operate (IEC 61850-8-1, SBOw and Oper).
 #[derive(Clone, Copy, Debug)]
 pub struct Operate<'a> {
-    /// On or off.
-    pub ctl_val: bool,
-    pub origin: Origin<'a>,
-    pub ctl_num: u8,
-    /// The eight octets of a utc-time.
-    pub t: [u8; 8],
-    pub test: bool,
+    /// What a cancel has too.
+    pub control: Cancel<'a>,
     /// The two bits of Check, read as a position.
     pub check: Dbpos,
 }
@@ -39,7 +34,7 @@ pub struct Operate<'a> {
 /// The parameters of a cancel (IEC 61850-8-1, Cancel).
 #[derive(Clone, Copy, Debug)]
 pub struct Cancel<'a> {
-    /// On or off, as in the request that is cancelled.
+    /// On or off; in a cancel, as in the request that is cancelled.
     pub ctl_val: bool,
     pub origin: Origin<'a>,
     pub ctl_num: u8,
@@ -79,14 +74,7 @@ pub fn operate_of<'a>(given: &Data<'a>) -> Result<Operate<'a>, ControlFault>
 {
     let (shape, check) = operate_as(given).ok_or(ControlFault::WrongShape)?;
     let control = in_range(&shape).ok_or(ControlFault::OutOfRange)?;
-    Ok(Operate {
-        ctl_val: control.ctl_val,
-        origin: control.origin,
-        ctl_num: control.ctl_num,
-        t: control.t,
-        test: control.test,
-        check,
-    })
+    Ok(Operate { control, check })
 }
 
 /// Reads data as a cancel, with the faults of `operate_of`. A cancel has five parts, because it has

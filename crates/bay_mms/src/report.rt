@@ -43,9 +43,9 @@ fn put_origin(writer: &mut Writer, origin: &Origin<'_>)
 fn put_operate_front(writer: &mut Writer, operate: &Operate<'_>)
     ensures { writer.new ≡ sheet_with writer.old (operate_front operate.now) }
 {
-    writer.boolean(Tag::context(3), operate.ctl_val);
-    put_origin(writer, &operate.origin);
-    writer.int(Tag::context(6), i64::from(operate.ctl_num));
+    writer.boolean(Tag::context(3), operate.control.ctl_val);
+    put_origin(writer, &operate.control.origin);
+    writer.int(Tag::context(6), i64::from(operate.control.ctl_num));
 }
 
 // Writes the moment, whether it is a test, and the checks.
@@ -53,8 +53,8 @@ fn put_operate_front(writer: &mut Writer, operate: &Operate<'_>)
 fn put_operate_back(writer: &mut Writer, operate: &Operate<'_>)
     ensures { writer.new ≡ sheet_with writer.old (operate_back operate.now) }
 {
-    writer.octets(Tag::context(17), &operate.t);
-    writer.boolean(Tag::context(3), operate.test);
+    writer.octets(Tag::context(17), &operate.control.t);
+    writer.boolean(Tag::context(3), operate.control.test);
     put_position(writer, operate.check);
 }
 

@@ -4,7 +4,7 @@ use crate::written::check_written;
 use anyhow::{Result, bail};
 use bay_base::text::Text;
 use bay_ber::outgoing::Outgoing;
-use bay_mms::control::{Operate, Origin};
+use bay_mms::control::{Cancel, Operate, Origin};
 use bay_mms::report::{ControlError, write_failed_termination, write_failure, write_termination};
 use bay_mms::response::{Agreed, ErrorClass, RejectReason, Response, Service, write_response};
 use bay_mms::results::{ReadResponse, WriteResponse};
@@ -167,14 +167,16 @@ fn moment_of(alloc: Global, word: &str) -> Result<[u8; 8]> {
 fn operate_of<'a>(alloc: Global, words: &[&str], or_ident: &'a [u8]) -> Result<Operate<'a>> {
     match words {
         [value, category, _, number, moment, test, check] => Ok(Operate {
-            ctl_val: truth_of(value)?,
-            origin: Origin {
-                or_cat: category.parse::<i8>()?,
-                or_ident,
+            control: Cancel {
+                ctl_val: truth_of(value)?,
+                origin: Origin {
+                    or_cat: category.parse::<i8>()?,
+                    or_ident,
+                },
+                ctl_num: number.parse::<u8>()?,
+                t: moment_of(alloc, moment)?,
+                test: truth_of(test)?,
             },
-            ctl_num: number.parse::<u8>()?,
-            t: moment_of(alloc, moment)?,
-            test: truth_of(test)?,
             check: position_of(check)?,
         }),
         _ => bail!("seven words are wanted"),
@@ -193,8 +195,8 @@ fn report(alloc: Global, kind: &str, words: &[&str], identity: &[u8]) -> Result<
             let operate = operate_of(alloc, operate, identity)?;
             let failure = ControlError {
                 object,
-                origin: operate.origin,
-                ctl_num: operate.ctl_num,
+                origin: operate.control.origin,
+                ctl_num: operate.control.ctl_num,
                 add_cause: cause.parse::<u8>()?,
             };
             Ok(write_failed_termination(alloc, &failure, domain, item, &operate, SIZE)?)

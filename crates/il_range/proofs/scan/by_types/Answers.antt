@@ -11,6 +11,6 @@ returns-clause-foretells c limits given =
     subst
     (λ (last : List (Option ℕ)). ForetellsTimed c.args.image.now limits given last
     c.in_ok-ranges.ranges.items)
-    (sym c.new-2.ensures.items)
+    (sym c.new.ensures.items)
     (types-foretell c.args.image.now limits given c.in_ok-ranges.ranges.items
     c.in_ok-ranges.ensures)
