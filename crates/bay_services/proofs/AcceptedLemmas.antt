@@ -230,30 +230,31 @@ module _ (c : Client) (b : Bay) (small : c.size ≤ 65000) where
       reports-if c (has_reports b k) report
       (λ is. let n = fits (length report) c.size is in a-report _ (omega (arith, n, small)))
 
-  decided-are : (k : ℕ) (item : List ℕ) (control : Control) (o : Outcome) (w : Writing)
-      → AreReports w.reports → AreReports (after_decision c b k item control o w).reports
-  decided-are k item control o w all =
+  decided-are : (k : ℕ) (part : ControlPart) (item : List ℕ) (control : Control) (o : Outcome)
+      (w : Writing) → AreReports w.reports
+      → AreReports (after_decision c b k part item control o w).reports
+  decided-are k part item control o w all =
       both-reports w.reports (refusal_reports c k item control b o.answer) all
       (refusals-are k item control o.answer)
 
   select-with-are : (k : ℕ) (item : List ℕ) (w : Writing) (o : Result asked.Operate ControlFault)
       → AreReports w.reports → AreReports (select_with_asked c b k item w o).reports
   select-with-are k item w (Ok o) all =
-      decided-are k item o.control
+      decided-are k SelectWith item o.control
       (select_with_outcome c.association k (ask_of o) c.now w.controls) w all
   select-with-are k item w (Err fault) all = all
 
   operate-are : (k : ℕ) (item : List ℕ) (w : Writing) (o : Result asked.Operate ControlFault)
       → AreReports w.reports → AreReports (operate_asked c b k item w o).reports
   operate-are k item w (Ok o) all =
-      decided-are k item o.control
+      decided-are k Operate item o.control
       (operate_outcome c.association k (ask_of o) (view_of c k b) c.now w.controls) w all
   operate-are k item w (Err fault) all = all
 
   cancel-are : (k : ℕ) (item : List ℕ) (w : Writing) (o : Result Control ControlFault)
       → AreReports w.reports → AreReports (cancel_asked c b k item w o).reports
   cancel-are k item w (Ok control) all =
-      decided-are k item control (cancel_outcome c.association k c.now w.controls) w all
+      decided-are k Cancel item control (cancel_outcome c.association k c.now w.controls) w all
   cancel-are k item w (Err fault) all = all
 
   write-part-are : (k : ℕ) (item : List ℕ) (given : Datum) (w : Writing) (part : ControlPart)
@@ -311,6 +312,7 @@ read_sent id b r =
     record {
       sent = read_text id r.results ∷ [];
       commands = [];
+      decisions = r.decisions;
       ending = None;
       after = with_controls r.controls b;
     }
@@ -320,6 +322,7 @@ write_sent id b w =
     record {
       sent = w.reports ++ write_text id w.results ∷ [];
       commands = w.commands;
+      decisions = w.decisions;
       ending = w.ending;
       after = with_controls w.controls b;
     }

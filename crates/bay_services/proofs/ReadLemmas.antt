@@ -5,7 +5,7 @@ use Rattle.bay_mms.specs.Responses.{text_result}
 use Rattle.bay_control.specs.declared.cause.AddCause.{AddCause}
 use Rattle.bay_control.specs.Decisions.{Outcome, State}
 use Rattle.bay_services.specs.Bay.{Bay}
-use Rattle.bay_services.specs.Controls.{object_of}
+use Rattle.bay_services.specs.Controls.{object_of, read_decision}
 use Rattle.bay_mms.specs.RequestViews.{naming}
 use Rattle.bay_mms.specs.Requests.{Naming}
 use Rattle.bay_mms.specs.declared.request.ObjectName.{ObjectName}
@@ -13,25 +13,30 @@ use Rattle.bay_tree.specs.Rows.{name_at}
 use Rattle.bay_services.specs.Reads.{Reading, read_all, read_one, read_part, read_row, read_target, select_done, selected_text}
 use Rattle.bay_services.specs.Rows.{row_named}
 use Rattle.bay_services.specs.Targets.{target_of}
+use Rattle.bay_services.specs.declared.answer.Decision.{Decision}
 use Rattle.bay_services.specs.declared.target.ControlPart.{ControlPart}
 use Rattle.bay_services.specs.declared.target.ControlPart.TheVariants.{Select, SelectWith, Operate, Cancel}
 use Rattle.bay_services.specs.declared.target.Target.{Target}
 use Rattle.bay_services.specs.declared.client.Client.{Client}
 
 -- a select that was answered
-pub selected : (b : Bay) (item : List ℕ) (r : Reading) (o : Outcome) (after : State)
-    (answer : Result (Unit {0}) AddCause) (text results : List ℕ)
-    → after ≡ o.after → answer ≡ o.answer → text ≡ selected_text (object_of b item) answer
+pub selected : (c : Client) (b : Bay) (k : ℕ) (item : List ℕ) (r : Reading) (o : Outcome)
+    (after : State) (answer : Result (Unit {0}) AddCause) (decisions : List Decision)
+    (text results : List ℕ) → after ≡ o.after → answer ≡ o.answer
+    → decisions ≡ r.decisions ++ read_decision c k answer ∷ []
+    → text ≡ selected_text (object_of b item) answer
     → results ≡ r.results ++ text_result text
-    → record { controls = after; results = results } ≡ select_done b item r o
-selected b item r o after answer text results stands is told has = rw (stands, has, told, is) refl
+    → record { controls = after; decisions = decisions; results = results }
+    ≡ select_done c b k item r o
+selected c b k item r o after answer decisions text results stands is decided told has =
+    rw (stands, decided, has, told, is) refl
 
-pub selected-long : (b : Bay) (item : List ℕ) (r : Reading) (o : Outcome)
+pub selected-long : (c : Client) (b : Bay) (k : ℕ) (item : List ℕ) (r : Reading) (o : Outcome)
     (answer : Result (Unit {0}) AddCause) (text : List ℕ) (size : ℕ)
     → answer ≡ o.answer → text ≡ selected_text (object_of b item) answer
     → size < length (r.results ++ text_result text)
-    → size < length (select_done b item r o).results
-selected-long b item r o answer text size is told long = rw (told, is) at long
+    → size < length (select_done c b k item r o).results
+selected-long c b k item r o answer text size is told long = rw (told, is) at long
 
 -- ---- results grow
 

@@ -315,10 +315,11 @@ kept-nothing c b =
       sole = λ timed. record { timed = timed; single = tt };
     }
 
-kept-decided : (c : Client) (b : Bay) (k : ℕ) (item : List ℕ) (control : Control) (o : Outcome)
-    (w : Writing) → w.controls.controls ≡ o.after.controls → Kept c b w
-    → Busies c.now w.controls o.after → Kept c b (after_decision c b k item control o w)
-kept-decided c b k item control o w same kept busy = record {
+kept-decided : (c : Client) (b : Bay) (k : ℕ) (part : ControlPart) (item : List ℕ)
+    (control : Control) (o : Outcome) (w : Writing) → w.controls.controls ≡ o.after.controls
+    → Kept c b w → Busies c.now w.controls o.after
+    → Kept c b (after_decision c b k part item control o w)
+kept-decided c b k part item control o w same kept busy = record {
   busy = λ e h. busy e (kept.busy e h);
   released = kept.released;
   sole = λ timed. sole-still c.now w.commands w.controls o.after same busy (kept.sole timed);
@@ -330,7 +331,7 @@ kept-select : (c : Client) (b : Bay) (k : ℕ) (item : List ℕ) (w : Writing)
 kept-select c b k item w (Err fault) kept =
     record { busy = kept.busy; released = kept.released; sole = kept.sole }
 kept-select c b k item w (Ok o) kept =
-    kept-decided c b k item o.control
+    kept-decided c b k SelectWith item o.control
     (select_with_outcome c.association k (ask_of o) c.now w.controls) w refl kept
     (busy-still c.now w.controls)
 
@@ -365,7 +366,7 @@ kept-cancel : (c : Client) (b : Bay) (k : ℕ) (item : List ℕ) (w : Writing)
 kept-cancel c b k item w (Err fault) kept =
     record { busy = kept.busy; released = kept.released; sole = kept.sole }
 kept-cancel c b k item w (Ok control) kept =
-    kept-decided c b k item control (cancel_outcome c.association k c.now w.controls) w refl
+    kept-decided c b k Cancel item control (cancel_outcome c.association k c.now w.controls) w refl
     kept (busy-still c.now w.controls)
 
 kept-part : (c : Client) (b : Bay) (k : ℕ) (item : List ℕ) (given : Datum) (w : Writing)
@@ -411,7 +412,13 @@ does-if c b true x y p q = p
 does-if c b false x y p q = q
 
 does-nothing : (c : Client) (b : Bay) (sent : List (List ℕ))
-    → Does c b (record { sent = sent; commands = []; ending = None; after = b })
+    → Does c b (record {
+      sent = sent;
+      commands = [];
+      decisions = [];
+      ending = None;
+      after = b;
+    })
 does-nothing c b sent =
     record {
       leaves = leaves-none c.now b;

@@ -15,7 +15,7 @@ use Rattle.bay_mms.specs.declared.fault.EncodeFault.{EncodeFault}
 use Rattle.bay_mms.specs.declared.fault.EncodeFault.TheVariants.{TooLong, OutOfMemory}
 use Rattle.bay_mms.specs.declared.response.ErrorClass.TheVariants.{Resource}
 use Rattle.bay_mms.specs.Writing.{Adds, text_within}
-use Rattle.bay_services.specs.Answers.{Answered, read_done, response_answer, plain_answer, within, write_done}
+use Rattle.bay_services.specs.Answers.{Answered, read_done, response_answer, plain_answer, told_answer, within, write_done}
 use Rattle.bay_control.specs.Decisions.{State}
 use Rattle.bay_services.specs.Bay.{Bay, left_by, with_controls}
 use Rattle.bay_services.specs.Reads.{Reading}
@@ -23,6 +23,7 @@ use Rattle.bay_services.specs.Replies.{fitting}
 use Rattle.bay_services.specs.Views.{AnswersAs}
 use Rattle.bay_services.specs.Writes.{Writing}
 use Rattle.bay_services.specs.declared.answer.Answer.{Answer}
+use Rattle.bay_services.specs.declared.answer.Decision.{Decision}
 use Rattle.bay_services.specs.declared.client.Client.{Client}
 
 -- ---- what fits
@@ -73,19 +74,20 @@ pub said_as : (r : Result Answer AllocError) (p : List ℕ) (b : Bay) (x : Answe
 said_as (Ok a) p b x told is = subst (AnswersAs a None b) (sym is) (told b)
 said_as (Err e) p b x told is = tt
 
-pub said-with : (r : Result Answer AllocError) (p : List ℕ) (o : Option State) (b : Bay)
-    (x : Answered) → IfOk r (λ a. (d : Bay) → AnswersAs a None d (plain_answer p d))
-    → x ≡ record (plain_answer p b) { after = with_controls (left_by o b.controls) b }
+pub said-with : (r : Result Answer AllocError) (p : List ℕ) (ds : List Decision) (o : Option State)
+    (b : Bay) (x : Answered) → IfOk r (λ a. (d : Bay) → AnswersAs a None d (told_answer p ds d))
+    → x ≡ told_answer p ds (with_controls (left_by o b.controls) b)
     → IfOk r (λ a. AnswersAs a o b x)
-said-with (Ok a) p o b x told is =
+said-with (Ok a) p ds o b x told is =
     let plain = told b in
     subst (AnswersAs a o b) (sym is) (record {
       sent = plain.sent;
       commands = plain.commands;
+      decisions = plain.decisions;
       ending = plain.ending;
       left = refl;
     })
-said-with (Err e) p o b x told is = tt
+said-with (Err e) p ds o b x told is = tt
 
 pub said_alike : (r : Result Answer AllocError) (p q : List ℕ) → p ≡ q
     → IfOk r (λ a. (d : Bay) → AnswersAs a None d (plain_answer p d))
@@ -108,12 +110,12 @@ responded-over c id b pdu was is none = within-over c id b pdu (plain_answer pdu
 
 pub read-fits : (c : Client) (id : ℕ) (b : Bay) (r : Reading) (found : List ℕ)
     (was : Option (List ℕ)) → was ≡ fitting c.size (read_text id r.results) → was ≡ Some found
-    → read_done c id b r ≡ record (plain_answer found b) { after = with_controls r.controls b }
+    → read_done c id b r ≡ told_answer found r.decisions (with_controls r.controls b)
 read-fits c id b r found was is some =
     let fit = sym is ∙ some in
     within-fits c id b (read_text id r.results) found _ fit
-    ∙ ap (λ p. let x : Answered = record (plain_answer p b) { after = with_controls r.controls b }
-    in x) (sym (fits c.size (read_text id r.results) found fit).1)
+    ∙ ap (λ p. told_answer p r.decisions (with_controls r.controls b))
+    (sym (fits c.size (read_text id r.results) found fit).1)
 
 -- ---- results of calls
 

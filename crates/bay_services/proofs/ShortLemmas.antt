@@ -127,9 +127,9 @@ abbrev IsFit : Writing → Type 0
 IsFit w = AreShort w.reports × IsShort w.ending
 
 module _ (c : Client) (b : Bay) (most : c.size ≤ 65000) where
-  decided-short : (k : ℕ) (item : List ℕ) (control : Control) (o : Outcome) (w : Writing) → IsFit w
-      → IsFit (after_decision c b k item control o w)
-  decided-short k item control o w short = (
+  decided-short : (k : ℕ) (part : ControlPart) (item : List ℕ) (control : Control) (o : Outcome)
+      (w : Writing) → IsFit w → IsFit (after_decision c b k part item control o w)
+  decided-short k part item control o w short = (
     both-short w.reports (refusal_reports c k item control b o.answer) short.0
         (refusals-short c k item control b o.answer most),
     short.1,
@@ -138,7 +138,7 @@ module _ (c : Client) (b : Bay) (most : c.size ≤ 65000) where
   select-with-short : (k : ℕ) (item : List ℕ) (w : Writing) (x : Result asked.Operate ControlFault)
       → IsFit w → IsFit (select_with_asked c b k item w x)
   select-with-short k item w (Err fault) short = short
-  select-with-short k item w (Ok o) short = decided-short k item o.control
+  select-with-short k item w (Ok o) short = decided-short k SelectWith item o.control
       (select_with_outcome c.association k (ask_of o) c.now w.controls) w short
 
   operate-short : (k : ℕ) (item : List ℕ) (w : Writing) (x : Result asked.Operate ControlFault)
@@ -146,7 +146,7 @@ module _ (c : Client) (b : Bay) (most : c.size ≤ 65000) where
   operate-short k item w (Err fault) short = short
   operate-short k item w (Ok o) short =
       let out = operate_outcome c.association k (ask_of o) (view_of c k b) c.now w.controls in (
-        (decided-short k item o.control out w short).0,
+        (decided-short k Operate item o.control out w short).0,
         later-short w.ending (endings c k item o b out.answer) short.1
             (endings-short c k item o b out.answer most),
       )
@@ -154,7 +154,7 @@ module _ (c : Client) (b : Bay) (most : c.size ≤ 65000) where
   cancel-short : (k : ℕ) (item : List ℕ) (w : Writing) (x : Result Control ControlFault)
       → IsFit w → IsFit (cancel_asked c b k item w x)
   cancel-short k item w (Err fault) short = short
-  cancel-short k item w (Ok control) short = decided-short k item control
+  cancel-short k item w (Ok control) short = decided-short k Cancel item control
       (cancel_outcome c.association k c.now w.controls) w short
 
   part-short : (k : ℕ) (item : List ℕ) (given : Datum) (w : Writing) (part : ControlPart)

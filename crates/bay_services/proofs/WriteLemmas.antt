@@ -1,6 +1,5 @@
 -- What writes come to.
-use Rattle.std.proofs.Common.{◌≡◌, ℕ, List, [], ◌∷◌, ◌++◌, Option, Result, Ok, Err, ◌⊎◌, inl, inr, refl}
-use Rattle.std.proofs.lemmas.List.{append-nil}
+use Rattle.std.proofs.Common.{◌≡◌, ℕ, List, [], ◌∷◌, ◌++◌, Option, Result, ◌⊎◌, inl, inr, refl}
 use Rattle.bay_control.specs.Decisions.{Outcome, State}
 use Rattle.bay_control.specs.declared.cause.AddCause.{AddCause}
 use Rattle.bay_mms.specs.Controls as asked
@@ -8,68 +7,58 @@ use Rattle.bay_mms.specs.Controls.{Control}
 use Rattle.bay_mms.specs.Data.{Datum}
 use Rattle.bay_mms.specs.Requests.{Naming}
 use Rattle.bay_services.specs.Bay.{Bay}
-use Rattle.bay_services.specs.Controls.{endings, refusal_reports}
+use Rattle.bay_services.specs.Controls.{endings, refusal_reports, written_decision}
 use Rattle.bay_services.specs.Writes.{Writing, commands_for, after_decision, decision_result, later_ending, after_operate, write_all}
 use Rattle.bay_services.specs.declared.answer.Command.{Command}
+use Rattle.bay_services.specs.declared.answer.Decision.{Decision}
 use Rattle.bay_services.specs.declared.answer.Ending.{Ending}
 use Rattle.bay_services.specs.declared.client.Client.{Client}
+use Rattle.bay_services.specs.declared.target.ControlPart.{ControlPart}
+use Rattle.bay_services.specs.declared.target.ControlPart.TheVariants.{Operate}
 
 -- what a decision puts down
-pub put-down : (c : Client) (b : Bay) (k : ℕ) (item : List ℕ) (control given : Control)
-    (w : Writing)
-    (o : Outcome) (after : State) (answer : Result (Unit {0}) AddCause)
-    (results : List ℕ) (reports : List (List ℕ)) (commands : List Command) (ending : Option Ending)
+pub put-down : (c : Client) (b : Bay) (k : ℕ) (part : ControlPart) (item : List ℕ)
+    (control given : Control) (w : Writing) (o : Outcome) (after : State)
+    (answer : Result (Unit {0}) AddCause) (results : List ℕ) (reports : List (List ℕ))
+    (commands : List Command) (decisions : List Decision) (ending : Option Ending)
     → after ≡ o.after → answer ≡ o.answer → given ≡ control
     → results ≡ w.results ++ decision_result answer
     → reports ≡ w.reports ++ refusal_reports c k item given b answer → commands ≡ w.commands
-    → ending ≡ w.ending
+    → decisions ≡ w.decisions ++ written_decision c k part given answer ∷ [] → ending ≡ w.ending
     → record {
       controls = after;
       results = results;
       reports = reports;
       commands = commands;
+      decisions = decisions;
       ending = ending;
-    } ≡ after_decision c b k item control o w
-put-down c b k item control given w o after answer results reports commands ending stands is by has
-    told ordered due =
-    rw (stands, has, told, ordered, due, is, by) refl
+    } ≡ after_decision c b k part item control o w
+put-down c b k part item control given w o after answer results reports commands decisions
+    ending stands is by has told ordered decided due =
+    rw (stands, has, told, ordered, decided, due, is, by) refl
 
--- an accepted operate, and a refused one
-pub accepted : (c : Client) (b : Bay) (k : ℕ) (item : List ℕ) (o : asked.Operate) (w : Writing)
-    (outcome : Outcome) (after : State)
-    (results : List ℕ) (reports : List (List ℕ)) (commands : List Command) (ending : Option Ending)
-    → after ≡ outcome.after → outcome.answer ≡ Ok tt
-    → results ≡ w.results ++ decision_result (Ok tt) → reports ≡ w.reports
-    → commands ≡ w.commands ++ commands_for k o (Ok tt)
-    → ending ≡ later_ending w.ending (endings c k item o b (Ok tt))
+-- and an operate, which is accepted or refused
+pub operated : (c : Client) (b : Bay) (k : ℕ) (item : List ℕ)
+    (o : asked.Operate) (given : Control) (w : Writing) (outcome : Outcome) (after : State)
+    (answer : Result (Unit {0}) AddCause) (results : List ℕ) (reports : List (List ℕ))
+    (commands : List Command) (decisions : List Decision) (ending : Option Ending)
+    → after ≡ outcome.after → answer ≡ outcome.answer → given ≡ o.control
+    → results ≡ w.results ++ decision_result answer
+    → reports ≡ w.reports ++ refusal_reports c k item given b answer
+    → commands ≡ w.commands ++ commands_for k o answer
+    → decisions ≡ w.decisions ++ written_decision c k Operate given answer ∷ []
+    → ending ≡ later_ending w.ending (endings c k item o b answer)
     → record {
       controls = after;
       results = results;
       reports = reports;
       commands = commands;
+      decisions = decisions;
       ending = ending;
     } ≡ after_operate c b k item o outcome w
-accepted c b k item o w outcome after results reports commands ending stands is has told ordered
-    due =
-    rw (stands, has, told, ordered, due, is, append-nil w.reports) refl
-
-pub refused : (c : Client) (b : Bay) (k : ℕ) (item : List ℕ) (o : asked.Operate) (given : Control)
-    (w : Writing) (outcome : Outcome) (after : State) (why : AddCause)
-    (results : List ℕ) (reports : List (List ℕ)) (commands : List Command) (ending : Option Ending)
-    → after ≡ outcome.after → outcome.answer ≡ Err why → given ≡ o.control
-    → results ≡ w.results ++ decision_result (Err why)
-    → reports ≡ w.reports ++ refusal_reports c k item given b (Err why)
-    → commands ≡ w.commands → ending ≡ w.ending
-    → record {
-      controls = after;
-      results = results;
-      reports = reports;
-      commands = commands;
-      ending = ending;
-    } ≡ after_operate c b k item o outcome w
-refused c b k item o given w outcome after why results reports commands ending stands is by has told
-    ordered due =
-    rw (stands, has, told, ordered, due, is, by, append-nil w.commands) refl
+operated c b k item o given w outcome after answer results reports commands decisions ending
+    stands is by has told ordered decided due =
+    rw (stands, has, told, ordered, decided, due, is, by) refl
 
 -- ---- where no variable or no value is left
 

@@ -20,20 +20,32 @@ use Rattle.bay_services.specs.Reads.{Reading, nothing_read, read_all}
 use Rattle.bay_services.specs.Rows.{row_named}
 use Rattle.bay_services.specs.Writes.{Writing, nothing_written, write_all}
 use Rattle.bay_services.specs.declared.answer.Command.{Command}
+use Rattle.bay_services.specs.declared.answer.Decision.{Decision}
 use Rattle.bay_services.specs.declared.answer.Ending.{Ending}
 use Rattle.bay_services.specs.declared.client.Client.{Client}
 
--- what a PDU comes to: the PDUs that are sent, in their order, the commands, the reports of the end
--- of what is operating, and the bay after it
+-- what a PDU comes to: the PDUs that are sent, in their order, the commands, what was decided of
+-- controls, the reports of the end of what is operating, and the bay after it
 pub record Answered : Type 0 where
   pub sent : List (List ℕ)
   pub commands : List Command
+  pub decisions : List Decision
   pub ending : Option Ending
   pub after : Bay
 
+-- an answer of one PDU that commands nothing
+abbrev pub told_answer : List ℕ → List Decision → Bay → Answered
+told_answer pdu decisions b = record {
+  sent = pdu ∷ [];
+  commands = [];
+  decisions = decisions;
+  ending = None;
+  after = b;
+}
+
 -- an answer that does nothing
 abbrev pub plain_answer : List ℕ → Bay → Answered
-plain_answer pdu b = record { sent = pdu ∷ []; commands = []; ending = None; after = b }
+plain_answer pdu b = told_answer pdu [] b
 
 -- A response of more octets than are agreed is answered by an error of the class resource, and
 -- nothing is done.
@@ -65,12 +77,7 @@ attributes_at c id b (Some place) =
 abbrev pub read_done : Client → ℕ → Bay → Reading → Answered
 read_done c id b r =
     within c id b (read_text id r.results)
-    (record {
-      sent = read_text id r.results ∷ [];
-      commands = [];
-      ending = None;
-      after = with_controls r.controls b;
-    })
+    (told_answer (read_text id r.results) r.decisions (with_controls r.controls b))
 
 abbrev pub read_asked : Client → ℕ → Bay → List Naming → Answered
 read_asked c id b ns = read_done c id b (read_all c b ns (nothing_read b))
@@ -81,6 +88,7 @@ write_done c id b w = within c id b (write_text id w.results)
     (record {
       sent = w.reports ++ write_text id w.results ∷ [];
       commands = w.commands;
+      decisions = w.decisions;
       ending = w.ending;
       after = with_controls w.controls b;
     })

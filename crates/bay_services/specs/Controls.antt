@@ -1,6 +1,6 @@
 -- A client's request of a control, and what is told of it (IEC 61850-7-2, 20; IEC 61850-8-1:
 -- LastApplError and CommandTermination).
-use Rattle.std.specs.Prelude.{ℕ, pos, ◌≤◌, IfSome, Bool, true, List, [], ◌∷◌, ◌++◌, codes, length, slice_get, Option, Some, None, option_to_list, Result, Ok, Err, if◌then◌else◌}
+use Rattle.std.specs.Prelude.{ℕ, pos, ◌≤◌, IfSome, Bool, true, List, [], ◌∷◌, ◌++◌, codes, length, slice_get, Option, Some, None, option_to_list, Result, Ok, Err, if◌then◌else◌, unsigned_abs}
 use Rattle.bay_tree.specs.Rows.{leaf_of}
 use Rattle.bay_tree.specs.declared.leaf.Leaf.{Leaf}
 use Rattle.bay_tree.specs.declared.leaf.Leaf.TheVariants as leaf
@@ -13,14 +13,18 @@ use Rattle.bay_control.specs.Causes as cause
 use Rattle.bay_control.specs.declared.cause.AddCause.{AddCause}
 use Rattle.bay_control.specs.declared.cause.AddCause.TheVariants.{TimeLimitOver}
 use Rattle.bay_control.specs.declared.request.Ask.{Ask}
+use Rattle.bay_control.specs.declared.request.Origin as control
 use Rattle.bay_control.specs.declared.request.View.{View}
 use Rattle.bay_mms.specs.Data.{Datum, structure, text, integer, unsigned, no_data, datum}
-use Rattle.bay_mms.specs.Controls.{Control, Operate, origin_datum, operate_datum}
+use Rattle.bay_mms.specs.Controls.{Control, Operate, Origin, origin_datum, operate_datum}
 use Rattle.bay_mms.specs.Reports.{report_text, failure_name, item_name}
 use Rattle.bay_services.specs.Bay.{Bay}
 use Rattle.bay_services.specs.Replies.{fitting}
+use Rattle.bay_services.specs.declared.answer.Decision.{Decision}
 use Rattle.bay_services.specs.declared.answer.Ending.{Ending}
 use Rattle.bay_services.specs.declared.client.Client.{Client}
+use Rattle.bay_services.specs.declared.target.ControlPart.{ControlPart}
+use Rattle.bay_services.specs.declared.target.ControlPart.TheVariants.{Select}
 
 -- ---- what a decision sees
 
@@ -38,17 +42,45 @@ view_of c k b = record {
   ena_cls = is_truth true (leaf_of (closing_of k).value b.rows);
 }
 
+-- who asks, by what was written
+abbrev pub origin_of : Origin → control.Origin
+origin_of o = record { cat = o.or_cat; ident = record { items = o.or_ident } }
+
 -- what is asked for by what was written
 abbrev pub ask_of : Operate → Ask
 ask_of o =
     record {
       on = o.control.ctl_val;
       test = o.control.test;
-      origin = record {
-        cat = o.control.origin.or_cat;
-        ident = record { items = o.control.origin.or_ident };
-      };
+      origin = origin_of o.control.origin;
     }
+
+-- ---- what is told of a decision
+
+-- of what was written to a part of the control of a switch
+abbrev pub written_decision : Client → ℕ → ControlPart → Control → Result (Unit {0}) AddCause
+    → Decision
+written_decision c k part control answer = record {
+  association = c.association;
+  switch = k;
+  part = part;
+  asked = Some (record {
+    on = control.ctl_val;
+    origin = origin_of control.origin;
+    ctl_num = unsigned_abs control.ctl_num;
+  });
+  answer = answer;
+}
+
+-- of a read of SBO, which selects
+abbrev pub read_decision : Client → ℕ → Result (Unit {0}) AddCause → Decision
+read_decision c k answer = record {
+  association = c.association;
+  switch = k;
+  part = Select;
+  asked = None;
+  answer = answer;
+}
 
 -- ---- reports
 

@@ -8,22 +8,25 @@ use Rattle.bay_mms.specs.Nodes.{data_at}
 use Rattle.bay_mms.specs.Requests.{Naming}
 use Rattle.bay_mms.specs.Responses.{text_result, failure_result}
 use Rattle.bay_services.specs.Bay.{Bay, seen_rows}
-use Rattle.bay_services.specs.Controls.{object_of}
+use Rattle.bay_services.specs.Controls.{object_of, read_decision}
 use Rattle.bay_services.specs.Rows.{row_named}
 use Rattle.bay_services.specs.Targets.{target_of}
+use Rattle.bay_services.specs.declared.answer.Decision.{Decision}
 use Rattle.bay_services.specs.declared.client.Client.{Client}
 use Rattle.bay_services.specs.declared.target.ControlPart.{ControlPart}
 use Rattle.bay_services.specs.declared.target.ControlPart.TheVariants.{Select, SelectWith, Operate, Cancel}
 use Rattle.bay_services.specs.declared.target.Target.{Target}
 
--- what has been read of a list of variables: the controls then, and the octets of the results
+-- what has been read of a list of variables: the controls then, what was decided of them, and the
+-- octets of the results
 pub record Reading : Type 0 where
   pub controls : State
+  pub decisions : List Decision
   pub results : List ℕ
 
 -- before the first variable
 abbrev pub nothing_read : Bay → Reading
-nothing_read b = record { controls = b.controls; results = [] }
+nothing_read b = record { controls = b.controls; decisions = []; results = [] }
 
 -- the text that a select answers: the object where it is granted, and no text where it is refused
 abbrev pub selected_text : List ℕ → Result (Unit {0}) AddCause → List ℕ
@@ -31,9 +34,10 @@ selected_text object (Ok done) = object
 selected_text object (Err why) = []
 
 -- a read of SBO selects the switch
-abbrev pub select_done : Bay → List ℕ → Reading → Outcome → Reading
-select_done b item r o = record {
+abbrev pub select_done : Client → Bay → ℕ → List ℕ → Reading → Outcome → Reading
+select_done c b k item r o = record {
   controls = o.after;
+  decisions = r.decisions ++ read_decision c k o.answer ∷ [];
   results = r.results ++ text_result (selected_text (object_of b item) o.answer);
 }
 
@@ -44,7 +48,7 @@ value_read b place r =
 
 abbrev pub read_part : Client → Bay → ℕ → Reading → ℕ → ControlPart → Reading
 read_part c b place r k Select =
-    select_done b (name_at b.rows place) r (select_outcome c.association k c.now r.controls)
+    select_done c b k (name_at b.rows place) r (select_outcome c.association k c.now r.controls)
 read_part c b place r k SelectWith = value_read b place r
 read_part c b place r k Operate = value_read b place r
 read_part c b place r k Cancel = value_read b place r

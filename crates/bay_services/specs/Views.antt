@@ -11,6 +11,7 @@ use Rattle.bay_services.specs.Bay.{Bay, left_by, with_controls}
 use Rattle.bay_services.specs.Reads.{Reading}
 use Rattle.bay_services.specs.Writes.{Writing}
 use Rattle.bay_services.specs.declared.answer.Answer.{Answer}
+use Rattle.bay_services.specs.declared.answer.Decision.{Decision}
 use Rattle.bay_services.specs.declared.bay.ServedBay.{ServedBay}
 use Rattle.bay_services.specs.declared.writing.Written.{Written}
 
@@ -27,8 +28,12 @@ bay_view b = record {
 }
 
 -- what has been read and written of a list of variables, with the controls that they have left
-abbrev pub reading : ServedBay → Option State → List ℕ → Reading
-reading b changed results = record { controls = left_by changed b.controls; results = results }
+abbrev pub reading : ServedBay → Option State → List Decision → List ℕ → Reading
+reading b changed decisions results = record {
+  controls = left_by changed b.controls;
+  decisions = decisions;
+  results = results;
+}
 
 abbrev pub writing : ServedBay → Option State → Written → Writing
 writing b changed w =
@@ -37,6 +42,7 @@ writing b changed w =
       results = w.response;
       reports = w.reports.items;
       commands = w.commands.items;
+      decisions = w.decisions.items;
       ending = w.ending;
     }
 
@@ -45,6 +51,7 @@ pub record AnswersAs (answer : Answer) (changed : Option State) (before : Bay) (
     : Type 0 where
   pub sent : answer.sent.items ≡ answered.sent
   pub commands : answer.commands.items ≡ answered.commands
+  pub decisions : answer.decisions.items ≡ answered.decisions
   pub ending : answer.ending ≡ answered.ending
   pub left : with_controls (left_by changed before.controls) before ≡ answered.after
 

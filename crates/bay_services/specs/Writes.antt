@@ -11,10 +11,11 @@ use Rattle.bay_mms.specs.Requests.{Naming}
 use Rattle.bay_mms.specs.Responses.{failure_result, success_result}
 use Rattle.bay_mms.specs.declared.fault.ControlFault.{ControlFault}
 use Rattle.bay_services.specs.Bay.{Bay}
-use Rattle.bay_services.specs.Controls.{ask_of, endings, refusal_reports, view_of}
+use Rattle.bay_services.specs.Controls.{ask_of, endings, refusal_reports, view_of, written_decision}
 use Rattle.bay_services.specs.Rows.{row_named}
 use Rattle.bay_services.specs.Targets.{target_of}
 use Rattle.bay_services.specs.declared.answer.Command.{Command}
+use Rattle.bay_services.specs.declared.answer.Decision.{Decision}
 use Rattle.bay_services.specs.declared.answer.Ending.{Ending}
 use Rattle.bay_services.specs.declared.client.Client.{Client}
 use Rattle.bay_services.specs.declared.target.ControlPart.{ControlPart}
@@ -22,18 +23,26 @@ use Rattle.bay_services.specs.declared.target.ControlPart.TheVariants.{Select, S
 use Rattle.bay_services.specs.declared.target.Target.{Target}
 
 -- what has been done of a list of variables: the controls then, the octets of the results, the
--- reports of refusals, the commands, and the reports of the end of what is operating
+-- reports of refusals, the commands, what was decided, and the reports of the end of what is
+-- operating
 pub record Writing : Type 0 where
   pub controls : State
   pub results : List ℕ
   pub reports : List (List ℕ)
   pub commands : List Command
+  pub decisions : List Decision
   pub ending : Option Ending
 
 -- before the first variable
 abbrev pub nothing_written : Bay → Writing
-nothing_written b =
-    record { controls = b.controls; results = []; reports = []; commands = []; ending = None }
+nothing_written b = record {
+  controls = b.controls;
+  results = [];
+  reports = [];
+  commands = [];
+  decisions = [];
+  ending = None;
+}
 
 -- the number of an error: 10 no such object, 3 access denied, 7 another type, 11 a value that is
 -- out of range (DataAccessError)
@@ -47,11 +56,13 @@ decision_result (Err why) = failure_result 3
 
 -- a decision on a control: the controls after it, its result, and where it refuses the report of
 -- that, which names the control
-abbrev pub after_decision : Client → Bay → ℕ → List ℕ → Control → Outcome → Writing → Writing
-after_decision c b k item control o w = record w {
+abbrev pub after_decision : Client → Bay → ℕ → ControlPart → List ℕ → Control → Outcome → Writing
+    → Writing
+after_decision c b k part item control o w = record w {
   controls = o.after;
   results = w.results ++ decision_result o.answer;
   reports = w.reports ++ refusal_reports c k item control b o.answer;
+  decisions = w.decisions ++ written_decision c k part control o.answer ∷ [];
 }
 
 -- an accepted operate is one command
@@ -66,7 +77,7 @@ later_ending before (Some ending) = Some ending
 
 -- an operate after its decision
 abbrev pub after_operate : Client → Bay → ℕ → List ℕ → asked.Operate → Outcome → Writing → Writing
-after_operate c b k item o outcome w = record (after_decision c b k item o.control outcome w) {
+after_operate c b k item o outcome w = record (after_decision c b k Operate item o.control outcome w) {
   commands = w.commands ++ commands_for k o outcome.answer;
   ending = later_ending w.ending (endings c k item o b outcome.answer);
 }
@@ -75,7 +86,7 @@ abbrev pub select_with_asked : Client → Bay → ℕ → List ℕ → Writing
     → Result asked.Operate ControlFault → Writing
 select_with_asked c b k item w (Err fault) = write_failed (control_code_of fault) w
 select_with_asked c b k item w (Ok o) =
-    after_decision c b k item o.control
+    after_decision c b k SelectWith item o.control
     (select_with_outcome c.association k (ask_of o) c.now w.controls)
     w
 
@@ -90,7 +101,7 @@ abbrev pub cancel_asked : Client → Bay → ℕ → List ℕ → Writing → Re
     → Writing
 cancel_asked c b k item w (Err fault) = write_failed (control_code_of fault) w
 cancel_asked c b k item w (Ok control) =
-    after_decision c b k item control (cancel_outcome c.association k c.now w.controls) w
+    after_decision c b k Cancel item control (cancel_outcome c.association k c.now w.controls) w
 
 -- the part of a control that is written, as a whole; SBO is read alone
 abbrev pub write_part : Client → Bay → ℕ → List ℕ → Datum → Writing → ControlPart → Writing

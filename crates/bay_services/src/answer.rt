@@ -1,5 +1,8 @@
 // What a PDU comes to.
+use crate::target::ControlPart;
 use bay_ber::outgoing::Outgoing;
+use bay_control::cause::AddCause;
+use bay_control::request::Origin;
 
 /// A command to operate a switch.
 #[derive(Clone, Copy, Debug, PartialEq, Eq)]
@@ -8,6 +11,30 @@ pub struct Command {
     pub switch: usize,
     /// Whether to close it and not open it.
     pub on: bool,
+}
+
+/// What a client writes to a control.
+#[derive(Debug, Drop)]
+pub struct Asked {
+    /// Whether to close the switch and not open it (ctlVal).
+    pub on: bool,
+    pub origin: Origin,
+    /// The number of the control (ctlNum).
+    pub ctl_num: u8,
+}
+
+/// A control that a client asked for, and what was decided of it.
+#[derive(Debug, Drop)]
+pub struct Decision {
+    /// The number of the client's association.
+    pub association: u16,
+    /// The index of the switch in the bay file, from 0.
+    pub switch: usize,
+    pub part: ControlPart,
+    /// What was written. A select by a read of SBO has none.
+    pub asked: Option<Asked>,
+    /// Whether it was accepted, or why it was refused.
+    pub answer: Result<(), AddCause>,
 }
 
 /// The PDUs of MMS that report to a client the end of its operate (IEC 61850-8-1,
@@ -27,6 +54,8 @@ pub struct Answer {
     pub sent: Vec<Outgoing>,
     /// The switches to operate.
     pub commands: Vec<Command>,
+    /// The controls that were asked for, in order.
+    pub decisions: Vec<Decision>,
     /// The reports of the end, for an operate of a switch with enhanced security.
     pub ending: Option<Ending>,
 }

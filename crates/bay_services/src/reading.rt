@@ -1,10 +1,11 @@
 // The variables of a read, one after the other.
-ghost use Rattle.std.specs.Prelude.{◌≡◌, ◌≤◌, ◌<◌, Some, map, length, IfErr, IfSome, OnOk};
+ghost use Rattle.std.specs.Prelude.{◌≡◌, ◌≤◌, ◌<◌, ◌++◌, ◌∷◌, [], Some, map, length, IfErr, IfSome, OnOk};
 ghost use Rattle.bay_mms.specs.RequestViews.{naming};
 ghost use Rattle.bay_mms.specs.declared.fault.EncodeFault.TheVariants.{TooLong};
 ghost use Rattle.bay_control.specs.Decisions.{select_outcome};
 ghost use Rattle.bay_tree.specs.Rows.{IsHandle, name_at};
 ghost use Rattle.bay_services.specs.Bay.{left_by};
+ghost use Rattle.bay_services.specs.Controls.{read_decision};
 ghost use Rattle.bay_services.specs.Places.{IsFound};
 ghost use Rattle.bay_services.specs.Reads.{select_done};
 ghost use Rattle.bay_services.specs.Reads as spec;
@@ -12,19 +13,41 @@ ghost use Rattle.bay_services.specs.Rows as spec_rows;
 ghost use Rattle.bay_services.specs.Targets.{target_of};
 ghost use Rattle.bay_services.specs.Views.{bay_view, reading};
 
+use crate::answer::Decision;
 use crate::bay::ServedBay;
 use crate::client::Client;
 use crate::target::{ControlPart, Target, target_at};
+use bay_control::cause::AddCause;
 use bay_control::controls::Controls;
 use bay_mms::fault::EncodeFault;
 use bay_mms::request::ObjectName;
 use bay_mms::results::ReadResponse;
 use bay_tree::tree::Handle;
-use std::alloc::Global;
+use std::alloc::{AllocError, Global};
 
 // The number of the error that there is no such variable (ISO 9506-2, DataAccessError:
 // object-non-existent).
 const NO_SUCH_OBJECT: u8 = 10;
+
+// Records what was decided of a select.
+fn put_select(
+    client: Client,
+    switch: usize,
+    answer: Result<(), AddCause>,
+    decisions: &mut Vec<Decision>,
+) -> Result<(), AllocError>
+    ensures { OnOk result
+        (decisions.new.items ≡ decisions.old.items ++ read_decision client switch answer ∷ []) }
+{
+    decisions.push(Decision {
+        association: client.association,
+        switch,
+        part: ControlPart::Select,
+        asked: None,
+        answer,
+    })?;
+    Ok(())
+}
 
 impl ServedBay {
     /// Returns the row of the variable with this name, which must be in the bay's domain.
@@ -62,17 +85,18 @@ impl ServedBay {
         switch: usize,
         row: Handle,
         changed: &mut Option<Controls>,
+        decisions: &mut Vec<Decision>,
         response: &mut ReadResponse,
     ) -> Result<(), EncodeFault>
         requires { IsHandle self.now.tree row }
-        ensures ok { OnOk result (reading self.now changed.new response.new.octets
-            ≡ select_done (bay_view self.now) (name_at self.now.tree row)
-            (reading self.now changed.old response.old.octets)
+        ensures ok { OnOk result (reading self.now changed.new decisions.new.items response.new.octets
+            ≡ select_done client (bay_view self.now) switch (name_at self.now.tree row)
+            (reading self.now changed.old decisions.old.items response.old.octets)
             (select_outcome client.association switch client.now
             (left_by changed.old self.now.controls))) }
         ensures long { IfErr result (λ fault. fault ≡ TooLong
-            → response.old.size < length (select_done (bay_view self.now)
-            (name_at self.now.tree row) (reading self.now changed.old response.old.octets)
+            → response.old.size < length (select_done client (bay_view self.now) switch
+            (name_at self.now.tree row) (reading self.now changed.old decisions.old.items response.old.octets)
             (select_outcome client.association switch client.now
             (left_by changed.old self.now.controls))).results) }
         ensures size { response.new.size ≡ response.old.size }
@@ -80,6 +104,7 @@ impl ServedBay {
         let mut controls = self.left(changed).duplicate();
         let answer = controls.select(client.association, switch, client.now);
         *changed = Some(controls);
+        put_select(client, switch, answer, decisions)?;
         match answer {
             Ok(()) => {
                 let object = self.object(alloc, row)?;
@@ -96,18 +121,19 @@ impl ServedBay {
         client: Client,
         row: Handle,
         changed: &mut Option<Controls>,
+        decisions: &mut Vec<Decision>,
         response: &mut ReadResponse,
     ) -> Result<(), EncodeFault>
         requires { IsFound self.now.tree row }
         ensures ok { OnOk result
-            (reading self.now changed.new response.new.octets
+            (reading self.now changed.new decisions.new.items response.new.octets
             ≡ spec.read_row client (bay_view self.now)
-            (reading self.now changed.old response.old.octets) (Some row)) }
+            (reading self.now changed.old decisions.old.items response.old.octets) (Some row)) }
         ensures long { IfErr result
             (λ fault. fault ≡ TooLong
             → response.old.size < length
             (spec.read_row client (bay_view self.now)
-            (reading self.now changed.old response.old.octets) (Some row)).results) }
+            (reading self.now changed.old decisions.old.items response.old.octets) (Some row)).results) }
         ensures size { response.new.size ≡ response.old.size }
     {
         match self.target(row) {
@@ -116,7 +142,7 @@ impl ServedBay {
                     switch,
                     part: ControlPart::Select,
                 },
-            ) => self.read_select(alloc, client, switch, row, changed, response),
+            ) => self.read_select(alloc, client, switch, row, changed, decisions, response),
             _ => response.value(&self.seen(self.left(changed)), row),
         }
     }
@@ -128,20 +154,21 @@ impl ServedBay {
         client: Client,
         name: &ObjectName<'_>,
         changed: &mut Option<Controls>,
+        decisions: &mut Vec<Decision>,
         response: &mut ReadResponse,
     ) -> Result<(), EncodeFault>
         ensures ok { OnOk result
-            (reading self.now changed.new response.new.octets
+            (reading self.now changed.new decisions.new.items response.new.octets
             ≡ spec.read_one client (bay_view self.now) (naming name.now)
-            (reading self.now changed.old response.old.octets)) }
+            (reading self.now changed.old decisions.old.items response.old.octets)) }
         ensures long { IfErr result
             (λ fault. fault ≡ TooLong
             → response.old.size < length (spec.read_one client (bay_view self.now)
-            (naming name.now) (reading self.now changed.old response.old.octets)).results) }
+            (naming name.now) (reading self.now changed.old decisions.old.items response.old.octets)).results) }
         ensures size { response.new.size ≡ response.old.size }
     {
         match self.row_named(name) {
-            Some(row) => self.read_row(alloc, client, row, changed, response),
+            Some(row) => self.read_row(alloc, client, row, changed, decisions, response),
             None => response.failure(NO_SUCH_OBJECT),
         }
     }
@@ -153,21 +180,22 @@ impl ServedBay {
         client: Client,
         names: &[ObjectName<'_>],
         changed: &mut Option<Controls>,
+        decisions: &mut Vec<Decision>,
         response: &mut ReadResponse,
     ) -> Result<(), EncodeFault>
         ensures ok { OnOk result
-            (reading self.now changed.new response.new.octets
+            (reading self.now changed.new decisions.new.items response.new.octets
             ≡ spec.read_all client (bay_view self.now) (map naming names.now)
-            (reading self.now changed.old response.old.octets)) }
+            (reading self.now changed.old decisions.old.items response.old.octets)) }
         ensures long { IfErr result
             (λ fault. fault ≡ TooLong
             → response.old.size < length (spec.read_all client (bay_view self.now)
             (map naming names.now)
-            (reading self.now changed.old response.old.octets)).results) }
+            (reading self.now changed.old decisions.old.items response.old.octets)).results) }
         ensures size { response.new.size ≡ response.old.size }
     {
         for name in names {
-            self.read_one(alloc, client, name, changed, response)?;
+            self.read_one(alloc, client, name, changed, decisions, response)?;
         }
         Ok(())
     }

@@ -14,7 +14,7 @@ ghost use Rattle.bay_services.specs.Controls.{IsShort};
 ghost use Rattle.bay_services.specs.Reads.{read_all};
 ghost use Rattle.bay_services.specs.Views.{bay_view, read_as, reading, AnswersAs};
 
-use crate::answer::Answer;
+use crate::answer::{Answer, Decision};
 use crate::bay::ServedBay;
 use crate::client::Client;
 use crate::reply::fitting;
@@ -31,15 +31,24 @@ use bay_mms::response::{
 use bay_mms::results::{ReadResponse, WriteResponse};
 use std::alloc::{AllocError, Global};
 
-// An answer that does nothing.
-fn said(alloc: Global, pdu: Outgoing) -> Result<Answer, AllocError>
-    ensures { IfOk result (λ answer. (b : Bay) → AnswersAs answer None b (spec.plain_answer pdu b)) }
+// An answer of one PDU that commands nothing.
+fn told(alloc: Global, pdu: Outgoing, decisions: Vec<Decision>) -> Result<Answer, AllocError>
+    ensures { IfOk result (λ answer. (b : Bay)
+        → AnswersAs answer None b (spec.told_answer pdu decisions.items b)) }
 {
     Ok(Answer {
         sent: vec![in alloc; pdu]?,
         commands: Vec::new(alloc),
+        decisions,
         ending: None,
     })
+}
+
+// An answer that does nothing.
+fn said(alloc: Global, pdu: Outgoing) -> Result<Answer, AllocError>
+    ensures { IfOk result (λ answer. (b : Bay) → AnswersAs answer None b (spec.plain_answer pdu b)) }
+{
+    told(alloc, pdu, Vec::new(alloc))
 }
 
 // An error, which does nothing.
@@ -153,18 +162,22 @@ impl ServedBay {
         id: u32,
         names: &[ObjectName<'_>],
         changed: &mut Option<Controls>,
+        decisions: &mut Vec<Decision>,
     ) -> Result<Outgoing, EncodeFault>
         ensures response { Gives EncodeFault.OutOfMemory (λ octets. octets) result
             (text_within client.size (read_text id
             (read_all client (bay_view self.now) (map naming names.now)
-            (reading self.now changed.old [])).results)) }
+            (reading self.now changed.old decisions.old.items [])).results)) }
         ensures after { OnOk result
             (left_by changed.new self.now.controls
             ≡ (read_all client (bay_view self.now) (map naming names.now)
-            (reading self.now changed.old [])).controls) }
+            (reading self.now changed.old decisions.old.items [])).controls) }
+        ensures decisions { OnOk result
+            (decisions.new.items ≡ (read_all client (bay_view self.now) (map naming names.now)
+            (reading self.now changed.old decisions.old.items [])).decisions) }
     {
         let mut response = ReadResponse::new(alloc, client.size)?;
-        self.read_all(alloc, client, names, changed, &mut response)?;
+        self.read_all(alloc, client, names, changed, decisions, &mut response)?;
         response.finish(id)
     }
 
@@ -182,9 +195,10 @@ impl ServedBay {
         ensures { IfOk result (λ answer. AnswersAs answer changed.new (bay_view self.now)
             (read_asked client id (bay_view self.now) (map naming names.now))) }
     {
-        let response = self.read_response(alloc, client, id, names, changed);
+        let mut decisions = Vec::new(alloc);
+        let response = self.read_response(alloc, client, id, names, changed, &mut decisions);
         match fitting(response)? {
-            Some(pdu) => said(alloc, pdu),
+            Some(pdu) => told(alloc, pdu, decisions),
             None => {
                 *changed = None;
                 failed(alloc, id, ErrorClass::Resource)
@@ -211,6 +225,7 @@ impl ServedBay {
             response: WriteResponse::new(alloc),
             reports: Vec::new(alloc),
             commands: Vec::new(alloc),
+            decisions: Vec::new(alloc),
             ending: None,
         };
         self.write_all(alloc, client, names, values, changed, &mut done)?;
@@ -218,6 +233,7 @@ impl ServedBay {
             response,
             mut reports,
             commands,
+            decisions,
             ending,
         } = done;
         match fitting(response.finish(id, client.size))? {
@@ -226,6 +242,7 @@ impl ServedBay {
                 Ok(Answer {
                     sent: reports,
                     commands,
+                    decisions,
                     ending,
                 })
             }

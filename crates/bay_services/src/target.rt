@@ -10,7 +10,7 @@ use bay_process::controls::ControlRows;
 use bay_tree::tree::{Handle, Tree};
 
 /// A part of a control (IEC 61850-8-1, the structures below CO).
-#[derive(Clone, Copy)]
+#[derive(Clone, Copy, Debug)]
 pub enum ControlPart {
     /// SBO.
     Select,

@@ -1,19 +1,20 @@
 // The variables of a write, one after the other.
-ghost use Rattle.std.specs.Prelude.{◌≡◌, ◌≤◌, ◌<◌, ◌++◌, Some, Ok, Err, map, length, IfOk, OnOk};
+ghost use Rattle.std.specs.Prelude.{◌≡◌, ◌≤◌, ◌<◌, ◌++◌, ◌∷◌, [], Some, Ok, Err, map, length, IfOk, OnOk};
 ghost use Rattle.bay_mms.specs.ControlViews.{cancelling, operating};
 ghost use Rattle.bay_mms.specs.Controls.{cancel_in, operate_in};
 ghost use Rattle.bay_tree.specs.Rows.{IsHandle, name_at};
-ghost use Rattle.bay_services.specs.Controls.{ending_of, endings, object_of, refusal_reports};
+ghost use Rattle.bay_mms.specs.ControlViews.{originating};
+ghost use Rattle.bay_services.specs.Controls.{ending_of, endings, object_of, refusal_reports, written_decision};
 ghost use Rattle.bay_services.specs.Controls as spec_controls;
 ghost use Rattle.bay_services.specs.Places.{IsFound};
 ghost use Rattle.bay_services.specs.Writes.{cancel_asked, commands_for, decision_result, later_ending, operate_asked, select_with_asked};
 ghost use Rattle.bay_services.specs.Writes as spec;
 ghost use Rattle.bay_mms.specs.RequestViews.{naming};
-ghost use Rattle.bay_mms.specs.Responses.{failure_result, success_result};
+ghost use Rattle.bay_mms.specs.Responses.{failure_result};
 ghost use Rattle.bay_mms.specs.Views.{data_in, datum_of};
 ghost use Rattle.bay_services.specs.Views.{bay_view, writing};
 
-use crate::answer::{Command, Ending};
+use crate::answer::{Asked, Command, Decision, Ending};
 use crate::bay::ServedBay;
 use crate::client::Client;
 use crate::reply::fitting;
@@ -24,7 +25,7 @@ use bay_ber::outgoing::Outgoing;
 use bay_control::cause::AddCause;
 use bay_control::controls::Controls;
 use bay_control::request::{Ask, Origin};
-use bay_mms::control::{Cancel, Operate, cancel_of, operate_of};
+use bay_mms::control::{Cancel, Operate, Origin as Originator, cancel_of, operate_of};
 use bay_mms::data::Data;
 use bay_mms::report::{ControlError, write_failed_termination, write_failure, write_termination};
 use bay_mms::request::ObjectName;
@@ -54,7 +55,22 @@ pub struct Written {
     /// The reports that controls are refused.
     pub reports: Vec<Outgoing>,
     pub commands: Vec<Command>,
+    /// What was decided of controls.
+    pub decisions: Vec<Decision>,
     pub ending: Option<Ending>,
+}
+
+// Who asks.
+fn origin_of(origin: &Originator<'_>) -> Origin
+    requires { length origin.now.or_ident.now ≤ 64 }
+    ensures { result ≡ spec_controls.origin_of (originating origin.now) }
+{
+    let mut ident = ArrayVec::new();
+    let _ = ident.try_extend_from_slice(origin.or_ident);
+    Origin {
+        cat: origin.or_cat,
+        ident,
+    }
 }
 
 // What is asked of the controls.
@@ -62,15 +78,34 @@ fn ask_of(operate: &Operate<'_>) -> Ask
     requires { length operate.now.origin.or_ident.now ≤ 64 }
     ensures { result ≡ spec_controls.ask_of (operating operate.now) }
 {
-    let mut ident = ArrayVec::new();
-    let _ = ident.try_extend_from_slice(operate.origin.or_ident);
     Ask {
         on: operate.ctl_val,
         test: operate.test,
-        origin: Origin {
-            cat: operate.origin.or_cat,
-            ident,
-        },
+        origin: origin_of(&operate.origin),
+    }
+}
+
+// What is told of a decision.
+fn decision_of(
+    client: Client,
+    switch: usize,
+    part: ControlPart,
+    control: &Cancel<'_>,
+    answer: Result<(), AddCause>,
+) -> Decision
+    requires { length control.now.origin.or_ident.now ≤ 64 }
+    ensures { result ≡ written_decision client switch part (cancelling control.now) answer }
+{
+    Decision {
+        association: client.association,
+        switch,
+        part,
+        asked: Some(Asked {
+            on: control.ctl_val,
+            origin: origin_of(&control.origin),
+            ctl_num: control.ctl_num,
+        }),
+        answer,
     }
 }
 
@@ -155,31 +190,39 @@ impl ServedBay {
             (name_at self.now.tree part.row) (cancelling control.now) (bay_view self.now)
             (Err why)) }
         ensures commands { written.new.commands ≡ written.old.commands }
+        ensures decisions { written.new.decisions ≡ written.old.decisions }
         ensures ending { written.new.ending ≡ written.old.ending }
     {
         written.response.failure(DENIED)?;
         self.report_refusal(alloc, client, part, control, why, &mut written.reports)
     }
 
-    // Records a decision's result in the response.
+    // Records a decision, and its result in the response.
     fn put_decision(
         &self,
         alloc: Global,
         client: Client,
         part: Part,
+        written_to: ControlPart,
         control: &Cancel<'_>,
         answer: Result<(), AddCause>,
         written: &mut Written,
     ) -> Result<(), AllocError>
-        requires { IsHandle self.now.tree part.row }
+        requires there { IsHandle self.now.tree part.row }
+        requires ident { length control.now.origin.or_ident.now ≤ 64 }
         ensures response { OnOk result
             (written.new.response ≡ written.old.response ++ decision_result answer) }
         ensures reports { OnOk result (written.new.reports.items
             ≡ written.old.reports.items ++ refusal_reports client part.switch
             (name_at self.now.tree part.row) (cancelling control.now) (bay_view self.now) answer) }
+        ensures decisions { OnOk result (written.new.decisions.items
+            ≡ written.old.decisions.items ++ written_decision client part.switch written_to
+            (cancelling control.now) answer ∷ []) }
         ensures commands { written.new.commands ≡ written.old.commands }
         ensures ending { written.new.ending ≡ written.old.ending }
     {
+        let decision = decision_of(client, part.switch, written_to, control, answer);
+        written.decisions.push(decision)?;
         match answer {
             Ok(()) => written.response.success(),
             Err(why) => self.refuse(alloc, client, part, control, why, written),
@@ -214,7 +257,9 @@ impl ServedBay {
             client.now,
         );
         *changed = Some(controls);
-        self.put_decision(alloc, client, part, &control_of(&operate), answer, written)
+        let control = control_of(&operate);
+        let to = ControlPart::SelectWith;
+        self.put_decision(alloc, client, part, to, &control, answer, written)
     }
 
     // Does a cancel that was written.
@@ -240,7 +285,8 @@ impl ServedBay {
         let mut controls = self.left(changed).duplicate();
         let answer = controls.cancel(client.association, part.switch, client.now);
         *changed = Some(controls);
-        self.put_decision(alloc, client, part, &cancel, answer, written)
+        let to = ControlPart::Cancel;
+        self.put_decision(alloc, client, part, to, &cancel, answer, written)
     }
 
     // The reports of the end of an operate.
@@ -273,35 +319,35 @@ impl ServedBay {
         })
     }
 
-    // Records that an operate is accepted: its command, and the reports of its end.
+    // Does what an accepted operate asks for: its command, and the reports of its end.
     fn accept(
         &self,
         alloc: Global,
         client: Client,
-        part: Part,
+        switch: usize,
+        row: Handle,
         operate: &Operate<'_>,
         written: &mut Written,
     ) -> Result<(), AllocError>
-        requires { IsHandle self.now.tree part.row }
-        ensures response { OnOk result
-            (written.new.response ≡ written.old.response ++ success_result) }
+        requires { IsHandle self.now.tree row }
+        ensures response { written.new.response ≡ written.old.response }
         ensures reports { written.new.reports ≡ written.old.reports }
+        ensures decisions { written.new.decisions ≡ written.old.decisions }
         ensures commands { OnOk result
             (written.new.commands.items
             ≡ written.old.commands.items
-            ++ commands_for part.switch (operating operate.now) (Ok tt)) }
+            ++ commands_for switch (operating operate.now) (Ok tt)) }
         ensures ending { OnOk result (written.new.ending
             ≡ later_ending written.old.ending
-            (endings client part.switch (name_at self.now.tree part.row) (operating operate.now)
+            (endings client switch (name_at self.now.tree row) (operating operate.now)
             (bay_view self.now) (Ok tt))) }
     {
-        written.response.success()?;
         written.commands.push(Command {
-            switch: part.switch,
+            switch,
             on: operate.ctl_val,
         })?;
-        if self.has_reports(part.switch) {
-            let ending = self.ending(alloc, client, part.row, operate)?;
+        if self.has_reports(switch) {
+            let ending = self.ending(alloc, client, row, operate)?;
             written.ending = Some(ending);
         }
         Ok(())
@@ -312,16 +358,17 @@ impl ServedBay {
         &self,
         alloc: Global,
         client: Client,
-        part: Part,
+        switch: usize,
+        row: Handle,
         given: &Data<'_>,
         changed: &mut Option<Controls>,
         written: &mut Written,
     ) -> Result<(), AllocError>
-        requires there { IsHandle self.now.tree part.row }
-        requires switch { part.switch < length self.now.switches }
+        requires there { IsHandle self.now.tree row }
+        requires switch { switch < length self.now.switches }
         ensures { OnOk result
             (writing self.now changed.new written.new
-            ≡ operate_asked client (bay_view self.now) part.switch (name_at self.now.tree part.row)
+            ≡ operate_asked client (bay_view self.now) switch (name_at self.now.tree row)
             (writing self.now changed.old written.old) (operate_in (datum_of given.now))) }
     {
         let operate = match operate_of(given) {
@@ -331,15 +378,19 @@ impl ServedBay {
         let mut controls = self.left(changed).duplicate();
         let answer = controls.operate(
             client.association,
-            part.switch,
+            switch,
             ask_of(&operate),
-            self.view(client, part.switch),
+            self.view(client, switch),
             client.now,
         );
         *changed = Some(controls);
+        let part = Part { switch, row };
+        let control = control_of(&operate);
+        let to = ControlPart::Operate;
+        self.put_decision(alloc, client, part, to, &control, answer, written)?;
         match answer {
-            Ok(()) => self.accept(alloc, client, part, &operate, written),
-            Err(why) => self.refuse(alloc, client, part, &control_of(&operate), why, written),
+            Ok(()) => self.accept(alloc, client, switch, row, &operate, written),
+            Err(_) => Ok(()),
         }
     }
 
@@ -373,7 +424,13 @@ impl ServedBay {
                 alloc, client, part, given, changed, written,
             ),
             ControlPart::Operate => self.write_operate(
-                alloc, client, part, given, changed, written,
+                alloc,
+                client,
+                target.switch,
+                row,
+                given,
+                changed,
+                written,
             ),
             ControlPart::Cancel => self.write_cancel(alloc, client, part, given, changed, written),
         }

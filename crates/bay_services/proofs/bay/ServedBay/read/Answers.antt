@@ -1,7 +1,7 @@
-use Rattle.std.proofs.Common.{◌≡◌, true, is_ok, map, ap, sym, ◌∙◌}
+use Rattle.std.proofs.Common.{◌≡◌, true, is_ok, map, ap, ap₂, sym, ◌∙◌}
 use Rattle.bay_control.specs.Decisions.{State}
 use Rattle.bay_mms.specs.RequestViews.{naming}
-use Rattle.bay_services.specs.Answers.{Answered, plain_answer}
+use Rattle.bay_services.specs.Answers.{told_answer}
 use Rattle.bay_services.specs.Bay.{left_by, with_controls}
 use Rattle.bay_services.specs.Reads.{nothing_read, read_all}
 use Rattle.bay_services.specs.Views.{bay_view}
@@ -15,14 +15,16 @@ returns-in-Some c =
     let made : is_ok c.read_response-response.result ≡ true =
     rw c.in-Some.is at c.in_ok-pdu.ensures.made in
     let after : left_by c.read_response-response.new.changed b.controls ≡ r.controls =
-    rw c.requires at
+    rw (c.requires, c.new-decisions.ensures.items) at
     (done c.read_response-response.result _ made c.read_response-response.ensures.after) in
-    said-with c.said.result c.in-Some.pdu _ b _ c.said.ensures
+    let told : c.read_response-response.new.decisions.items ≡ r.decisions =
+    rw (c.requires, c.new-decisions.ensures.items) at
+    (done c.read_response-response.result _ made c.read_response-response.ensures.decisions) in
+    said-with c.told.result c.in-Some.pdu _ _ b _ c.told.ensures
     (read-fits c.args.client c.args.id b r c.in-Some.pdu c.in_ok-pdu.field-0
     (c.in_ok-pdu.ensures.pdu c.args.client.size _
-    (rw c.requires at c.read_response-response.ensures.response)) c.in-Some.is
-    ∙ ap (λ (s : State). let x : Answered =
-    record (plain_answer c.in-Some.pdu b) { after = with_controls s b } in x) (sym after))
+    (rw (c.requires, c.new-decisions.ensures.items) at c.read_response-response.ensures.response)) c.in-Some.is
+    ∙ ap₂ (told_answer c.in-Some.pdu) (sym told) (ap (λ (s : State). with_controls s b) (sym after)))
 
 pub returns-in-None : goal.returns-in-None
 returns-in-None c =
@@ -31,4 +33,4 @@ returns-in-None c =
     said_as c.failed.result _ b _ c.failed.ensures
     (read-over c.args.client c.args.id b r c.in_ok-pdu.field-0
     (c.in_ok-pdu.ensures.pdu c.args.client.size _
-    (rw c.requires at c.read_response-response.ensures.response)) c.in-None.is)
+    (rw (c.requires, c.new-decisions.ensures.items) at c.read_response-response.ensures.response)) c.in-None.is)

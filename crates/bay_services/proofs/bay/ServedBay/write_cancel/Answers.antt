@@ -6,7 +6,8 @@ use Rattle.bay_mms.specs.Views.{datum_of}
 use Rattle.bay_tree.specs.Rows.{name_at}
 use Rattle.bay_services.specs.Views.{bay_view, writing}
 use Rattle.bay_services.specs.Writes.{cancel_asked}
-use Rattle.bay_services.proofs.ReplyLemmas.{both}
+use Rattle.bay_services.specs.declared.target.ControlPart.TheVariants.{Cancel}
+use Rattle.bay_services.proofs.ReplyLemmas.{all_three}
 use Rattle.bay_services.proofs.WriteLemmas.{put-down}
 use Rattle.bay_services.proofs.bay.ServedBay.write_cancel.Goals as goal
 
@@ -24,8 +25,10 @@ returns c =
     sym c.cancel_of.ensures ∙ ap (result_view cancelling) c.in-Ok.is in
     let control = cancelling c.in-Ok.cancel in
     let o = cancel_outcome a.association k a.now w.controls in
-    both c.put_decision.result _ _ _ c.put_decision.ensures.response c.put_decision.ensures.reports
-    (λ has told. put-down a b k item control control w o _ _ _ _ _ _
-    (rw same at c.cancel-answer.ensures.after) (rw same at c.cancel-answer.ensures.answer) refl has
-    told (ap (λ (v : _). v.items) c.put_decision.ensures.commands) c.put_decision.ensures.ending
+    all_three c.put_decision.result _ _ _ _ c.put_decision.ensures.response
+    c.put_decision.ensures.reports c.put_decision.ensures.decisions
+    (λ has told decided. put-down a b k Cancel item control control w o _ _ _ _ _ _ _
+    (rw same at c.cancel-answer.ensures.after) (rw same at c.cancel-answer.ensures.answer) refl
+    has told (ap (λ (v : _). v.items) c.put_decision.ensures.commands) decided
+    c.put_decision.ensures.ending
     ∙ sym (ap (cancel_asked a b k item w) read))

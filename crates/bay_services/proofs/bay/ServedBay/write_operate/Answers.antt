@@ -1,15 +1,17 @@
-use Rattle.std.proofs.Common.{◌≡◌, Ok, ap, sym, ◌∙◌}
+use Rattle.std.proofs.Common.{◌≡◌, ◌++◌, Option, Ok, Result, append-nil, ap, sym, ◌∙◌}
 use Rattle.bay_control.specs.Decisions.{operate_outcome}
+use Rattle.bay_control.specs.declared.cause.AddCause.{AddCause}
 use Rattle.bay_control.specs.declared.request.Ask.{Ask}
 use Rattle.bay_mms.specs.ControlViews.{cancelling, operating, result_view}
 use Rattle.bay_mms.specs.Controls.{operate_in}
 use Rattle.bay_mms.specs.Views.{datum_of}
 use Rattle.bay_tree.specs.Rows.{name_at}
-use Rattle.bay_services.specs.Controls.{view_of}
+use Rattle.bay_services.specs.Controls.{endings, view_of}
 use Rattle.bay_services.specs.Views.{bay_view, writing}
-use Rattle.bay_services.specs.Writes.{operate_asked, after_operate}
-use Rattle.bay_services.proofs.ReplyLemmas.{all_three, both}
-use Rattle.bay_services.proofs.WriteLemmas.{accepted, refused}
+use Rattle.bay_services.specs.Writes.{operate_asked, after_operate, commands_for, later_ending}
+use Rattle.bay_services.specs.declared.answer.Ending.{Ending}
+use Rattle.bay_services.proofs.ReplyLemmas.{both}
+use Rattle.bay_services.proofs.WriteLemmas.{operated}
 use Rattle.bay_services.proofs.bay.ServedBay.write_operate.Goals as goal
 
 pub returns-in-Ok-answer : goal.returns-in-Ok-answer
@@ -17,8 +19,8 @@ returns-in-Ok-answer c =
     let d = c.args.self.now in
     let b = bay_view d in
     let a = c.args.client in
-    let k = c.args.part.switch in
-    let item = name_at d.tree c.args.part.row in
+    let k = c.args.switch in
+    let item = name_at d.tree c.args.row in
     let w = writing d c.args.changed.now c.args.written.now in
     let same : c.duplicate-controls.result ≡ w.controls =
     c.duplicate-controls.ensures ∙ c.left.ensures in
@@ -27,12 +29,22 @@ returns-in-Ok-answer c =
     sym c.operate_of.ensures ∙ ap (result_view operating) c.in-Ok.is in
     let view = view_of a k b in
     let o = operate_outcome a.association k c.ask_of.result view a.now w.controls in
-    all_three c.accept.result _ _ _ _ c.accept.ensures.response c.accept.ensures.commands
-    c.accept.ensures.ending
-    (λ has ordered due. accepted a b k item asking w o _ _ _ _ _
+    let put = c.in_ok-put_decision.ensures in
+    both c.accept.result _ _ _ c.accept.ensures.commands c.accept.ensures.ending
+    (λ ordered due. operated a b k item asking (cancelling c.control_of-control.result) w o _
+    c.operate-answer.result _ _ _ _ _
     (rw (same, c.view.ensures) at c.operate-answer.ensures.after)
-    (sym (rw (same, c.view.ensures) at c.operate-answer.ensures.answer) ∙ c.in-Ok-answer.is) has
-    (ap (λ (v : _). v.items) c.accept.ensures.reports) ordered due
+    (rw (same, c.view.ensures) at c.operate-answer.ensures.answer) c.control_of-control.ensures
+    (c.accept.ensures.response ∙ put.response)
+    (ap (λ (v : _). v.items) c.accept.ensures.reports ∙ put.reports)
+    (ordered ∙ ap (λ (v : _). v.items ++ commands_for k asking (Ok tt)) put.commands
+    ∙ ap (λ (r : Result (Unit {0}) AddCause). w.commands ++ commands_for k asking r)
+    (sym c.in-Ok-answer.is))
+    (ap (λ (v : _). v.items) c.accept.ensures.decisions ∙ put.decisions)
+    (due ∙ ap (λ (e : Option Ending). later_ending e (endings a k item asking b (Ok tt)))
+    put.ending
+    ∙ ap (λ (r : Result (Unit {0}) AddCause). later_ending w.ending (endings a k item asking b r))
+    (sym c.in-Ok-answer.is))
     ∙ ap (λ (x : Ask). after_operate a b k item asking
     (operate_outcome a.association k x view a.now w.controls) w) c.ask_of.ensures
     ∙ sym (ap (operate_asked a b k item w) read))
@@ -42,8 +54,8 @@ returns-in-Err-answer c =
     let d = c.args.self.now in
     let b = bay_view d in
     let a = c.args.client in
-    let k = c.args.part.switch in
-    let item = name_at d.tree c.args.part.row in
+    let k = c.args.switch in
+    let item = name_at d.tree c.args.row in
     let w = writing d c.args.changed.now c.args.written.now in
     let same : c.duplicate-controls.result ≡ w.controls =
     c.duplicate-controls.ensures ∙ c.left.ensures in
@@ -52,12 +64,19 @@ returns-in-Err-answer c =
     sym c.operate_of.ensures ∙ ap (result_view operating) c.in-Ok.is in
     let view = view_of a k b in
     let o = operate_outcome a.association k c.ask_of.result view a.now w.controls in
-    both c.refuse.result _ _ _ c.refuse.ensures.response c.refuse.ensures.reports
-    (λ has told. refused a b k item asking (cancelling c.control_of.result) w o _
-    c.in-Err-answer.why _ _ _ _ (rw (same, c.view.ensures) at c.operate-answer.ensures.after)
-    (sym (rw (same, c.view.ensures) at c.operate-answer.ensures.answer) ∙ c.in-Err-answer.is)
-    c.control_of.ensures has told (ap (λ (v : _). v.items) c.refuse.ensures.commands)
-    c.refuse.ensures.ending
+    let put = c.in_ok-put_decision.ensures in
+    operated a b k item asking (cancelling c.control_of-control.result) w o _
+    c.operate-answer.result _ _ _ _ _
+    (rw (same, c.view.ensures) at c.operate-answer.ensures.after)
+    (rw (same, c.view.ensures) at c.operate-answer.ensures.answer) c.control_of-control.ensures
+    put.response put.reports
+    (ap (λ (v : _). v.items) put.commands ∙ sym (append-nil w.commands)
+    ∙ ap (λ (r : Result (Unit {0}) AddCause). w.commands ++ commands_for k asking r)
+    (sym c.in-Err-answer.is))
+    put.decisions
+    (put.ending
+    ∙ ap (λ (r : Result (Unit {0}) AddCause). later_ending w.ending (endings a k item asking b r))
+    (sym c.in-Err-answer.is))
     ∙ ap (λ (x : Ask). after_operate a b k item asking
     (operate_outcome a.association k x view a.now w.controls) w) c.ask_of.ensures
-    ∙ sym (ap (operate_asked a b k item w) read))
+    ∙ sym (ap (operate_asked a b k item w) read)

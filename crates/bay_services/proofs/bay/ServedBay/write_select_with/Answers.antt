@@ -7,7 +7,8 @@ use Rattle.bay_tree.specs.Rows.{name_at}
 use Rattle.bay_control.specs.declared.request.Ask.{Ask}
 use Rattle.bay_services.specs.Views.{bay_view, writing}
 use Rattle.bay_services.specs.Writes.{select_with_asked, after_decision}
-use Rattle.bay_services.proofs.ReplyLemmas.{both}
+use Rattle.bay_services.specs.declared.target.ControlPart.TheVariants.{SelectWith}
+use Rattle.bay_services.proofs.ReplyLemmas.{all_three}
 use Rattle.bay_services.proofs.WriteLemmas.{put-down}
 use Rattle.bay_services.proofs.bay.ServedBay.write_select_with.Goals as goal
 
@@ -25,11 +26,13 @@ returns c =
     sym c.operate_of.ensures ∙ ap (result_view operating) c.in-Ok.is in
     let control = (operating c.in-Ok.operate).control in
     let o = select_with_outcome a.association k c.ask_of.result a.now w.controls in
-    both c.put_decision.result _ _ _ c.put_decision.ensures.response c.put_decision.ensures.reports
-    (λ has told. put-down a b k item control (cancelling c.control_of.result) w o _ _ _ _ _ _
+    all_three c.put_decision.result _ _ _ _ c.put_decision.ensures.response
+    c.put_decision.ensures.reports c.put_decision.ensures.decisions
+    (λ has told decided. put-down a b k SelectWith item control (cancelling c.control_of-control.result) w o _ _ _ _ _ _ _
     (rw same at c.select_with-answer.ensures.after) (rw same at c.select_with-answer.ensures.answer)
-    c.control_of.ensures has told (ap (λ (v : _). v.items) c.put_decision.ensures.commands)
+    c.control_of-control.ensures has told
+    (ap (λ (v : _). v.items) c.put_decision.ensures.commands) decided
     c.put_decision.ensures.ending
-    ∙ ap (λ (x : Ask). after_decision a b k item control
+    ∙ ap (λ (x : Ask). after_decision a b k SelectWith item control
     (select_with_outcome a.association k x a.now w.controls) w) c.ask_of.ensures
     ∙ sym (ap (select_with_asked a b k item w) read))
