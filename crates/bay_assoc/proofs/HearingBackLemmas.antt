@@ -1,11 +1,12 @@
 -- What is heard of octets, they spell: SPDUs, and what they come to in each phase.
 use Rattle.std.proofs.Common.{◌≡◌, ℕ, zero, suc, ℤ, pos, negsuc, ◌+◌, ◌*◌, ◌<◌, Bool, true, false, cond, eqb, ltb, List, [], ◌∷◌, ◌++◌, length, filter, take, drop, Option, Some, None, Result, Ok, Err, refl, sym, ap, subst, ◌∙◌, take-append-drop, length-take, arith}
+use Rattle.std.proofs.lemmas.Option.{same_Some}
 use Rattle.std.specs.Prelude.{⊤}
 use Rattle.std.proofs.lemmas.Bool.{eqb-true, ltb-false, and_parts}
 use Rattle.std.proofs.lemmas.Bool.Decides.{nat_tests}
 use Rattle.bay_base.specs.Options.{◌>>=◌}
 use Rattle.bay_ber.proofs.ReadLemmas.{IsBytes, bind-ok}
-use Rattle.bay_ber.proofs.BackLemmas.{bind-some, some-is, bytes-behind, bytes-before, guard-false}
+use Rattle.bay_ber.proofs.BackLemmas.{bind-some, bytes-behind, bytes-before, guard-false}
 use Rattle.bay_mms.specs.declared.response.Agreed.{Agreed}
 use Rattle.bay_mms.specs.Grammar.{initiate_in}
 use Rattle.bay_mms.proofs.InitiateLemmas.{initiate-back}
@@ -40,7 +41,7 @@ long-back [] x e = absurd cc
 long-back (high ∷ []) x e = absurd cc
 long-back (high ∷ low ∷ octets) x e =
     let made : ℕ × List ℕ = (high * 256 + low, octets) in
-    let same : made ≡ x = some-is made x e in
+    let same : made ≡ x = same_Some made x e in
     subst (λ (y : ℕ × List ℕ). Sized (255 ∷ high ∷ low ∷ octets) y.1 y.0) same
     (record { size = 255 ∷ high ∷ low ∷ []; is = refl; sized = (refl, refl) })
 
@@ -55,7 +56,7 @@ size-case first octets x true low is e =
     (long-back octets x e)
 size-case first octets x false low is e =
     let made : ℕ × List ℕ = (first, octets) in
-    let same : made ≡ x = some-is made x e in
+    let same : made ≡ x = same_Some made x e in
     let less : first < 255 = below first low is in
     subst (λ (y : ℕ × List ℕ). Sized (first ∷ octets) y.1 y.0) same
     (record { size = first ∷ []; is = refl; sized = (less, refl) })
@@ -104,7 +105,7 @@ unit-back [] x b e = absurd cc
 unit-back (identifier ∷ octets) x b e =
     let c = bind-some (counted_at octets) _ x e in
     let made : Unit × List ℕ = (record { identifier = identifier; content = c.0.0 }, c.0.1) in
-    let same : made ≡ x = some-is made x c.2 in
+    let same : made ≡ x = same_Some made x c.2 in
     let later : IsBytes octets = λ i. b (suc i) in
     let k = counted-back octets c.0 later c.1 in
     let both_bytes : IsBytes (c.0.0 ++ c.0.1) =
@@ -124,15 +125,15 @@ UnitBytes (u ∷ us) = IsBytes u.content × UnitBytes us
 onto-back : (front : List Unit) (o : Option (List Unit)) (units : List Unit)
     → onto front o ≡ Some units → (later : List Unit) × (o ≡ Some later) × (units ≡ front ++ later)
 onto-back front None units e = absurd cc
-onto-back front (Some later) units e = (later, refl, sym (some-is (front ++ later) units e))
+onto-back front (Some later) units e = (later, refl, sym (same_Some (front ++ later) units e))
 
 units-within-back : (most : ℕ) (octets : List ℕ) (units : List Unit) → IsBytes octets
     → units_within most octets ≡ Some units → SpellUnits octets units × UnitBytes units
 unfolding units_within
 units-within-back zero [] units b e =
-    subst (λ (us : List Unit). SpellUnits [] us × UnitBytes us) (some-is [] units e) (refl, tt)
+    subst (λ (us : List Unit). SpellUnits [] us × UnitBytes us) (same_Some [] units e) (refl, tt)
 units-within-back (suc most) [] units b e =
-    subst (λ (us : List Unit). SpellUnits [] us × UnitBytes us) (some-is [] units e) (refl, tt)
+    subst (λ (us : List Unit). SpellUnits [] us × UnitBytes us) (same_Some [] units e) (refl, tt)
 units-within-back zero (octet ∷ octets) units b e = absurd cc
 units-within-back (suc most) (octet ∷ octets) units b e =
     front-back (octet ∷ octets) units (unit_at (octet ∷ octets)) refl b e
@@ -157,7 +158,7 @@ units-back octets units b e = units-within-back (length octets) octets units b e
 
 only-is : (units : List Unit) (u : Unit) → only_one units ≡ Some u → units ≡ u ∷ []
 only-is [] u e = absurd cc
-only-is (v ∷ []) u e = ap (λ (x : Unit). x ∷ []) (some-is v u e)
+only-is (v ∷ []) u e = ap (λ (x : Unit). x ∷ []) (same_Some v u e)
 only-is (v ∷ w ∷ units) u e = absurd cc
 
 one-unit : (octets : List ℕ) (u : Unit) → IsBytes octets → unit_in octets ≡ Some u
@@ -220,7 +221,7 @@ parameters-back identifier octets u users is whole b e =
         inner = all.0;
         is = refl;
       };
-      are = sym (some-is (users_of (filter is_user x.0)) users x.2);
+      are = sym (same_Some (users_of (filter is_user x.0)) users x.2);
       bytes = filter-units x.0 all.1;
       tests = filter-users x.0;
     }
@@ -246,7 +247,7 @@ connect-back : (octets : List ℕ) (users : List Unit) (s : Spdu) → Framed 0x0
     → IsSpdu octets s × UserBytes s
 connect-back octets [] s f b t e = absurd cc
 connect-back octets (u ∷ []) s f b t e =
-    subst (λ (x : Spdu). IsSpdu octets x × UserBytes x) (some-is (connect u.content) s e)
+    subst (λ (x : Spdu). IsSpdu octets x × UserBytes x) (same_Some (connect u.content) s e)
     (subst (λ (v : Unit). Framed 0x0D octets (v ∷ [])) (user-unit u t.0) f, b.0)
 connect-back octets (u ∷ v ∷ users) s f b t e = absurd cc
 
@@ -254,9 +255,9 @@ finish-back : (octets : List ℕ) (users : List Unit) (s : Spdu) → Framed 0x09
     → UnitBytes users → AreUsers users → finish_of (users_of users) ≡ Some s
     → IsSpdu octets s × UserBytes s
 finish-back octets [] s f b t e =
-    subst (λ (x : Spdu). IsSpdu octets x × UserBytes x) (some-is (finish None) s e) (f, tt)
+    subst (λ (x : Spdu). IsSpdu octets x × UserBytes x) (same_Some (finish None) s e) (f, tt)
 finish-back octets (u ∷ []) s f b t e =
-    subst (λ (x : Spdu). IsSpdu octets x × UserBytes x) (some-is (finish (Some u.content)) s e)
+    subst (λ (x : Spdu). IsSpdu octets x × UserBytes x) (same_Some (finish (Some u.content)) s e)
     (subst (λ (v : Unit). Framed 0x09 octets (v ∷ [])) (user-unit u t.0) f, b.0)
 finish-back octets (u ∷ v ∷ users) s f b t e = absurd cc
 
@@ -284,17 +285,17 @@ kind-back octets u s false true a d x ec ef ea ed ex whole b e =
 kind-back octets u s false false true d x ec ef ea ed ex whole b e =
     let y = bind-some (users_in u.content) _ s e in
     let p = parameters-back 0x0E octets u y.0 ea whole b y.1 in
-    subst (λ (k : Spdu). IsSpdu octets k × UserBytes k) (some-is accept s y.2)
+    subst (λ (k : Spdu). IsSpdu octets k × UserBytes k) (same_Some accept s y.2)
     ((p.kept_users, p.framed), tt)
 kind-back octets u s false false false true x ec ef ea ed ex whole b e =
     let y = bind-some (users_in u.content) _ s e in
     let p = parameters-back 0x0A octets u y.0 ed whole b y.1 in
-    subst (λ (k : Spdu). IsSpdu octets k × UserBytes k) (some-is disconnect s y.2)
+    subst (λ (k : Spdu). IsSpdu octets k × UserBytes k) (same_Some disconnect s y.2)
     ((p.kept_users, p.framed), tt)
 kind-back octets u s false false false false true ec ef ea ed ex whole b e =
     let y = bind-some (users_in u.content) _ s e in
     let p = parameters-back 0x19 octets u y.0 ex whole b y.1 in
-    subst (λ (k : Spdu). IsSpdu octets k × UserBytes k) (some-is abort s y.2)
+    subst (λ (k : Spdu). IsSpdu octets k × UserBytes k) (same_Some abort s y.2)
     ((p.kept_users, p.framed), tt)
 kind-back octets u s false false false false false ec ef ea ed ex whole b e = absurd cc
 
@@ -325,7 +326,7 @@ spdu-case : (octets : List ℕ) (s : Spdu) (t : Bool) → IsBytes octets → is_
     → IsSpdu octets s × UserBytes s
 spdu-case octets s true b is e =
     let shape = transfer-is octets is in
-    subst (λ (k : Spdu). IsSpdu octets k × UserBytes k) (some-is (transfer (drop 4 octets)) s e)
+    subst (λ (k : Spdu). IsSpdu octets k × UserBytes k) (same_Some (transfer (drop 4 octets)) s e)
     (shape, bytes-behind (1 ∷ 0 ∷ 1 ∷ 0 ∷ []) (drop 4 octets) (subst IsBytes shape b))
 spdu-case octets s false b is e =
     let x = bind-some (unit_in octets) spdu_of s e in

@@ -1,6 +1,6 @@
 -- What octets are read as, they spell: PPDUs and APDUs.
 use Rattle.std.proofs.Common.{◌≡◌, ℕ, ℤ, pos, negsuc, ◌<◌, ◌≤◌, ◌&&◌, Bool, true, false, cond, eqb, ltb, List, [], ◌∷◌, ◌++◌, length, map, Option, Some, None, refl, sym, ap, subst, ◌∙◌, ◌⊎◌, inl, inr, arith}
-use Rattle.std.proofs.lemmas.Option.{cond_some}
+use Rattle.std.proofs.lemmas.Option.{cond_some, same_Some}
 use Rattle.std.specs.List.{list_any}
 use Rattle.std.specs.Str.{bytes_eq}
 use Rattle.std.proofs.lemmas.Bool.{eqb-true, ltb-true, ltb-false, and_parts}
@@ -11,7 +11,7 @@ use Rattle.bay_ber.specs.Content.{IsInteger, integer_in}
 use Rattle.bay_ber.specs.Tags.{same_tag}
 use Rattle.bay_ber.specs.Values.{Part, value, SpellAll, value_in, few_in, all_of, each_in, known_in, under}
 use Rattle.bay_ber.proofs.ReadLemmas.{IsBytes}
-use Rattle.bay_ber.proofs.BackLemmas.{bind-some, some-is, AllBytes, tag-is, guard-false, under-is, integer-back, one-back, one-under, few-back, known-back, each-back}
+use Rattle.bay_ber.proofs.BackLemmas.{bind-some, AllBytes, tag-is, guard-false, under-is, integer-back, one-back, one-under, few-back, known-back, each-back}
 use Rattle.bay_mms.specs.Spelled.{AreEach}
 use Rattle.bay_mms.proofs.EachLemmas.{each-listed}
 use Rattle.bay_mms.specs.Tags.{context, constructed, sequence, int_tag}
@@ -44,7 +44,7 @@ pair-back id v c e =
     let x = bind-some (integer_under id) _ c e in
     let y = bind-some (under (constructed 0) v) _ c x.2 in
     let made : Carried = record { id = x.0; value = y.0 } in
-    let same : made ≡ c = some-is made c y.2 in
+    let same : made ≡ c = same_Some made c y.2 in
     let n = number-back id x.0 x.1 in
     record {
       number = n.0;
@@ -152,17 +152,17 @@ flag-back : (p : Part) (flag : Bool) → is_ber p ≡ Some flag
 unfolding is_ber
 flag-back p flag e =
     let x = bind-some (under oid_tag p) (λ name. Some (bytes_eq name ber_syntax)) flag e in
-    (x.0, under-is oid_tag p x.0 x.1, sym (some-is (bytes_eq x.0 ber_syntax) flag x.2))
+    (x.0, under-is oid_tag p x.0 x.1, sym (same_Some (bytes_eq x.0 ber_syntax) flag x.2))
 
 transfers-back : (parts : List Part) (flags : List Bool) → all_of is_ber parts ≡ Some flags
     → Transfers parts flags
-transfers-back [] flags e = record { names = []; are = refl; is = sym (some-is [] flags e) }
+transfers-back [] flags e = record { names = []; are = refl; is = sym (same_Some [] flags e) }
 transfers-back (p ∷ parts) flags e =
     let x = bind-some (is_ber p) (λ flag. all_of is_ber parts >>= λ xs. Some (flag ∷ xs)) flags e in
     let y = bind-some (all_of is_ber parts) (λ xs. Some (x.0 ∷ xs)) flags x.2 in
     let first = flag-back p x.0 x.1 in
     let more = transfers-back parts y.0 y.1 in
-    let whole = some-is (x.0 ∷ y.0) flags y.2 in
+    let whole = same_Some (x.0 ∷ y.0) flags y.2 in
     record {
       names = first.0 ∷ more.names;
       are = ap (λ (q : Part). q ∷ parts) first.1
@@ -181,7 +181,7 @@ offers-back list ber b e =
     let t = transfers-back each.parts x.0 each.all in (
       t.names,
       subst (SpellAll list) t.are each.spelled,
-      sym (some-is (list_any (λ f. f) x.0) ber x.2) ∙ ap (list_any (λ f. f)) t.is
+      sym (same_Some (list_any (λ f. f) x.0) ber x.2) ∙ ap (list_any (λ f. f)) t.is
           ∙ any-map t.names,
     )
 
@@ -211,7 +211,7 @@ context-with-back octets id syntax transfers c s b e =
       is_acse = ber.0 && bytes_eq name.0 acse_syntax;
       is_mms = ber.0 && bytes_eq name.0 mms_syntax;
     } in
-    let same : made ≡ c = some-is made c ber.2 in
+    let same : made ≡ c = same_Some made c ber.2 in
     let number = number-back id z.0 z.1 in
     let range = id-back z.0 n.0 n.1 in
     let is_name = under-is oid_tag syntax name.0 name.1 in
@@ -318,7 +318,7 @@ parts-back selector list user c b d e =
     let contexts = bind-some (contexts_in octets.0) _ c octets.2 in
     let carried = bind-some (carried_under user) _ c contexts.2 in
     let made : Connect = record { called = called.0; contexts = contexts.0; user = carried.0 } in
-    let same : made ≡ c = some-is made c carried.2 in
+    let same : made ≡ c = same_Some made c carried.2 in
     let is_list = under-is (constructed 4) list octets.0 octets.1 in
     let offer =
     offer-back octets.0 contexts.0 (subst IsBytes (ap (λ (q : Part). q.content) is_list) b)
@@ -355,7 +355,7 @@ both-fields front list user offered carried e f =
     ∙ ap (λ (q : Part). front ++ (value (constructed 4) offered ∷ q ∷ [])) f
 
 none-called : (called : Option (List ℕ)) → selector_as None ≡ Some called → called ≡ None
-none-called called e = sym (some-is None called e)
+none-called called e = sym (same_Some None called e)
 
 known-none : (known front : List Part) (list user : Part) (c : Connect)
     → known ≡ front ++ (list ∷ user ∷ []) → Parts None list user c → (IsSelectors front None)
@@ -386,7 +386,7 @@ called-back p called e =
     let s = selector-back y.0 x.0 y.2 in
     record {
       octets = x.0;
-      is = sym (some-is (Some x.0) called x.2);
+      is = sym (same_Some (Some x.0) called x.2);
       part = under-is (context 2) p y.0 y.1 ∙ ap (value (context 2)) s.0;
       short = s.1;
     }

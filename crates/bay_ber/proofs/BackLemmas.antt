@@ -3,7 +3,7 @@
 use Rattle.std.proofs.Common.{◌≡◌, ℕ, zero, suc, ℤ, ◌+◌, ◌-◌, ◌*◌, ◌<◌, Bool, true, false, cond, ltb, List, [], ◌∷◌, ◌++◌, length, filter, Option, Some, None, refl, sym, ap, subst, ◌∙◌, arith}
 use Rattle.std.proofs.lemmas.Option.{cond_some, same_Some}
 use Rattle.std.specs.Bool.{beq}
-use Rattle.std.proofs.lemmas.Bool.{eqb-true, lt-ltb, ltb-true, ltb-false, cond-true, same_from_beq, and_parts}
+use Rattle.std.proofs.lemmas.Bool.{eqb-true, lt-ltb, ltb-true, ltb-false, cond-true, and_parts}
 use Rattle.std.proofs.lemmas.List.{get_or-append-add}
 use Rattle.bay_ber.specs.declared.tag.Class.{Class}
 use Rattle.bay_ber.specs.declared.tag.Class.TheVariants.{Universal, Application, ContextSpecific, Private}
@@ -80,12 +80,18 @@ abbrev tag_with : Class → Bool → ℕ → Tag
 tag_with class constructed number =
     record { class = class; constructed = constructed; number = number }
 
+same-truth : (a b : Bool) → beq a b ≡ true → a ≡ b
+same-truth true true e = refl
+same-truth true false e = absurd cc
+same-truth false true e = absurd cc
+same-truth false false e = refl
+
 pub tag-is : (a b : Tag) → same_tag a b ≡ true → a ≡ b
 tag-is a b e =
     let x = and_parts _ _ e in
     let y = and_parts _ _ x.1 in
     let class = class-is a.class b.class x.0 in
-    let form = same_from_beq a.constructed b.constructed y.0 in
+    let form = same-truth a.constructed b.constructed y.0 in
     let number : a.number ≡ b.number = eqb-true a.number b.number y.1 in
     ap (λ (c : Class). tag_with c a.constructed a.number) class
     ∙ ap (λ (f : Bool). tag_with b.class f a.number) form

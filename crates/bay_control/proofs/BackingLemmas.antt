@@ -4,7 +4,7 @@ use Rattle.std.specs.Bool.{beq}
 use Rattle.std.specs.Prelude.{ℤ, nat_le, if◌then◌else◌, is_ok}
 use Rattle.std.specs.Cmp.Lexicographic.{same_text}
 use Rattle.std.proofs.lemmas.Bool.Decides.{Decides-int_eq}
-use Rattle.std.proofs.lemmas.Bool.{eqb-true, leb-false, same_from_beq}
+use Rattle.std.proofs.lemmas.Bool.{eqb-true, leb-false}
 use Rattle.bay_control.specs.Acts.{Act, Entry}
 use Rattle.bay_control.specs.Acts as act
 use Rattle.bay_control.specs.Backing.{AreBacked, AreBackedAfter, IsBacked}
@@ -45,9 +45,15 @@ passed : (refuses : Bool) (cause : AddCause) (rest : Result (Unit {0}) AddCause)
 passed true cause rest e = absurd cc
 passed false cause rest e = (refl, e)
 
+same-truth : (a b : Bool) → beq a b ≡ true → a ≡ b
+same-truth true true e = refl
+same-truth true false e = absurd cc
+same-truth false true e = absurd cc
+same-truth false false e = refl
+
 same-choice : (c d : Choice) → same_choice c d ≡ true → d ≡ c
 same-choice c d e =
-    let on : c.on ≡ d.on = same_from_beq c.on d.on (and-left _ _ e) in
+    let on : c.on ≡ d.on = same-truth c.on d.on (and-left _ _ e) in
     let origin = and-right (beq c.on d.on) _ e in
     let cat : c.origin.cat ≡ d.origin.cat =
     (Decides-int_eq c.origin.cat d.origin.cat).0 (and-left _ _ origin) in

@@ -1,5 +1,6 @@
 -- Names and variables: what octets spell they are read as, and the other way.
 use Rattle.std.proofs.Common.{◌≡◌, ℕ, ◌||◌, Bool, true, false, cond, ltb, List, [], ◌∷◌, length, map, Option, Some, None, Result, Ok, Err, refl, sym, ap, subst, ◌∙◌, ◌⊎◌, inl, inr}
+use Rattle.std.proofs.lemmas.Option.{same_Some}
 use Rattle.std.proofs.lemmas.Bool.{lt-ltb, le-ltb, ltb-true, ltb-false, or_parts}
 use Rattle.bay_ber.specs.declared.tag.Tag.{Tag}
 use Rattle.bay_base.specs.Options.{◌>>=◌}
@@ -7,7 +8,7 @@ use Rattle.bay_ber.specs.Tags.{same_tag}
 use Rattle.bay_ber.specs.Values.{Part, value, SpellAll, value_in, one_or_two_in, each_in, under}
 use Rattle.bay_ber.proofs.ReadLemmas.{IsBytes}
 use Rattle.bay_ber.proofs.ListingLemmas.{values-again}
-use Rattle.bay_ber.proofs.BackLemmas.{bind-some, some-is, tag-is, under-is, listed, one-back, two-back, each-back, one-read, two-read}
+use Rattle.bay_ber.proofs.BackLemmas.{bind-some, tag-is, under-is, listed, one-back, two-back, each-back, one-read, two-read}
 use Rattle.bay_mms.specs.Tags.{context, constructed, sequence, visible_tag}
 use Rattle.bay_base.specs.Results.{◌>>=◌ as ◌>>◌}
 use Rattle.bay_mms.specs.Spelled.{or_misspelled}
@@ -73,7 +74,7 @@ domain-back p o n e =
       are = ap (λ (r : Part). r ∷ listed o) (under-is visible_tag p x.0 x.1)
           ∙ ap (λ (q : Option Part). value visible_tag x.0 ∷ listed q) y.1
           ∙ ap (λ (r : Part). value visible_tag x.0 ∷ r ∷ []) (under-is visible_tag y.0 z.0 z.1);
-      is = some-is (domain x.0 z.0) n z.2;
+      is = same_Some (domain x.0 z.0) n z.2;
     }
 
 domain-named : (octets : List ℕ) (part : Part) (n : Naming)
@@ -95,7 +96,7 @@ named octets part n s b e =
     one_or_two_in part.content >>= (λ ps. domain_name ps.0 ps.1) in
     let later : Option Naming = cond (same_tag part.tag (constructed 1)) both last in
     elim (by-tag (context 0) part (Some (vmd part.content)) later (Some n) e) [
-      | inl here ↦ subst (IsName octets) (some-is (vmd part.content) n here.1)
+      | inl here ↦ subst (IsName octets) (same_Some (vmd part.content) n here.1)
           (spelled-under octets part (value (context 0) part.content) here.0 s)
       | inr next ↦ elim (by-tag (constructed 1) part both last (Some n) next.1) [
         | inl here ↦ domain-named octets part n
@@ -103,7 +104,7 @@ named octets part n s b e =
         | inr more ↦ elim (by-tag (context 2) part (Some (association part.content)) None
             (Some n)
             more.1) [
-              | inl here ↦ subst (IsName octets) (some-is (association part.content) n here.1)
+              | inl here ↦ subst (IsName octets) (same_Some (association part.content) n here.1)
                   (spelled-under octets part (value (context 2) part.content) here.0 s)
               | inr none ↦ absurd (let no : None ≡ Some n = none.1 in cc)
             ]
@@ -156,10 +157,10 @@ under-named p name n b e f =
     }
 
 partial-back : (o : Option Part) (b : Bool) → is_partial o ≡ Some b → IsPartial (listed o) b
-partial-back None b e = subst (IsPartial []) (some-is false b e) tt
+partial-back None b e = subst (IsPartial []) (same_Some false b e) tt
 partial-back (Some q) b e =
     let x = bind-some (under (constructed 5) q) _ b e in
-    subst (IsPartial (q ∷ [])) (some-is true b x.2)
+    subst (IsPartial (q ∷ [])) (same_Some true b x.2)
     (ap (λ (r : Part). r.tag) (under-is (constructed 5) q x.0 x.1))
 
 variable-parts : (octets : List ℕ) (p : Part) (o : Option Part) (v : VariableSpecification)
@@ -171,7 +172,7 @@ variable-parts octets p o v s b e =
     let y = bind-some (name_in x.0) _ v x.2 in
     let made : VariableSpecification = record { name = y.0; is_alternate = w.0 } in
     let n = under-named p x.0 y.0 b x.1 y.1 in
-    subst (IsVariable octets) (some-is made v y.2) (record {
+    subst (IsVariable octets) (same_Some made v y.2) (record {
       name = n.name;
       behind = listed o;
       parts = subst (λ (r : Part). SpellAll octets (r ∷ listed o)) n.part s;

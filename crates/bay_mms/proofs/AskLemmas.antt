@@ -1,6 +1,6 @@
 -- What octets ask is what they are answered, and the other way.
 use Rattle.std.proofs.Common.{◌≡◌, ℕ, ℤ, pos, negsuc, ◌<◌, ◌^◌, cond, ltb, List, [], ◌∷◌, Option, Some, None, Result, Ok, Err, refl, sym, ap, subst, ◌∙◌, inl, inr, arith}
-use Rattle.std.proofs.lemmas.Option.{cond_some}
+use Rattle.std.proofs.lemmas.Option.{cond_some, same_Some}
 use Rattle.std.specs.Prelude.{◌↔◌}
 use Rattle.std.proofs.lemmas.Bool.{ltb-true}
 use Rattle.bay_ber.specs.declared.fault.BerFault.{BerFault}
@@ -11,7 +11,7 @@ use Rattle.bay_ber.specs.Reading.{Reading, Begins, tlv_at}
 use Rattle.bay_ber.specs.Tags.{same_tag}
 use Rattle.bay_ber.specs.Values.{Part, value, SpellAll, part_in, value_in, one_or_two_in, under}
 use Rattle.bay_ber.proofs.ReadLemmas.{IsBytes, tlv-takes, tlv-again}
-use Rattle.bay_ber.proofs.BackLemmas.{bind-some, some-is, bytes-before, content-bytes, AllBytes, under-is, integer-back, listed, one-back, two-back, one-read}
+use Rattle.bay_ber.proofs.BackLemmas.{bind-some, bytes-before, content-bytes, AllBytes, under-is, integer-back, listed, one-back, two-back, one-read}
 use Rattle.bay_mms.specs.Tags.{context, constructed, int_tag}
 use Rattle.bay_base.specs.Results.{◌>>=◌ as ◌>>◌}
 use Rattle.bay_mms.specs.Requests.{Asking, Message, initiate, conclude, confirmed}
@@ -79,7 +79,7 @@ front-back : (octets : List ℕ) (t : Result Reading BerFault) (p : Part) → Is
     → tlv_at octets ≡ t → front_of t ≡ Some p
     → (rest : List ℕ) × Begins octets (record { tag = p.tag; content = p.content; rest = rest })
 front-back octets (Ok r) p b e f =
-    let same : part_in r ≡ p = some-is (part_in r) p f in (
+    let same : part_in r ≡ p = same_Some (part_in r) p f in (
       r.rest,
       subst (λ (q : Part). let made : Reading =
           record { tag = q.tag; content = q.content; rest = r.rest } in Begins octets made) same

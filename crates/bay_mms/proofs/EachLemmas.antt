@@ -1,9 +1,10 @@
 -- What each value of a list is read as, and what it spells: the one list out of the other.
 use Rattle.std.proofs.Common.{◌≡◌, List, [], ◌∷◌, map, Option, Some, refl, ap, subst, ◌∙◌}
+use Rattle.std.proofs.lemmas.Option.{same_Some}
 use Rattle.bay_base.specs.Options.{◌>>=◌}
 use Rattle.bay_ber.specs.Values.{Part, all_of}
 use Rattle.bay_ber.proofs.ReadLemmas.{IsBytes}
-use Rattle.bay_ber.proofs.BackLemmas.{bind-some, some-is, AllBytes}
+use Rattle.bay_ber.proofs.BackLemmas.{bind-some, AllBytes}
 use Rattle.bay_mms.specs.Spelled.{AreEach}
 
 -- What spells each of them is read as them.
@@ -29,7 +30,7 @@ pub each-listed : {A B : Type 0} (f : Part → Option B) (part : A → Part) (Is
     → (parts : List Part) (ys : List B) → AllBytes parts → all_of f parts ≡ Some ys
     → Listed part Is parts ys
 each-listed f part Is back [] ys b e =
-    record { lists = []; are = refl; each = subst (AreEach Is []) (some-is [] ys e) tt }
+    record { lists = []; are = refl; each = subst (AreEach Is []) (same_Some [] ys e) tt }
 each-listed f part Is back (p ∷ parts) ys b e =
     let x = bind-some (f p) (λ y. all_of f parts >>= λ more. Some (y ∷ more)) ys e in
     let y = bind-some (all_of f parts) (λ more. Some (x.0 ∷ more)) ys x.2 in
@@ -39,6 +40,6 @@ each-listed f part Is back (p ∷ parts) ys b e =
       lists = first.0 ∷ more.lists;
       are = ap (λ (q : Part). q ∷ parts) first.1
           ∙ ap (λ (ps : List Part). part first.0 ∷ ps) more.are;
-      each = subst (AreEach Is (first.0 ∷ more.lists)) (some-is (x.0 ∷ y.0) ys y.2)
+      each = subst (AreEach Is (first.0 ∷ more.lists)) (same_Some (x.0 ∷ y.0) ys y.2)
           (first.2, more.each);
     }

@@ -1,5 +1,6 @@
 -- The request that opens an association: what octets spell they are read as, and the other way.
 use Rattle.std.proofs.Common.{◌≡◌, ℕ, zero, suc, ℤ, pos, negsuc, ◌*◌, ◌/◌, ◌<◌, ◌≤◌, Bool, true, false, cond, ltb, List, [], ◌∷◌, ◌++◌, Option, Some, None, option_map, refl, sym, ap, subst, ◌∙◌, inl, inr, arith}
+use Rattle.std.proofs.lemmas.Option.{same_Some}
 use Rattle.std.proofs.lemmas.Bool.{le-ltb, ltb-false}
 use Rattle.bay_ber.specs.declared.tag.Tag.{Tag}
 use Rattle.bay_ber.specs.Content.{IsInteger, IsBits, BitString, integer_in, bits_in}
@@ -7,7 +8,7 @@ use Rattle.bay_base.specs.Options.{◌>>=◌}
 use Rattle.bay_ber.specs.Values.{Part, value, SpellAll, value_in, at_most_five, few_in, known_in, under}
 use Rattle.bay_ber.proofs.ReadLemmas.{IsBytes}
 use Rattle.bay_ber.proofs.ContentLemmas.{integer-again}
-use Rattle.bay_ber.proofs.BackLemmas.{bind-some, some-is, AllBytes, under-is, integer-back, bits-back, bits-again, one-under, few-back, known-back, one-read, few-read, known-read}
+use Rattle.bay_ber.proofs.BackLemmas.{bind-some, AllBytes, under-is, integer-back, bits-back, bits-again, one-under, few-back, known-back, one-read, few-read, known-read}
 use Rattle.bay_mms.specs.Tags.{context, constructed}
 use Rattle.bay_mms.specs.declared.request.Proposal.{Proposal}
 use Rattle.bay_mms.specs.Grammar.{integer_under, some_of, outstanding_as, three_bits, parameters_of, parameters_as, services_as, detail_of, detail_in, size_of, nesting_of, proposal_of, initiate_of, proposal_in, initiate_in}
@@ -147,7 +148,7 @@ positive-is : (content : List ℕ) (given z : ℤ) → IsInteger content given �
     → IsPositive content z
 positive-is content (pos zero) z is e = absurd cc
 positive-is content (pos (suc n)) z is e =
-    let same : pos (suc n) ≡ z = some-is (pos (suc n)) z e in
+    let same : pos (suc n) ≡ z = same_Some (pos (suc n)) z e in
     (suc n, sym same, omega arith, subst (IsInteger content) same is)
 positive-is content (negsuc n) z is e = absurd cc
 
@@ -166,24 +167,24 @@ given (Some p) = p ∷ []
 
 size-back : (o : Option Part) (z : Option ℤ) → size_of o ≡ Some z
     → (content : Option (List ℕ)) × (given o ≡ field (context 0) content) × IsNumber content z
-size-back None z e = (None, refl, subst (IsNumber None) (some-is None z e) tt)
+size-back None z e = (None, refl, subst (IsNumber None) (same_Some None z e) tt)
 size-back (Some p) z e =
     let x = bind-some (integer_under (context 0) p) (λ n. Some (Some n)) z e in
     let n = number-back (context 0) p x.0 x.1 in (
       Some n.0,
       ap (λ (q : Part). q ∷ []) n.1,
-      subst (IsNumber (Some n.0)) (some-is (Some x.0) z x.2) n.2,
+      subst (IsNumber (Some n.0)) (same_Some (Some x.0) z x.2) n.2,
     )
 
 nesting-back : (o : Option Part) (z : Option ℤ) → nesting_of o ≡ Some z
     → (content : Option (List ℕ)) × (given o ≡ field (context 3) content) × IsNumber content z
-nesting-back None z e = (None, refl, subst (IsNumber None) (some-is None z e) tt)
+nesting-back None z e = (None, refl, subst (IsNumber None) (same_Some None z e) tt)
 nesting-back (Some p) z e =
     let x = bind-some (integer_under (context 3) p) (λ n. Some (Some n)) z e in
     let n = number-back (context 3) p x.0 x.1 in (
       Some n.0,
       ap (λ (q : Part). q ∷ []) n.1,
-      subst (IsNumber (Some n.0)) (some-is (Some x.0) z x.2) n.2,
+      subst (IsNumber (Some n.0)) (same_Some (Some x.0) z x.2) n.2,
     )
 
 -- Parameter conformance blocks of three bits or more.
@@ -210,7 +211,7 @@ blocks-of p content (first ∷ later) count parameters part are three e =
       part = part;
       are = are;
       three = three;
-      is = sym (some-is (first / 32 * 32) parameters e);
+      is = sym (same_Some (first / 32 * 32) parameters e);
     }
 
 unguarded : {A : Type 0} (b : Bool) (o : Option A) (x : A) → cond b None o ≡ Some x
@@ -359,7 +360,7 @@ proposed first second third fourth fifth p b e =
     let n = nesting-back fourth nesting.0 nesting.1 in
     let u = under-is (constructed 4) fifth octets.0 octets.1 in
     subst (Proposed (given first ++ (second ∷ third ∷ (given fourth ++ (fifth ∷ [])))))
-    (some-is made p parameters.2) (record {
+    (same_Some made p parameters.2) (record {
       size = s.0;
       calling = c.0;
       called = d.0;

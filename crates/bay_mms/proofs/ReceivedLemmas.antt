@@ -1,5 +1,6 @@
 -- Data that are received: what octets spell they are read as, and the other way.
 use Rattle.std.proofs.Common.{◌≡◌, ℕ, zero, suc, ℤ, ◌-◌, ◌<◌, ◌≤◌, Bool, true, false, cond, eqb, List, [], ◌∷◌, length, Option, Some, refl, sym, ap, subst, ◌∙◌, inl, inr, arith}
+use Rattle.std.proofs.lemmas.Option.{same_Some}
 use Rattle.std.proofs.Math.Nat.{le-max_left, le-max_right, max-le}
 use Rattle.std.proofs.lemmas.Bool.{eq-eqb, eqb-true, eqb-false, ne_eqb, or_parts}
 use Rattle.bay_ber.specs.declared.tag.Tag.{Tag}
@@ -10,7 +11,7 @@ use Rattle.bay_ber.specs.Values.{Part, value, SpellAll, is_known, all_of, each_i
 use Rattle.bay_ber.proofs.ReadLemmas.{IsBytes}
 use Rattle.bay_ber.proofs.ContentLemmas.{integer-again}
 use Rattle.bay_ber.proofs.ListingLemmas.{values-again}
-use Rattle.bay_ber.proofs.BackLemmas.{bind-some, some-is, AllBytes, integer-back, bits-back, bits-again, truth-back, truth-again, each-back}
+use Rattle.bay_ber.proofs.BackLemmas.{bind-some, AllBytes, integer-back, bits-back, bits-again, truth-back, truth-again, each-back}
 use Rattle.bay_mms.specs.Data as mms
 use Rattle.bay_mms.specs.Data.{Datum, Data, structure, truth, bits, integer, unsigned, octets, text, utc, other, no_data, datum}
 use Rattle.bay_mms.specs.Tags.{context, constructed}
@@ -194,7 +195,7 @@ IsWithin n part d = IsDatum part d × (depth_of d ≤ n)
 utc-back : (part : Part) (d : Datum) → part ≡ value (context 17) part.content
     → Some (utc_as part) ≡ Some d → IsWithin 1 part d
 unfolding utc_as
-utc-back part d is e = pick (eqb (length part.content) 8) refl (some-is _ d e)
+utc-back part d is e = pick (eqb (length part.content) 8) refl (same_Some _ d e)
   where
     pick : (b : Bool) → eqb (length part.content) 8 ≡ b
         → cond b (mms.utc part.content) (mms.other part.tag part.content) ≡ d → IsWithin 1 part d
@@ -215,7 +216,7 @@ string-back part d n2 n3 n4 n5 n6 e =
     let last : Datum =
     cond (same_tag part.tag (context 17)) (utc_as part) (mms.other part.tag part.content) in
     let later : Datum = cond (same_tag part.tag (context 10)) (mms.text part.content) last in
-    elim (by-tag (context 9) part (mms.octets part.content) later d (some-is _ d e)) [
+    elim (by-tag (context 9) part (mms.octets part.content) later d (same_Some _ d e)) [
       | inl here ↦ subst (IsWithin 1 part) here.1 (here.0, omega arith)
       | inr next ↦ elim (by-tag (context 10) part (mms.text part.content) last d next.1) [
         | inl here ↦ subst (IsWithin 1 part) here.1 (here.0, omega arith)
@@ -244,22 +245,22 @@ simple-back part d n2 e =
     elim (by-tag (context 3) part truths from4 (Some d) e) [
       | inl here ↦
           let x = bind-some (truth_in part.content) _ d here.1 in
-          subst (IsWithin 1 part) (some-is (mms.truth x.0) d x.2)
+          subst (IsWithin 1 part) (same_Some (mms.truth x.0) d x.2)
           ((part.content, here.0, truth-back part.content x.0 x.1), omega arith)
       | inr n3 ↦ elim (by-tag (context 4) part bit_strings from5 (Some d) n3.1) [
         | inl here ↦
             let x = bind-some (bits_in part.content) _ d here.1 in
-            subst (IsWithin 1 part) (some-is (mms.bits x.0.octets x.0.count) d x.2)
+            subst (IsWithin 1 part) (same_Some (mms.bits x.0.octets x.0.count) d x.2)
             ((part.content, here.0, bits-back part.content x.0 x.1), omega arith)
         | inr n4 ↦ elim (by-tag (context 5) part integers from6 (Some d) n4.1) [
           | inl here ↦
               let x = bind-some (integer_in part.content) _ d here.1 in
-              subst (IsWithin 1 part) (some-is (mms.integer x.0) d x.2)
+              subst (IsWithin 1 part) (same_Some (mms.integer x.0) d x.2)
               ((part.content, here.0, integer-back part.content x.0 x.1), omega arith)
           | inr n5 ↦ elim (by-tag (context 6) part unsigneds strings (Some d) n5.1) [
             | inl here ↦
                 let x = bind-some (integer_in part.content) _ d here.1 in
-                subst (IsWithin 1 part) (some-is (mms.unsigned x.0) d x.2)
+                subst (IsWithin 1 part) (same_Some (mms.unsigned x.0) d x.2)
                 ((part.content, here.0, integer-back part.content x.0 x.1), omega arith)
             | inr n6 ↦ string-back part d n2 n3.0 n4.0 n5.0 n6.0 n6.1
           ]
@@ -275,7 +276,7 @@ data-back : (n : ℕ) → ((part : Part) (d : Datum) → IsBytes part.content �
     → IsWithin n part d) → (pieces : List Part) (ds : List Datum) → AllBytes pieces
     → all_of (datum_as n) pieces ≡ Some ds → Reads n pieces (data_before ds no_data)
 data-back n one [] ds b e =
-    subst (λ (xs : List Datum). Reads n [] (data_before xs no_data)) (some-is [] ds e)
+    subst (λ (xs : List Datum). Reads n [] (data_before xs no_data)) (same_Some [] ds e)
     (record { are = tt; deep = omega arith })
 data-back n one (p ∷ pieces) ds b e =
     let x = bind-some (datum_as n p) (λ d. all_of (datum_as n) pieces >>= λ more. Some (d ∷ more))
@@ -284,7 +285,7 @@ data-back n one (p ∷ pieces) ds b e =
     let first = one p x.0 b.0 x.1 in
     let more = data-back n one pieces y.0 b.1 y.1 in
     subst (λ (xs : List Datum). Reads n (p ∷ pieces) (data_before xs no_data))
-    (some-is (x.0 ∷ y.0) ds y.2) (record {
+    (same_Some (x.0 ∷ y.0) ds y.2) (record {
       are = (first.0, more.are);
       deep = max-le first.1 more.deep;
     })
@@ -303,7 +304,7 @@ datum-back (suc n) part d b e =
           (λ ds. Some (mms.structure (data_before ds no_data))) d here.1 in
           let each = each-back (datum_as n) part.content x.0 b x.1 in
           let r = data-back n (datum-back n) each.parts x.0 each.bytes each.all in
-          subst (IsWithin (suc n) part) (some-is (mms.structure (data_before x.0 no_data)) d x.2) (
+          subst (IsWithin (suc n) part) (same_Some (mms.structure (data_before x.0 no_data)) d x.2) (
             (part.content, each.parts, here.0, each.spelled, r.are),
             (let deep = r.deep in omega arith),
           )
@@ -313,11 +314,11 @@ datum-back (suc n) part d b e =
 
 pub written-back : (pieces : List Part) (ds : List Datum) → AllBytes pieces
     → all_of (datum_as 10) pieces ≡ Some ds → AreWritten pieces ds
-written-back [] ds b e = subst (AreWritten []) (some-is [] ds e) tt
+written-back [] ds b e = subst (AreWritten []) (same_Some [] ds e) tt
 written-back (p ∷ pieces) ds b e =
     let x = bind-some (datum_as 10 p) (λ d. all_of (datum_as 10) pieces >>= λ more. Some (d ∷ more))
     ds e in
     let y = bind-some (all_of (datum_as 10) pieces) (λ more. Some (x.0 ∷ more)) ds x.2 in
     let first = datum-back 10 p x.0 b.0 x.1 in
-    subst (AreWritten (p ∷ pieces)) (some-is (x.0 ∷ y.0) ds y.2)
+    subst (AreWritten (p ∷ pieces)) (same_Some (x.0 ∷ y.0) ds y.2)
     (first, written-back pieces y.0 b.1 y.1)

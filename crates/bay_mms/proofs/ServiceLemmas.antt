@@ -1,5 +1,6 @@
 -- The services that are asked for: what octets spell they are read as, and the other way.
 use Rattle.std.proofs.Common.{◌≡◌, ℕ, ℤ, ◌||◌, Bool, true, false, not, cond, eqb, List, [], ◌∷◌, ◌++◌, length, map, Option, Some, None, Result, Ok, Err, refl, sym, ap, subst, ◌∙◌, inl, inr}
+use Rattle.std.proofs.lemmas.Option.{same_Some}
 use Rattle.std.proofs.lemmas.List.{length-map}
 use Rattle.std.proofs.lemmas.Bool.{eq-eqb, eqb-true, eqb-false, ne_eqb, false_from_ne_true, and_parts, not-true}
 use Rattle.bay_ber.specs.declared.tag.Class.{Class}
@@ -12,7 +13,7 @@ use Rattle.bay_ber.specs.Values.{Part, value, SpellAll, value_in, one_or_two_in,
 use Rattle.bay_ber.proofs.ReadLemmas.{IsBytes}
 use Rattle.bay_ber.proofs.ContentLemmas.{integer-again}
 use Rattle.bay_ber.proofs.ListingLemmas.{values-again}
-use Rattle.bay_ber.proofs.BackLemmas.{bind-some, some-is, AllBytes, tag-is, under-is, integer-back, listed, one-back, two-back, few-back, each-back, one-read, two-read, few-read}
+use Rattle.bay_ber.proofs.BackLemmas.{bind-some, AllBytes, tag-is, under-is, integer-back, listed, one-back, two-back, few-back, each-back, one-read, two-read, few-read}
 use Rattle.bay_mms.specs.Data.{Datum}
 use Rattle.bay_mms.specs.Tags.{context, constructed}
 use Rattle.bay_base.specs.Results.{◌>>=◌ as ◌>>◌}
@@ -225,7 +226,7 @@ overfull-read part (inr w) =
 
 nothing-back : {A : Type 0} (content : List ℕ) (x y : A) → nothing content x ≡ Some y
     → (content ≡ []) × (x ≡ y)
-nothing-back [] x y e = (refl, some-is x y e)
+nothing-back [] x y e = (refl, same_Some x y e)
 nothing-back (octet ∷ octets) x y e = absurd cc
 
 empty-under : (octets : List ℕ) (tag : Tag) (part : Part) → part ≡ value tag part.content
@@ -246,7 +247,7 @@ place_of octets part place s e =
           subst (IsPlace octets) n.1 (empty-under octets (context 0) part here.0 n.0 s)
       | inr next ↦ elim (by-tag (context 1) part (Some (in_domain part.content)) last (Some place)
           next.1) [
-            | inl here ↦ subst (IsPlace octets) (some-is (in_domain part.content) place here.1)
+            | inl here ↦ subst (IsPlace octets) (same_Some (in_domain part.content) place here.1)
                 (spelled-under octets part (value (context 1) part.content) here.0 s)
             | inr more ↦ elim (by-tag (context 2) part (nothing part.content of_association) None
                 (Some place) more.1) [
@@ -328,14 +329,14 @@ listing-parts part (p ∷ []) asking is s b e = absurd cc
 listing-parts part (p ∷ q ∷ []) asking is s b e =
     let x = bind-some (class_as p) _ asking e in
     let y = bind-some (scope_as q) _ asking x.2 in
-    subst (IsService part) (some-is (names x.0 y.0 None) asking y.2)
+    subst (IsService part) (same_Some (names x.0 y.0 None) asking y.2)
     (listing-of part p q [] x.0 y.0 None is s (class-back p x.0 b.0 x.1)
     (scope-back q y.0 b.1.0 y.1) refl)
 listing-parts part (p ∷ q ∷ r ∷ []) asking is s b e =
     let x = bind-some (class_as p) _ asking e in
     let y = bind-some (scope_as q) _ asking x.2 in
     let z = bind-some (under (context 2) r) _ asking y.2 in
-    subst (IsService part) (some-is (names x.0 y.0 (Some z.0)) asking z.2)
+    subst (IsService part) (same_Some (names x.0 y.0 (Some z.0)) asking z.2)
     (listing-of part p q (r ∷ []) x.0 y.0 (Some z.0) is s (class-back p x.0 b.0 x.1)
     (scope-back q y.0 b.1.0 y.1) (ap (λ (t : Part). t ∷ []) (under-is (context 2) r z.0 z.1)))
 listing-parts part (p ∷ q ∷ r ∷ t ∷ parts) asking is s b e = absurd cc

@@ -1,6 +1,6 @@
 -- Lemmas on the releases that a process is told.
 use Rattle.std.proofs.Common.{◌≡◌, ℕ, zero, suc, ◌+◌, ◌<◌, ◌==◌, Bool, ◌&&◌, if◌then◌else◌, true, false, List, [], ◌∷◌, ◌++◌, length, map, replicate, drop, get_or, add-one, nat_lt, slice_get, Option, None, Some, is_some, Result, Ok, Err, refl, sym, ap, ap₂, ◌∙◌, subst, arith, append_assoc, append-nil}
-use Rattle.std.proofs.lemmas.Bool.{same_from_beq, and_parts}
+use Rattle.std.proofs.lemmas.Bool.{and_parts}
 use Rattle.std.proofs.Math.Seq.{drop-cons}
 use Rattle.std.proofs.lemmas.Bool.Decides.{nat_tests}
 use Rattle.std.proofs.lemmas.List.FromFn.{get_or-map-range_with_len, length-map-range_with_len}
@@ -51,10 +51,16 @@ last-append : (k : ℕ) (last : Option Release) (xs ys : List (ℕ × Release))
 last-append k last [] ys = refl
 last-append k last (x ∷ xs) ys = last-append k (if x.0 == k then Some x.1 else last) xs ys
 
+same-truth : (a b : Bool) → beq a b ≡ true → a ≡ b
+same-truth true true e = refl
+same-truth true false e = absurd cc
+same-truth false true e = absurd cc
+same-truth false false e = refl
+
 same-release : (a b : Release) → is_same (Some a) b ≡ true → a ≡ b
 same-release a b e =
     let both = and_parts (beq a.0 b.0) (beq a.1 b.1) e in
-    ap₂ (λ x y. (x, y)) (same_from_beq a.0 b.0 both.0) (same_from_beq a.1 b.1 both.1)
+    ap₂ (λ x y. (x, y)) (same-truth a.0 b.0 both.0) (same-truth a.1 b.1 both.1)
 
 -- another switch
 other-said : (k j : ℕ) (told last now : Option Release) → (j == k) ≡ false

@@ -75,13 +75,14 @@ fn origin_of(origin: &Originator<'_>) -> Origin
 
 // What is asked of the controls.
 fn ask_of(operate: &Operate<'_>) -> Ask
-    requires { length operate.now.origin.or_ident.now ≤ 64 }
+    requires { length operate.now.control.origin.or_ident.now ≤ 64 }
     ensures { result ≡ spec_controls.ask_of (operating operate.now) }
 {
+    let control = &operate.control;
     Ask {
-        on: operate.ctl_val,
-        test: operate.test,
-        origin: origin_of(&operate.origin),
+        on: control.ctl_val,
+        test: control.test,
+        origin: origin_of(&control.origin),
     }
 }
 
@@ -106,19 +107,6 @@ fn decision_of(
             ctl_num: control.ctl_num,
         }),
         answer,
-    }
-}
-
-// What an operate has of a control.
-fn control_of<'a>(operate: &Operate<'a>) -> Cancel<'a>
-    ensures { cancelling result ≡ (operating operate.now).control }
-{
-    Cancel {
-        ctl_val: operate.ctl_val,
-        origin: operate.origin,
-        ctl_num: operate.ctl_num,
-        t: operate.t,
-        test: operate.test,
     }
 }
 
@@ -257,9 +245,8 @@ impl ServedBay {
             client.now,
         );
         *changed = Some(controls);
-        let control = control_of(&operate);
         let to = ControlPart::SelectWith;
-        self.put_decision(alloc, client, part, to, &control, answer, written)
+        self.put_decision(alloc, client, part, to, &operate.control, answer, written)
     }
 
     // Does a cancel that was written.
@@ -307,8 +294,8 @@ impl ServedBay {
         let object = self.object(alloc, row)?;
         let error = ControlError {
             object: object.as_str(),
-            origin: operate.origin,
-            ctl_num: operate.ctl_num,
+            origin: operate.control.origin,
+            ctl_num: operate.control.ctl_num,
             add_cause: AddCause::TimeLimitOver.code(),
         };
         let positive = write_termination(alloc, domain, item, operate, client.size);
@@ -344,7 +331,7 @@ impl ServedBay {
     {
         written.commands.push(Command {
             switch,
-            on: operate.ctl_val,
+            on: operate.control.ctl_val,
         })?;
         if self.has_reports(switch) {
             let ending = self.ending(alloc, client, row, operate)?;
@@ -385,9 +372,8 @@ impl ServedBay {
         );
         *changed = Some(controls);
         let part = Part { switch, row };
-        let control = control_of(&operate);
         let to = ControlPart::Operate;
-        self.put_decision(alloc, client, part, to, &control, answer, written)?;
+        self.put_decision(alloc, client, part, to, &operate.control, answer, written)?;
         match answer {
             Ok(()) => self.accept(alloc, client, switch, row, &operate, written),
             Err(_) => Ok(()),

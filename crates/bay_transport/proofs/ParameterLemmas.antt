@@ -1,6 +1,7 @@
 -- Parameters are spelled in one way, and the answer's parameters are at most as long as the
 -- request's.
 use Rattle.std.proofs.Common.{◌≡◌, ℕ, zero, suc, ◌+◌, ◌≤◌, Bool, true, false, cond, eqb, List, [], ◌∷◌, ◌++◌, length, take, drop, min, Option, Some, None, Ok, Err, refl, sym, ap, ◌∙◌, inl, inr, arith}
+use Rattle.std.proofs.lemmas.Option.{same_Some}
 use Rattle.std.specs.Option.{option_map}
 use Rattle.std.proofs.lemmas.Bool.{cases_eq, cases_lt, ne_eqb, lt-ltb, le-ltb}
 use Rattle.std.proofs.lemmas.List.{length-append, length-take-le, take-append-drop, take_at, drop_at}
@@ -103,19 +104,16 @@ parts-within (p ∷ ps) =
     let ih = parts-within ps in
     omega (arith, length-append p.value (parameter_octets ps))
 
-some-is : {A : Type 0} {x y : A} → Some x ≡ Some y → x ≡ y
-some-is e = cc
-
 size-part : (v : Option (List ℕ)) (power : Option ℕ) (size : ℕ) → size_of v ≡ Some (power, size)
     → length (where_there 192 (size_value power)) ≡ length (where_there 192 v)
 size-part None power size e = let p : None ≡ power =
-    ap (λ (s : Option ℕ × ℕ). s.0) (some-is e) in rw (← p) refl
+    ap (λ (s : Option ℕ × ℕ). s.0) (same_Some _ _ e) in rw (← p) refl
 size-part (Some []) power size e = absurd (cc)
 size-part (Some (x ∷ [])) power size e =
     elim (cases_lt x 7) [
       | inl few ↦ absurd (let f : None ≡ Some (power, size) = rw (lt-ltb x 7 few) at e in cc)
       | inr some ↦ let f = rw (le-ltb x 7 some) at e in let p : Some (min x 13) ≡ power =
-          ap (λ (s : Option ℕ × ℕ). s.0) (some-is f) in rw (← p) refl
+          ap (λ (s : Option ℕ × ℕ). s.0) (same_Some _ _ f) in rw (← p) refl
     ]
 size-part (Some (x ∷ y ∷ more)) power size e = absurd (cc)
 
@@ -123,7 +121,7 @@ size-part (Some (x ∷ y ∷ more)) power size e = absurd (cc)
 
 read-value : (code : ℕ) (ps : List Parameter) (value : Option (List ℕ))
     → option_map (last_value code) (Some ps) ≡ Some value → last_value code ps ≡ value
-read-value code ps value e = some-is e
+read-value code ps value e = same_Some _ _ e
 
 -- the answer's parameters take no more octets than the request's
 pub answered-within : (octets : List ℕ) (o : Option (List Parameter))

@@ -1,8 +1,8 @@
-use Rattle.std.proofs.Common.{◌≡◌, ◌++◌, Option, Ok, Result, append-nil, ap, sym, ◌∙◌}
+use Rattle.std.proofs.Common.{◌≡◌, ◌++◌, Option, Ok, Result, append-nil, ap, refl, sym, ◌∙◌}
 use Rattle.bay_control.specs.Decisions.{operate_outcome}
 use Rattle.bay_control.specs.declared.cause.AddCause.{AddCause}
 use Rattle.bay_control.specs.declared.request.Ask.{Ask}
-use Rattle.bay_mms.specs.ControlViews.{cancelling, operating, result_view}
+use Rattle.bay_mms.specs.ControlViews.{operating, result_view}
 use Rattle.bay_mms.specs.Controls.{operate_in}
 use Rattle.bay_mms.specs.Views.{datum_of}
 use Rattle.bay_tree.specs.Rows.{name_at}
@@ -31,10 +31,10 @@ returns-in-Ok-answer c =
     let o = operate_outcome a.association k c.ask_of.result view a.now w.controls in
     let put = c.in_ok-put_decision.ensures in
     both c.accept.result _ _ _ c.accept.ensures.commands c.accept.ensures.ending
-    (λ ordered due. operated a b k item asking (cancelling c.control_of-control.result) w o _
+    (λ ordered due. operated a b k item asking asking.control w o _
     c.operate-answer.result _ _ _ _ _
     (rw (same, c.view.ensures) at c.operate-answer.ensures.after)
-    (rw (same, c.view.ensures) at c.operate-answer.ensures.answer) c.control_of-control.ensures
+    (rw (same, c.view.ensures) at c.operate-answer.ensures.answer) refl
     (c.accept.ensures.response ∙ put.response)
     (ap (λ (v : _). v.items) c.accept.ensures.reports ∙ put.reports)
     (ordered ∙ ap (λ (v : _). v.items ++ commands_for k asking (Ok tt)) put.commands
@@ -65,10 +65,10 @@ returns-in-Err-answer c =
     let view = view_of a k b in
     let o = operate_outcome a.association k c.ask_of.result view a.now w.controls in
     let put = c.in_ok-put_decision.ensures in
-    operated a b k item asking (cancelling c.control_of-control.result) w o _
+    operated a b k item asking asking.control w o _
     c.operate-answer.result _ _ _ _ _
     (rw (same, c.view.ensures) at c.operate-answer.ensures.after)
-    (rw (same, c.view.ensures) at c.operate-answer.ensures.answer) c.control_of-control.ensures
+    (rw (same, c.view.ensures) at c.operate-answer.ensures.answer) refl
     put.response put.reports
     (ap (λ (v : _). v.items) put.commands ∙ sym (append-nil w.commands)
     ∙ ap (λ (r : Result (Unit {0}) AddCause). w.commands ++ commands_for k asking r)

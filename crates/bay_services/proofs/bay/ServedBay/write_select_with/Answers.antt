@@ -1,6 +1,6 @@
-use Rattle.std.proofs.Common.{◌≡◌, Ok, ap, sym, ◌∙◌}
+use Rattle.std.proofs.Common.{◌≡◌, Ok, ap, refl, sym, ◌∙◌}
 use Rattle.bay_control.specs.Decisions.{select_with_outcome}
-use Rattle.bay_mms.specs.ControlViews.{cancelling, operating, result_view}
+use Rattle.bay_mms.specs.ControlViews.{operating, result_view}
 use Rattle.bay_mms.specs.Controls.{operate_in}
 use Rattle.bay_mms.specs.Views.{datum_of}
 use Rattle.bay_tree.specs.Rows.{name_at}
@@ -28,9 +28,9 @@ returns c =
     let o = select_with_outcome a.association k c.ask_of.result a.now w.controls in
     all_three c.put_decision.result _ _ _ _ c.put_decision.ensures.response
     c.put_decision.ensures.reports c.put_decision.ensures.decisions
-    (λ has told decided. put-down a b k SelectWith item control (cancelling c.control_of-control.result) w o _ _ _ _ _ _ _
+    (λ has told decided. put-down a b k SelectWith item control control w o _ _ _ _ _ _ _
     (rw same at c.select_with-answer.ensures.after) (rw same at c.select_with-answer.ensures.answer)
-    c.control_of-control.ensures has told
+    refl has told
     (ap (λ (v : _). v.items) c.put_decision.ensures.commands) decided
     c.put_decision.ensures.ending
     ∙ ap (λ (x : Ask). after_decision a b k SelectWith item control
