@@ -7,14 +7,14 @@ use Rattle.bay_config.specs.declared.bay.MeterField.{MeterField}
 use Rattle.bay_control.specs.Decisions as control
 use Rattle.bay_connection.specs.Talk.{Indication, answers, tells, releases, ends as ends-heard, fails, Talk, Terms, indications, left_by, sending}
 use Rattle.bay_services.specs.Answers.{pdu_answer}
-use Rattle.bay_services.specs.Released.{AreTimed, Leaves, releasing}
+use Rattle.bay_services.specs.Released.{AreTimed, Leaves}
 use Rattle.bay_services.specs.Released as services
 use Rattle.bay_services.specs.declared.answer.Command.{Command}
 use Rattle.bay_services.proofs.ReleaseLemmas.{Sole, all-of, answer-sent, at-most-one, busy-still, commands-each, idle-now, leaves-then, leaves-with, request-leaves, sole-said}
 use Rattle.bay_device.specs.Commands.{AreCommanded, CommandedAt, IsReleasedAt, IsSingle}
 use Rattle.bay_device.specs.Device.{State, device_at, bay_of, ended_at, is_recent}
 use Rattle.bay_device.specs.Hearing.{Done, AllHeard, client_at, after_indications, on_heard, after_pdu, sent_on, with_sent}
-use Rattle.bay_device.specs.Outcomes.{Outcome, close_outcome, connection_at, contact_outcome, event_outcome, input_outcome, first_talk, last_moment, measure_outcome, nothing_done, octets_outcome, open_outcome, place_of, recv_after, recv_outcome, with_connection, without_owner}
+use Rattle.bay_device.specs.Outcomes.{Outcome, close_outcome, connection_at, contact_outcome, event_outcome, input_outcome, first_talk, last_moment, measure_outcome, nothing_done, octets_outcome, open_outcome, place_of, quiet_step, recv_after, recv_outcome, with_connection, without_owner}
 use Rattle.bay_device.specs.Steps.{Steps}
 use Rattle.bay_device.specs.declared.event.Event.{Event}
 use Rattle.bay_device.specs.declared.event.Event.TheVariants.{Open, Recv, Close, Contact, Input, Measure, Scan}
@@ -154,8 +154,7 @@ abbrev Commanded : ℕ → State → Result Step StepFault → Type 0
 Commanded now s answer = IfOk answer (AreCommanded now s)
 
 none-commanded : (now : ℕ) (s : State) (ended : Option Sent) (scan : Option ℕ)
-    → AreCommanded now s (record
-    { ended = ended; sent = []; commands = []; closed = None; scan = scan })
+    → AreCommanded now s (record (quiet_step ended) { scan = scan })
 none-commanded now s ended scan =
     record { released = λ k d lt. absurd (omega (arith, lt)); replied = λ some. absurd (some refl) }
 

@@ -1,11 +1,12 @@
 -- What is made of an answer.
-use Rattle.std.proofs.Common.{◌≡◌, ◌≤◌, ℕ, suc, All, List, [], ◌∷◌, ◌++◌, length, map, take, Option, Some, None, IsSome, IfSome, Result, Ok, Err, refl, ap, ◌∙◌, arith}
+use Rattle.std.proofs.Common.{◌≡◌, ◌≤◌, ℕ, suc, All, List, [], ◌∷◌, ◌++◌, length, map, take, Option, Some, None, IsSome, IfSome, Result, Ok, Err, refl, ap, ap₂, ◌∙◌, arith}
 use Rattle.std.specs.Result.{IfOk, OnOk}
 use Rattle.bay_assoc.specs.declared.hearing.AssociationTerms.{AssociationTerms}
 use Rattle.bay_connection.specs.Talk.{Terms, sending}
 use Rattle.bay_services.specs.Answers.{Answered}
 use Rattle.bay_services.specs.Bay.{Bay}
 use Rattle.bay_services.specs.declared.answer.Command.{Command}
+use Rattle.bay_services.specs.declared.answer.Decision.{Decision}
 use Rattle.bay_device.specs.Device.{State, with_bay}
 use Rattle.bay_device.specs.Hearing.{Done, answered_with, due_if, later_due, sent_on, size_of}
 use Rattle.bay_device.specs.declared.due.Due.{Due}
@@ -44,31 +45,33 @@ pub others-short : (pdu : List ℕ) (rest : List (List ℕ))
 others-short pdu rest all k d lt = all (suc k) d (omega (arith, lt))
 
 -- a device, and what is made of it
-abbrev done : State → List Sent → List Command → Done
-done s sent commands = record { state = s; sent = sent; commands = commands }
+abbrev done : State → List Sent → List Command → List Decision → Done
+done s sent commands decisions =
+    record { state = s; sent = sent; commands = commands; decisions = decisions }
 
 -- what an answer comes to
 pub answered-done : (a : ℕ) (terms : Terms) (x : Answered) (s : State) (sent made : List Sent)
-    (commands obeyed : List Command) (b : Bay) (due : Option Due) → b ≡ x.after
-    → due ≡ later_due s.due (due_if a terms x.ending)
+    (commands obeyed : List Command) (before decisions : List Decision) (b : Bay)
+    (due : Option Due) → b ≡ x.after → due ≡ later_due s.due (due_if a terms x.ending)
     → made ≡ sent ++ map (λ pdu. sent_on a (sending terms pdu)) x.sent
-    → obeyed ≡ commands ++ x.commands
-    → done (record (with_bay b s) { due = due }) made obeyed
-    ≡ answered_with a terms x (done s sent commands)
-answered-done a terms x s sent made commands obeyed b due after is sends does =
-    ap (λ (y : Bay). done (record (with_bay y s) { due = due }) made obeyed) after
-    ∙ ap (λ (y : Option Due). done (record (with_bay x.after s) { due = y }) made obeyed) is
+    → obeyed ≡ commands ++ x.commands → decisions ≡ before ++ x.decisions
+    → done (record (with_bay b s) { due = due }) made obeyed decisions
+    ≡ answered_with a terms x (done s sent commands before)
+answered-done a terms x s sent made commands obeyed before decisions b due after is sends does
+    decides =
+    ap (λ (y : Bay). done (record (with_bay y s) { due = due }) made obeyed decisions) after
+    ∙ ap (λ (y : Option Due). done (record (with_bay x.after s) { due = y }) made obeyed decisions)
+    is
     ∙ ap (λ (y : List Sent). done
-    (record (with_bay x.after s) { due = later_due s.due (due_if a terms x.ending) }) y obeyed)
-    sends
-    ∙ ap (λ (y : List Command). done
-    (record (with_bay x.after s) { due = later_due s.due (due_if a terms x.ending) })
-    (sent ++ map (λ pdu. sent_on a (sending terms pdu)) x.sent) y) does
+    (record (with_bay x.after s) { due = later_due s.due (due_if a terms x.ending) }) y obeyed
+    decisions) sends
+    ∙ ap₂ (done (record (with_bay x.after s) { due = later_due s.due (due_if a terms x.ending) })
+    (sent ++ map (λ pdu. sent_on a (sending terms pdu)) x.sent)) does decides
 
-pub all-ok : {T E : Type 0} (r : Result T E) (P R : T → Type 0) (S U : Type 0) → IfOk r P
-    → OnOk r S → OnOk r U → ((x : T) → P x → S → U → R x) → IfOk r R
-all-ok (Ok x) P R S U p s u f = f x p s u
-all-ok (Err e) P R S U p s u f = tt
+pub all-ok : {T E : Type 0} (r : Result T E) (P R : T → Type 0) (S U V : Type 0) → IfOk r P
+    → OnOk r S → OnOk r U → OnOk r V → ((x : T) → P x → S → U → V → R x) → IfOk r R
+all-ok (Ok x) P R S U V p s u v f = f x p s u v
+all-ok (Err e) P R S U V p s u v f = tt
 
 -- the size that is agreed
 pub size-is : (o : Option AssociationTerms) (n : ℕ) → IsSome o

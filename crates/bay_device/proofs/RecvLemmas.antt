@@ -6,7 +6,7 @@ use Rattle.bay_connection.specs.Talk.{Talk, left_by}
 use Rattle.bay_device.specs.Device.{State, device_at, ended_at}
 use Rattle.bay_device.specs.Hearing.{Done}
 use Rattle.bay_device.specs.HearingViews.{ComesTo}
-use Rattle.bay_device.specs.Outcomes.{Outcome, closed_by, connection_at, event_outcome, last_moment, nothing_done, outcome, place_of, refusal_of, recv_after, recv_done, recv_outcome, with_connection, without_owner}
+use Rattle.bay_device.specs.Outcomes.{Outcome, closed_by, connection_at, event_outcome, last_moment, nothing_done, outcome, place_of, quiet_step, refusal_of, recv_after, recv_done, recv_outcome, with_connection, without_owner}
 use Rattle.bay_device.specs.Steps.{IsOutcome, HearsFrom, IsWithoutOctets, Receives, Steps}
 use Rattle.bay_device.specs.declared.event.Event.{Event}
 use Rattle.bay_device.specs.declared.event.Event.TheVariants.{Open, Recv, Close, Contact, Input, Measure, Scan}
@@ -60,6 +60,7 @@ pub heard-from : (now a : ℕ) (octets : List ℕ) (told : Option Sent) (s new :
       ended = told;
       sent = e.sent;
       commands = e.commands;
+      decisions = e.decisions;
       closed = closed_by a why;
       scan = None;
     }) new
@@ -89,9 +90,7 @@ received now a (octet ∷ octets) old new talk step here some hears =
 -- without octets, which need no choice
 pub received-none : (now a : ℕ) (old : State) (talk : Talk)
     → connection_at (place_of a) old ≡ Some talk
-    → Receives now a [] old (Ok
-    (record { ended = ended_at now old; sent = []; commands = []; closed = None; scan = None }))
-    (device_at now old)
+    → Receives now a [] old (Ok (quiet_step (ended_at now old))) (device_at now old)
 received-none now a old talk here =
     let whole = ap (recv_outcome None now a [] old) here in
     record {

@@ -6,6 +6,7 @@ use Rattle.bay_assoc.specs.declared.hearing.AssociationTerms.{AssociationTerms}
 use Rattle.bay_connection.specs.Talk.{Indication, answers, tells, releases, ends, fails, Terms, sending}
 use Rattle.bay_services.specs.Answers.{Answered, pdu_answer}
 use Rattle.bay_services.specs.declared.answer.Command.{Command}
+use Rattle.bay_services.specs.declared.answer.Decision.{Decision}
 use Rattle.bay_services.specs.declared.answer.Ending.{Ending}
 use Rattle.bay_services.specs.declared.client.Client.{Client}
 use Rattle.bay_device.specs.Device.{State, bay_of, is_fresh, with_bay}
@@ -14,12 +15,13 @@ use Rattle.bay_device.specs.declared.event.Sent.{Sent}
 use Rattle.bay_device.specs.declared.event.Why.{Why}
 use Rattle.bay_device.specs.declared.event.Why.TheVariants.{Ended, Fault, Memory}
 
--- the device, and what an event has made so far: what is to be sent, and the switches that are to
--- be operated
+-- the device, and what an event has made so far: what is to be sent, the switches that are to be
+-- operated, and what was decided of controls
 pub record Done : Type 0 where
   pub state : State
   pub sent : List Sent
   pub commands : List Command
+  pub decisions : List Decision
 
 -- octets that are to be sent on an association
 abbrev pub sent_on : ℕ → List ℕ → Sent
@@ -73,6 +75,7 @@ answered_with a terms x d = record {
       { due = later_due d.state.due (due_if a terms x.ending) };
   sent = d.sent ++ map (λ pdu. sent_on a (sending terms pdu)) x.sent;
   commands = d.commands ++ x.commands;
+  decisions = d.decisions ++ x.decisions;
 }
 
 -- a PDU of a client, answered and done

@@ -11,7 +11,12 @@ use Rattle.bay_device.specs.declared.event.Why.{Why}
 use Rattle.bay_device.specs.declared.message.Made.{Made}
 
 abbrev pub done_of : State → Made → Done
-done_of s made = record { state = s; sent = made.sent.items; commands = made.commands.items }
+done_of s made = record {
+  state = s;
+  sent = made.sent.items;
+  commands = made.commands.items;
+  decisions = made.decisions.items;
+}
 
 -- a device after what an answered PDU does
 abbrev pub with_effect : Option control.State → Option Due → State → State

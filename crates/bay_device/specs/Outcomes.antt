@@ -27,14 +27,20 @@ pub record Outcome : Type 0 where
 abbrev pub refusal_of : StepFault → State → Outcome
 refusal_of fault s = record { answer = Err fault; after = s }
 
--- an event that sends nothing but what tells of an end
+-- the answer of an event that sends nothing but what tells of an end
+abbrev pub quiet_step : Option Sent → Step
+quiet_step ended = record {
+  ended = ended;
+  sent = [];
+  commands = [];
+  decisions = [];
+  closed = None;
+  scan = None;
+}
+
+-- such an event
 abbrev pub quiet : Option Sent → State → Outcome
-quiet ended s =
-    record {
-      answer = Ok (record
-          { ended = ended; sent = []; commands = []; closed = None; scan = None });
-      after = s;
-    }
+quiet ended s = record { answer = Ok (quiet_step ended); after = s }
 
 -- ---- the process
 
@@ -62,13 +68,8 @@ measure_outcome now k field value s (Some id) =
 abbrev pub scan_outcome : ℕ → State → Outcome
 scan_outcome now s = record {
   answer =
-      Ok (record {
-        ended = ended_at now s;
-        sent = [];
-        commands = [];
-        closed = None;
-        scan = Some (ran_at now (device_at now s)).steps;
-      });
+      Ok (record (quiet_step (ended_at now s))
+      { scan = Some (ran_at now (device_at now s)).steps });
   after = after_scan now (device_at now s);
 }
 
@@ -136,6 +137,7 @@ recv_done a left ended h = record {
         ended = ended;
         sent = h.done.sent;
         commands = h.done.commands;
+        decisions = h.done.decisions;
         closed = closed_by a h.why;
         scan = None;
       });
@@ -144,7 +146,7 @@ recv_done a left ended h = record {
 
 -- nothing is made yet
 abbrev pub nothing_done : State → Done
-nothing_done s = record { state = s; sent = []; commands = [] }
+nothing_done s = record { state = s; sent = []; commands = []; decisions = [] }
 
 -- octets of an open association; where there are none nothing is heard, and no memory is taken
 abbrev pub octets_outcome : Option ℕ → ℕ → ℕ → State → Talk → List ℕ → Outcome

@@ -1,9 +1,9 @@
 -- What a step and a run come to: there are choices with which they are the outcome.
-use Rattle.std.specs.Prelude.{ℕ, ◌≡◌, List, [], ◌∷◌, Option, Some, None, Result, Ok, Err}
+use Rattle.std.specs.Prelude.{ℕ, ◌≡◌, List, [], ◌∷◌, Option, Some, Result, Ok, Err}
 use Rattle.bay_connection.specs.Talk.{Talk, indications, left_by}
 use Rattle.bay_device.specs.Device.{State}
 use Rattle.bay_device.specs.Hearing.{after_indications}
-use Rattle.bay_device.specs.Outcomes.{Outcome, connection_at, nothing_done, outcome, place_of, recv_done, recv_outcome}
+use Rattle.bay_device.specs.Outcomes.{Outcome, connection_at, nothing_done, outcome, place_of, quiet_step, recv_done, recv_outcome}
 use Rattle.bay_device.specs.declared.event.Event.{Event}
 use Rattle.bay_device.specs.declared.event.Event.TheVariants.{Open, Recv, Close, Contact, Input, Measure, Scan}
 use Rattle.bay_device.specs.declared.event.Sent.{Sent}
@@ -17,8 +17,7 @@ pub record IsOutcome (o : Outcome) (answer : Result Step StepFault) (new : State
 
 -- what tells of an end is the answer of an event that sends nothing else
 abbrev pub quiet_answer : Result (Option Sent) StepFault → Result Step StepFault
-quiet_answer (Ok ended) =
-    Ok (record { ended = ended; sent = []; commands = []; closed = None; scan = None })
+quiet_answer (Ok ended) = Ok (quiet_step ended)
 quiet_answer (Err fault) = Err fault
 
 -- an answer that sends nothing but what tells of an end

@@ -110,13 +110,13 @@ impl Device {
 
     // The answer to an event that sends nothing but what tells of an end.
     fn quiet(&self, ended: Option<Sent>) -> Step
-        ensures { result ≡ record
-            { ended = ended; sent = []; commands = []; closed = None; scan = None } }
+        ensures { result ≡ spec.quiet_step ended }
     {
         Step {
             ended,
             sent: Listing::new(Vec::new(self.alloc)),
             commands: Listing::new(Vec::new(self.alloc)),
+            decisions: Listing::new(Vec::new(self.alloc)),
             closed: None,
             scan: None,
         }
@@ -210,6 +210,7 @@ impl Device {
             ended,
             sent: Listing::new(made.sent),
             commands: Listing::new(made.commands),
+            decisions: Listing::new(made.decisions),
             closed: closed_by(association, why),
             scan: None,
         }
@@ -273,11 +274,8 @@ impl Device {
         let ended = self.state.advance(now);
         let steps = self.state.scan(now);
         Ok(Step {
-            ended,
-            sent: Listing::new(Vec::new(self.alloc)),
-            commands: Listing::new(Vec::new(self.alloc)),
-            closed: None,
             scan: Some(steps),
+            ..self.quiet(ended)
         })
     }
 

@@ -5,7 +5,7 @@ ghost use Rattle.bay_device.specs.Outcomes as spec;
 use bay_base::listing::Listing;
 use bay_ber::outgoing::Outgoing;
 use bay_config::bay::MeterField;
-use bay_services::answer::Command;
+use bay_services::answer::{Command, Decision};
 use bay_tree::leaf::Dbpos;
 
 /// The latest time that an event may have, in milliseconds since 1970: the end of the last second
@@ -93,6 +93,8 @@ pub struct Step {
     pub sent: Listing<Sent>,
     /// The switches to operate.
     pub commands: Listing<Command>,
+    /// The controls that the client whose octets arrived asked for, in order.
+    pub decisions: Listing<Decision>,
     /// The association that the device has closed.
     pub closed: Option<(u16, Why)>,
     /// For a scan, the number of instructions that the program executed, including HALT.

@@ -17,15 +17,17 @@ use crate::state::DeviceState;
 use bay_ber::outgoing::Outgoing;
 use bay_connection::connection::Connection;
 use bay_control::controls::Controls;
-use bay_services::answer::{Answer, Command, Ending};
+use bay_services::answer::{Answer, Command, Decision, Ending};
 use bay_services::client::Client;
 use std::alloc::{AllocError, Global};
 
-/// What an event has produced so far: octets to send, and switches to operate.
+/// What an event has produced so far: octets to send, switches to operate, and what was decided of
+/// controls.
 #[derive(Drop)]
 pub struct Made {
     pub sent: Vec<Sent>,
     pub commands: Vec<Command>,
+    pub decisions: Vec<Decision>,
 }
 
 impl Made {
@@ -33,10 +35,12 @@ impl Made {
     pub fn new(alloc: Global) -> Made
         ensures sent { result.sent.items ≡ [] }
         ensures commands { result.commands.items ≡ [] }
+        ensures decisions { result.decisions.items ≡ [] }
     {
         Made {
             sent: Vec::new(alloc),
             commands: Vec::new(alloc),
+            decisions: Vec::new(alloc),
         }
     }
 }
@@ -125,8 +129,9 @@ fn send_all(
     Ok(())
 }
 
-/// Adds the PDUs of an answer to what is sent, and its commands to those to issue. Returns what
-/// will report the end of what it operates. If an allocation fails, more may have been added.
+/// Adds the PDUs of an answer to what is sent, its commands to those to issue, and its decisions.
+/// Returns what will report the end of what it operates. If an allocation fails, more may have been
+/// added.
 fn reply(
     connection: &Connection,
     association: u16,
@@ -144,13 +149,19 @@ fn reply(
         answer.sent.items) }
     ensures commands { OnOk result
         (made.new.commands.items ≡ made.old.commands.items ++ answer.commands.items) }
+    ensures decisions { OnOk result
+        (made.new.decisions.items ≡ made.old.decisions.items ++ answer.decisions.items) }
     ensures sent_before { take (length made.old.sent.items) made.new.sent.items
         ≡ made.old.sent.items }
     ensures commands_before { take (length made.old.commands.items) made.new.commands.items
         ≡ made.old.commands.items }
+    ensures decisions_before { take (length made.old.decisions.items) made.new.decisions.items
+        ≡ made.old.decisions.items }
 {
     send_all(connection, association, answer.sent, &mut made.sent)?;
     made.commands.extend_from_slice(answer.commands.as_slice())?;
+    let mut decisions = answer.decisions;
+    made.decisions.append(&mut decisions)?;
     due_if(connection, association, answer.ending)
 }
 
@@ -175,6 +186,8 @@ fn answer(
     ensures sent { take (length made.old.sent.items) made.new.sent.items ≡ made.old.sent.items }
     ensures commands { take (length made.old.commands.items) made.new.commands.items
         ≡ made.old.commands.items }
+    ensures decisions { take (length made.old.decisions.items) made.new.decisions.items
+        ≡ made.old.decisions.items }
 {
     let answer = state.bay.answer(alloc, client, connection.pdu(), changed)?;
     reply(connection, client.association, answer, made)
@@ -227,6 +240,7 @@ pub fn message(
     };
     let sent = made.sent.len();
     let commands = made.commands.len();
+    let decisions = made.decisions.len();
     let mut changed = None;
     match answer(alloc, state, client, connection, &mut changed, made) {
         Ok(due) => {
@@ -236,6 +250,7 @@ pub fn message(
         Err(fault) => {
             made.sent.truncate(sent);
             made.commands.truncate(commands);
+            made.decisions.truncate(decisions);
             Err(fault)
         }
     }

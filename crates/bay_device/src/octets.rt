@@ -30,6 +30,7 @@ fn send(association: u16, octets: Vec<u8>, made: &mut Made) -> Result<(), AllocE
         (made.new.sent.items ≡ made.old.sent.items ++ sent_on association octets.items ∷ []) }
     ensures err { OnErr result (made.new.sent.items ≡ made.old.sent.items) }
     ensures commands { made.new.commands.items ≡ made.old.commands.items }
+    ensures decisions { made.new.decisions.items ≡ made.old.decisions.items }
 {
     let octets = Outgoing::new(octets);
     made.sent.push(Sent {

@@ -1,8 +1,9 @@
-use Rattle.std.proofs.Common.{◌≡◌, Bool, List, ℕ, length, take, ap, ◌∙◌, arith}
+use Rattle.std.proofs.Common.{◌≡◌, Bool, List, ℕ, length, take, ap, ap₂, ◌∙◌, arith}
 use Rattle.bay_assoc.specs.Hears.{association_terms}
 use Rattle.bay_connection.specs.Talk.{Terms, terms_of}
 use Rattle.bay_services.specs.Answers.{pdu_answer}
 use Rattle.bay_services.specs.declared.answer.Command.{Command}
+use Rattle.bay_services.specs.declared.answer.Decision.{Decision}
 use Rattle.bay_services.specs.declared.client.Client.{Client}
 use Rattle.bay_device.specs.Device.{State, bay_of}
 use Rattle.bay_device.specs.Hearing.{Done, answered_with, size_of}
@@ -45,11 +46,19 @@ returns-in-Err-clause-err c connections =
     let sent : c.len-sent.result ≡ length made.sent.items = omega (arith, c.len-sent.ensures) in
     let commands : c.len-commands.result ≡ length made.commands.items =
     omega (arith, c.len-commands.ensures) in
-    ap (λ (xs : List Sent). let x : Done =
-    record { state = s; sent = xs; commands = c.truncate-in-Err.new.self.items } in x)
+    let decisions : c.len-decisions.result ≡ length made.decisions.items =
+    omega (arith, c.len-decisions.ensures) in
+    ap (λ (xs : List Sent). let x : Done = record {
+      state = s;
+      sent = xs;
+      commands = c.truncate-in-Err.new.self.items;
+      decisions = c.truncate-in-Err-2.new.self.items;
+    } in x)
     (c.truncate.ensures.items ∙ ap (λ n. take n c.answer.new.made.sent.items) sent
     ∙ c.answer.ensures.sent)
-    ∙ ap (λ (xs : List Command). let x : Done =
-    record { state = s; sent = made.sent.items; commands = xs } in x)
+    ∙ ap₂ (λ (xs : List Command) (ys : List Decision). let x : Done =
+    record { state = s; sent = made.sent.items; commands = xs; decisions = ys } in x)
     (c.truncate-in-Err.ensures.items ∙ ap (λ n. take n c.answer.new.made.commands.items) commands
     ∙ c.answer.ensures.commands)
+    (c.truncate-in-Err-2.ensures.items
+    ∙ ap (λ n. take n c.answer.new.made.decisions.items) decisions ∙ c.answer.ensures.decisions)

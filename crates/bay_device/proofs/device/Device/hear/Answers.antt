@@ -26,7 +26,7 @@ returns c talk is_open =
     let own = c.in-Some.connection.talk in
     let why = result_err c.drain.result in
     let begun : done_of s c.new-made.result ≡ nothing_done s =
-    rw (c.new-made.ensures.sent, c.new-made.ensures.commands) refl in
+    rw (c.new-made.ensures.sent, c.new-made.ensures.commands, c.new-made.ensures.decisions) refl in
     let here : connection_at (place_of a) s ≡ Some talk =
     ap (connection_at (place_of a)) c.self.view_is ∙ is_open in
     let at : connection_at (place_of a) s ≡ unwrap_or (slice_get cs place) None =
@@ -65,9 +65,10 @@ returns c talk is_open =
       ended = c.args.ended;
       sent = c.drain.new.made.sent.items;
       commands = c.drain.new.made.commands.items;
+      decisions = c.drain.new.made.decisions.items;
       closed = closed_by a why;
       scan = None;
     } in
-    rw (c.new.ensures, c.new-2.ensures, c.closed_by.ensures, c.err-why.ensures.value)
+    rw (c.new.ensures, c.new-2.ensures, c.new-3.ensures, c.closed_by.ensures, c.err-why.ensures.value)
     (subst (λ (u : State). HearsFrom now a octets c.args.ended u talk step c.finish.new.self)
     c.self.view_is whole)

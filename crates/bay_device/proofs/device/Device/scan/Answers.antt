@@ -1,24 +1,15 @@
-use Rattle.std.proofs.Common.{ℕ, [], List, Option, Some, None, Ok, Result, subst, ap, ◌∙◌}
-use Rattle.bay_services.specs.declared.answer.Command.{Command}
-use Rattle.bay_device.specs.Device.{State, device_at, ended_at, ran_at, after_scan}
+use Rattle.std.proofs.Common.{ℕ, Some, Ok, Result, subst, ap, ap₂, ◌∙◌}
+use Rattle.bay_device.specs.Device.{State, device_at, ran_at, after_scan}
 use Rattle.bay_device.specs.Meaning.{Halts}
-use Rattle.bay_device.specs.Outcomes.{scan_outcome}
+use Rattle.bay_device.specs.Outcomes.{quiet_step, scan_outcome}
 use Rattle.bay_device.specs.StateView.{state_view}
 use Rattle.bay_device.specs.Steps.{IsOutcome}
-use Rattle.bay_device.specs.declared.event.Sent.{Sent}
 use Rattle.bay_device.specs.declared.event.Step.{Step}
 use Rattle.bay_device.specs.declared.fault.StepFault.{StepFault}
 use Rattle.bay_device.proofs.device.Device.scan.Goals as goal
 
-abbrev told : Option Sent → List Sent → List Command → ℕ → Result Step StepFault
-told ended sent commands steps =
-    Ok (record {
-      ended = ended;
-      sent = sent;
-      commands = commands;
-      closed = None;
-      scan = Some steps;
-    })
+abbrev told : Step → ℕ → Result Step StepFault
+told step steps = Ok (record step { scan = Some steps })
 
 pub returns-clause-gives : goal.returns-clause-gives
 returns-clause-gives c =
@@ -29,17 +20,10 @@ returns-clause-gives c =
     let new : State = state_view cs c.scan-steps.new.self in
     let after = rw c.deref_mut.ensures.value at c.advance-ended.ensures.after cs in
     subst (λ (t : State). IsOutcome (scan_outcome now t)
-    (told c.advance-ended.result c.new-2.result c.new-4.result c.scan-steps.result) new)
-    c.self.view_is
-    (record {
+    (told c.quiet.result c.scan-steps.result) new) c.self.view_is (record {
       answered =
-          ap (λ (o : Option Sent). told o c.new-2.result c.new-4.result c.scan-steps.result)
-          (rw c.deref_mut.ensures.value at c.advance-ended.ensures.sent cs)
-          ∙ ap (λ (xs : List Sent). told (ended_at now s) xs c.new-4.result c.scan-steps.result)
-          (c.new-2.ensures ∙ c.new.ensures.items)
-          ∙ ap (λ (xs : List Command). told (ended_at now s) [] xs c.scan-steps.result)
-          (c.new-4.ensures ∙ c.new-3.ensures.items)
-          ∙ ap (told (ended_at now s) [] [])
+          ap₂ told (c.quiet.ensures ∙ ap quiet_step
+          (rw c.deref_mut.ensures.value at c.advance-ended.ensures.sent cs))
           ((rw c.deref_mut-2.ensures.value at c.scan-steps.ensures.steps cs)
           ∙ ap (λ (t : State). (ran_at now t).steps) after);
       left = (rw c.deref_mut-2.ensures.value at c.scan-steps.ensures.after cs)
