@@ -219,6 +219,7 @@ module _ {L : Type 0} (step : L → Call → L → Type 0) where
         opened = opened;
         refused = noted.refused;
         commands = noted.commands;
+        decisions = noted.decisions;
         closed = noted.closed;
         memory = noted.memory;
       }
@@ -265,6 +266,8 @@ module _ {L : Type 0} (step : L → Call → L → Type 0) where
         refused = ap (λ (x : Turn). x.refused) told ∙ ap (λ (x : Turning). x.noted.refused) whole;
         commands =
             ap (λ (x : Turn). x.commands) told ∙ ap (λ (x : Turning). x.noted.commands) whole;
+        decisions =
+            ap (λ (x : Turn). x.decisions) told ∙ ap (λ (x : Turning). x.noted.decisions) whole;
         closed = ap (λ (x : Turn). x.closed) told ∙ ap (λ (x : Turning). x.noted.closed) whole;
         memory = ap (λ (x : Turn). x.memory) told ∙ ap (λ (x : Turning). x.noted.memory) whole;
       }
@@ -282,6 +285,7 @@ module _ {L : Type 0} (step : L → Call → L → Type 0) where
         opened = opened;
         refused = noted.refused;
         commands = noted.commands;
+        decisions = noted.decisions;
         closed = noted.closed;
         memory = noted.memory;
       }

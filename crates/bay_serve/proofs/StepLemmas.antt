@@ -1,6 +1,7 @@
 -- Steps of the device within a turn.
 use Rattle.std.proofs.Common.{◌≡◌, ℕ, ◌+◌, List, Option, None, Result, Ok, ap, sym, ◌∙◌}
 use Rattle.bay_services.specs.declared.answer.Command.{Command}
+use Rattle.bay_services.specs.declared.answer.Decision.{Decision}
 use Rattle.bay_device.specs.Device.{State}
 use Rattle.bay_device.specs.Outcomes.{Outcome, outcome}
 use Rattle.bay_device.specs.Steps.{IsOutcome, Steps}
@@ -12,7 +13,7 @@ use Rattle.bay_device.specs.declared.fault.StepFault.{StepFault}
 use Rattle.bay_trace.specs.Placing.{anywhere, lying, placed_event}
 use Rattle.bay_trace.specs.Trace.{NamedData}
 use Rattle.bay_serve.specs.Served.{TakesIn}
-use Rattle.bay_serve.specs.Turns.{Held, Noted, Turning, left_by, left_noted, put_all, put_answer, put_ended, put_told, told_of, turning, with_commands, with_device}
+use Rattle.bay_serve.specs.Turns.{Held, Noted, Turning, decides, left_by, left_noted, put_all, put_answer, put_ended, put_told, told_of, turning, with_commands, with_device, with_noted}
 use Rattle.bay_serve.proofs.EventLemmas.{line-outcome, outcome-anywhere}
 
 held-as : (h : Held) (device : State) (queues : List (List ℕ)) → h.device ≡ device
@@ -43,15 +44,16 @@ told now named h after noted e result step t is gives ok queues put =
 -- octets were taken in
 pub taken : (now place : ℕ) (octets : List ℕ) (h after : Held) (noted left : Noted) (e : Event)
     (result : Result Step StepFault) (step : Step) (sends : List Sent) (commands : List Command)
-    (t u v : Turning)
+    (decisions : List Decision) (t u v : Turning) (n : Noted)
     → anywhere e ≡ Recv (place + 1) (lying octets) → Steps now e h.device result after.device
     → result ≡ Ok step → after.queues ≡ h.queues
     → left ≡ left_noted place step.closed noted → t ≡ put_ended step.ended (turning after left)
     → sends ≡ step.sent → u ≡ put_all sends t
     → commands ≡ step.commands → v ≡ with_commands commands u
-    → TakesIn now place octets (turning h noted) v
-taken now place octets h after noted left e result step sends commands t u v is steps ok queues
-    leaves put all_sent puts all-told tells =
+    → decisions ≡ step.decisions → n ≡ decides place decisions v.noted
+    → TakesIn now place octets (turning h noted) (with_noted n v)
+taken now place octets h after noted left e result step sends commands decisions t u v n is steps
+    ok queues leaves put all_sent puts all-told tells all-decided decided =
     let choice : Option ℕ = steps.choice in
     let o : Outcome = outcome choice now (Recv (place + 1) (lying octets)) h.device in
     let same : outcome choice now e h.device ≡ o =
@@ -74,6 +76,9 @@ taken now place octets h after noted left e result step sends commands t u v is 
     (put ∙ ap (λ (x : Turning). put_ended step.ended x) first)) in
     record {
       choice = choice;
-      is = whole ∙ ap (λ (a : Result Step StepFault). put_answer place a
+      is = ap (λ (m : Noted). with_noted m v) decided
+          ∙ ap (λ (ds : List Decision). with_noted (decides place ds v.noted) v) all-decided
+          ∙ ap (λ (x : Turning). with_noted (decides place step.decisions x.noted) x) whole
+          ∙ ap (λ (a : Result Step StepFault). put_answer place a
           (with_device o.after (turning h noted))) (sym answer);
     }

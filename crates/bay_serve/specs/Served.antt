@@ -104,5 +104,6 @@ module _ {L : Type 0} (step : L → Call → L → Type 0) where
     pub opened : turn.opened ≡ opening_of script.accepted before
     pub refused : turn.refused ≡ (after_turn now line script before).noted.refused
     pub commands : turn.commands ≡ (after_turn now line script before).noted.commands
+    pub decisions : turn.decisions ≡ (after_turn now line script before).noted.decisions
     pub closed : turn.closed ≡ (after_turn now line script before).noted.closed
     pub memory : turn.memory ≡ (after_turn now line script before).noted.memory

@@ -3,6 +3,7 @@ use Rattle.std.specs.Prelude.{ℕ, zero, suc, ◌+◌, max, nat_le, Bool, if◌t
 use Rattle.std.specs.List.{slice_index_or}
 use Rattle.std.specs.declared.net.socket_addr.SocketAddrV4.{SocketAddrV4}
 use Rattle.bay_services.specs.declared.answer.Command.{Command}
+use Rattle.bay_services.specs.declared.answer.Decision.{Decision}
 use Rattle.bay_device.specs.Code.{step_code_of}
 use Rattle.bay_device.specs.Device.{State}
 use Rattle.bay_device.specs.Outcomes.{Outcome, connection_at, outcome, place_of}
@@ -28,11 +29,13 @@ pub record Held : Type 0 where
   pub device : State
   pub queues : List (List ℕ)
 
--- what a turn has to remember: how each association stands, and what it tells
+-- what a turn has to remember: how each association stands, and what it tells; for each association
+-- what was decided of controls that it asked for, where octets of it came
 pub record Noted : Type 0 where
   pub standings : List Standing
   pub refused : Option ℕ
   pub commands : List Command
+  pub decisions : List (Option (List Decision))
   pub closed : List (ℕ × Closing)
   pub memory : List ℕ
 
@@ -257,12 +260,20 @@ left_by place closed s = with_noted (left_noted place closed s.noted) s
 abbrev pub with_commands : List Command → Turning → Turning
 with_commands commands s = with_noted (record s.noted { commands = s.noted.commands ++ commands }) s
 
--- the device's answer to octets: whether it closed the association, what it sends, and its commands
+-- what was decided of controls that an association asked for
+abbrev pub decides : ℕ → List Decision → Noted → Noted
+decides place decisions n =
+    record n { decisions = slice_set n.decisions place (Some decisions) }
+
+-- the device's answer to octets: whether it closed the association, what it sends, its commands, and
+-- what was decided
 abbrev pub put_answer : ℕ → Result Step StepFault → Turning → Turning
 put_answer place (Err fault) s = s
 put_answer place (Ok step) s =
+    let t : Turning =
     with_commands step.commands
-    (put_all step.sent (put_ended step.ended (left_by place step.closed s)))
+    (put_all step.sent (put_ended step.ended (left_by place step.closed s))) in
+    with_noted (decides place step.decisions t.noted) t
 
 abbrev pub answer_after : ℕ → Outcome → Turning → Turning
 answer_after place o s = put_answer place o.answer (with_device o.after s)
@@ -401,6 +412,7 @@ nothing_noted =
       standings = replicate 8 Steady;
       refused = None;
       commands = [];
+      decisions = replicate 8 None;
       closed = [];
       memory = [];
     }

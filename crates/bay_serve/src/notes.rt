@@ -1,25 +1,27 @@
 // What a turn has to remember.
 ghost use Rattle.std.specs.Prelude.{◌≡◌, ◌+◌, ◌<◌, ◌++◌, ◌∷◌, [], Some, true, length, IfSome};
 ghost use Rattle.bay_serve.specs.Standings.{after_full, is_leaving};
-ghost use Rattle.bay_serve.specs.Turns.{goes, leaves, left_noted, nothing_noted, standing_in, stands};
+ghost use Rattle.bay_serve.specs.Turns.{decides, goes, leaves, left_noted, nothing_noted, standing_in, stands};
 ghost use Rattle.bay_serve.specs.Turns as spec;
 ghost use Rattle.bay_serve.specs.declared.standing.Standing.TheVariants.{Gone};
 
 use crate::entries::Entries;
 use crate::standing::Standing;
 use crate::told::{Closing, Turn};
+use bay_base::listing::Listing;
 use bay_device::event::{ASSOCIATIONS, Why};
-use bay_services::answer::Command;
+use bay_services::answer::{Command, Decision};
 use std::marker::Model;
 use std::net::SocketAddrV4;
 
 /// The standing of each association in a turn, and what the turn will report: at most one entry for
-/// each association, and one command for each association read.
+/// each association, and one command and the decisions of one read for each association read.
 #[derive(Drop)]
 pub struct Notes {
     standings: [Standing; ASSOCIATIONS],
     refused: Option<u8>,
     commands: Entries<Command>,
+    decisions: [Option<Listing<Decision>>; ASSOCIATIONS],
     closed: Entries<(u16, Closing)>,
     memory: Entries<u16>,
 }
@@ -34,6 +36,7 @@ impl Model for Notes {
       standings = n.standings;
       refused = n.refused;
       commands = n.commands;
+      decisions = n.decisions;
       closed = n.closed;
       memory = n.memory;
     } };
@@ -53,6 +56,7 @@ impl Notes {
                 switch: 0,
                 on: false,
             }),
+            decisions: [None, None, None, None, None, None, None, None],
             closed: Entries::new((0, Closing::Ended)),
             memory: Entries::new(0),
         }
@@ -145,12 +149,22 @@ impl Notes {
         self.commands.push(command);
     }
 
+    /// Reports what was decided of controls that the client of the association at an index asked
+    /// for.
+    pub fn decide(&mut self, place: usize, decisions: Listing<Decision>)
+        requires { place < 8 }
+        ensures { self.new ≡ decides place decisions self.old }
+    {
+        self.decisions[place] = Some(decisions);
+    }
+
     /// Returns what the turn reports, given the association that it opened.
     pub fn into_turn(self, opened: Option<(u16, SocketAddrV4)>) -> Turn
         ensures { result ≡ record {
           opened = opened;
           refused = self.refused;
           commands = self.commands;
+          decisions = self.decisions;
           closed = self.closed;
           memory = self.memory;
         } }
@@ -159,6 +173,7 @@ impl Notes {
             standings: _,
             refused,
             commands,
+            decisions,
             closed,
             memory,
         } = self;
@@ -166,6 +181,7 @@ impl Notes {
             opened,
             refused,
             commands,
+            decisions,
             closed,
             memory,
         }

@@ -66,6 +66,7 @@ fn take_in(server: &mut Server, notes: &mut Notes, now: u64, place: usize, octet
     put_ended(server, notes, &step.ended);
     put_all(server, notes, step.sent.as_slice());
     tell_commands(server, notes, step.commands.as_slice());
+    notes.decide(place, step.decisions);
 }
 
 /// Reads a client once, if its association is open.

@@ -3,7 +3,9 @@ ghost use Rattle.std.specs.Prelude.{◌≡◌};
 ghost use Rattle.bay_serve.specs.Code.{code_of};
 
 use crate::entries::Entries;
-use bay_services::answer::Command;
+use bay_base::listing::Listing;
+use bay_device::event::ASSOCIATIONS;
+use bay_services::answer::{Command, Decision};
 use std::net::SocketAddrV4;
 
 /// Why an association was closed.
@@ -44,6 +46,8 @@ pub struct Turn {
     pub refused: Option<u8>,
     /// The commands to operate switches.
     pub commands: Entries<Command>,
+    /// For each association, the controls that its client asked for, if octets of it came.
+    pub decisions: [Option<Listing<Decision>>; ASSOCIATIONS],
     /// The associations that were closed, each with the reason, in the order of closing.
     pub closed: Entries<(u16, Closing)>,
     /// The associations that the device closed because it was out of memory.

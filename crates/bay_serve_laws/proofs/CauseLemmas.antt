@@ -280,7 +280,7 @@ module _ (p : ℕ) (low : p < 8) where
           subst (λ (k : ℕ). place < k) s.sized
           (position-Some is_full m.standings place Steady e).0;
       parts = parts_at;
-      orders = λ commands m s. record {
+      orders = λ commands decisions m s. record {
         sized = s.sized;
         told = s.told;
         leaving = s.leaving;

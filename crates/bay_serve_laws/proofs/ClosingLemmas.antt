@@ -89,8 +89,8 @@ grown-kept l = record {
   found = λ n place g e. subst (λ (k : ℕ). place < k) g.sized
       (position-Some is_full n.standings place Steady e).0;
   parts = λ place n e g. stands-grown l n place Gone g;
-  orders = λ commands n g. Grown-as l n (record n { commands = n.commands ++ commands }) g g.sized
-      refl;
+  orders = λ commands decisions n g. Grown-as l n
+      (record n { commands = n.commands ++ commands; decisions = decisions }) g g.sized refl;
   refuses = λ code n g. Grown-as l n (record n { refused = code }) g g.sized refl;
 }
 

@@ -1,7 +1,8 @@
 -- What each change of a turn's notes keeps, a turn keeps.
-use Rattle.std.proofs.Common.{◌≡◌, ℕ, zero, suc, ◌+◌, ◌<◌, ◌≤◌, Bool, true, false, cond, List, [], ◌∷◌, ◌++◌, length, Option, Some, None, Result, Ok, Err, refl, arith}
+use Rattle.std.proofs.Common.{◌≡◌, ℕ, zero, suc, ◌+◌, ◌<◌, ◌≤◌, Bool, true, false, cond, List, [], ◌∷◌, ◌++◌, length, slice_set, Option, Some, None, Result, Ok, Err, refl, arith}
 use Rattle.std.specs.declared.net.socket_addr.SocketAddrV4.{SocketAddrV4}
 use Rattle.bay_services.specs.declared.answer.Command.{Command}
+use Rattle.bay_services.specs.declared.answer.Decision.{Decision}
 use Rattle.bay_device.specs.Code.{step_code_of}
 use Rattle.bay_device.specs.Outcomes.{outcome, place_of}
 use Rattle.bay_device.specs.declared.event.Event.{Event}
@@ -37,8 +38,8 @@ pub record IsNoted (Ends : ℕ → Type 0) (P : Noted → Type 0) : Type 0 where
   pub found : (n : Noted) (place : ℕ) → P n → first_full n ≡ Some place → place < 8
   pub parts : (place : ℕ) (n : Noted) → is_leaving (standing_in place n) ≡ true → P n
       → P (stands place Gone n)
-  pub orders : (commands : List Command) (n : Noted) → P n
-      → P (record n { commands = n.commands ++ commands })
+  pub orders : (commands : List Command) (decisions : List (Option (List Decision))) (n : Noted)
+      → P n → P (record n { commands = n.commands ++ commands; decisions = decisions })
   pub refuses : (code : Option ℕ) (n : Noted) → P n → P (record n { refused = code })
 
 -- each association
@@ -138,13 +139,13 @@ module _ (Ends : ℕ → Type 0) (P : Noted → Type 0) (k : IsNoted Ends P) (no
   keep-left place None s low may p = p
   keep-left place (Some x) s low may p = k.leaving place x.1 s.noted low may p
 
-  -- what is sent behind that, and the commands
+  -- what is sent behind that, the commands, and what was decided
   pub keep-rest : (place : ℕ) (step : Step) (s : Turning) → Holds P (left_by place step.closed s)
       → Holds P (put_answer place (Ok step) s)
   keep-rest place step s p =
       let left : Turning = left_by place step.closed s in
       let t : Turning = put_all step.sent (put_ended step.ended left) in
-      k.orders step.commands t.noted
+      k.orders step.commands (slice_set t.noted.decisions place (Some step.decisions)) t.noted
       (keep-all P k.fills now step.sent (put_ended step.ended left)
       (keep-ended P k.fills now step.ended left p))
 

@@ -17,7 +17,7 @@ use Rattle.bay_trace.specs.Placing.{lying, placed_event}
 use Rattle.bay_trace.specs.Trace.{NamedData, connects, receives, disconnects, contact, input, measure, scan, process_event}
 use Rattle.bay_serve.specs.Calls.{Call, Accepts, Reads, Closes, ReadOutcome, Octets, Silence, Over, Broken}
 use Rattle.bay_serve.specs.Standings.{is_full}
-use Rattle.bay_serve.specs.Turns.{Held, Noted, Reading, Turning, accept_calls, accept_calls_at, with_accept, turn_begin, cut_off, free_place, heard_calls, hung_up, is_up, leaves, left_by, line_calls, with_line, on_accept, on_heard, after_opening, put_all, put_answer, put_ended, queue_at, queue_of, read_calls, read_one, scan_calls, after_turn_scan, after_settling, settling, standing_of, after_event, taken_in, told_after, told_of, told_why, with_device, with_noted}
+use Rattle.bay_serve.specs.Turns.{Held, Noted, Reading, Turning, accept_calls, accept_calls_at, with_accept, turn_begin, cut_off, decides, free_place, heard_calls, hung_up, is_up, leaves, left_by, line_calls, with_line, on_accept, on_heard, after_opening, put_all, put_answer, put_ended, queue_at, queue_of, read_calls, read_one, scan_calls, after_turn_scan, after_settling, settling, standing_of, after_event, taken_in, told_after, told_of, told_why, with_device, with_noted}
 use Rattle.bay_serve.specs.declared.standing.Standing.{Standing}
 use Rattle.bay_serve.specs.declared.standing.Standing.TheVariants.{Steady, Full, Leaving, LeavingFull, Gone}
 use Rattle.bay_serve.specs.declared.told.Closing.TheVariants as closing
@@ -157,7 +157,8 @@ answer-carried now p i held taken sent (Ok step) s h r =
     Carried-sent now p held taken _ _ all both
     (append_assoc sent (end_to (p + 1) step.ended) (all_to (p + 1) step.sent)) in
     noted-carried now p held taken _
-    (record all.noted { commands = all.noted.commands ++ step.commands }) all refl refl whole
+    (decides i step.decisions (record all.noted
+    { commands = all.noted.commands ++ step.commands })) all refl refl whole
 
 ready-far : (now p i : ℕ) (held taken sent : List ℕ) (answer : Result Step StepFault) (s : Turning)
     → i ≢ p → Carried now p held taken sent s

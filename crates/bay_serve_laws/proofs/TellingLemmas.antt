@@ -224,7 +224,7 @@ once-kept = record {
   overflows = λ place n low o. goes-once place closing.QueueFull n low o;
   found = first-low;
   parts = λ place n is o. stand-once place Gone n (told-if Gone refl _) o;
-  orders = λ commands n o. record {
+  orders = λ commands decisions n o. record {
     sized = o.sized;
     once = λ p. record { few = (o.once p).few; none = (o.once p).none };
   };
