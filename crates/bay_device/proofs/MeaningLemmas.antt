@@ -217,6 +217,12 @@ module _ (c : Checked) (s : State) (r : Runs c s) (now : ℕ) where
         ∙ ap (λ (ps : List ImagePoint). outputs_of ps after.externals) r.points);
   }
 
+  -- the scan halts, and the device keeps what that leaves
+  pub scan-halts : ending_at now s
+      ≡ Halted (after_scan now s).machine.slots (after_scan now s).machine.timers
+      (ran_at now s).steps
+  scan-halts = ends ∙ sym (ap (λ (x : Ran). Halted x.slots x.timers x.steps) ran)
+
   pub runs-on : Runs c (after_scan now s)
   runs-on = record {
     points = r.points;
