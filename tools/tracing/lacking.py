@@ -28,7 +28,6 @@ NO_LAW = {
     'bay_main Ended::of': OWN_WORDS + 'a status for each answer',
     'bay_output Log::put': OWN_WORDS + 'a line behind those that wait, whole, or one more that is '
                            'lost',
-    'bay_replay replay_run': OWN_WORDS + 'what the reads gave, and what the writes took',
     'bay_replay replay_watched': OWN_WORDS + 'what the reads gave, and what the writes took',
     'bay_report tell_unread': OWN_WORDS + 'the words of the line, and what is printed',
     'bay_serve Server::new': 'the laws of bay_serve_laws begin with what it makes',

@@ -30,6 +30,7 @@ CASES = {
     'bay_process': (REPORTS,),
     'bay_replay': (REPORTS, 'bay_tests replay'),
     'bay_report': (REPORTS, 'bayctl_cases run'),
+    'bay_report_laws': (REPORTS,),
     'bay_rules': ('bayctl_cases run 1 audit',),
     'bay_serve': ('bay_tests serve', 'bay_tests memory'),
     'bay_serve_laws': ('bay_tests serve', 'bay_tests memory'),

@@ -1,0 +1,92 @@
+-- A report is a run.
+use Rattle.std.proofs.Common.{◌≡◌, ℕ, List, [], ◌++◌, ◌⊎◌, length, Result, Ok, inl, inr, ap, subst, ◌∙◌}
+use Rattle.std.proofs.lemmas.List.Elements.{All-nil}
+use Rattle.bay_device.specs.Commands.{CommandedAt}
+use Rattle.bay_device.specs.Device.{State, bay_of}
+use Rattle.bay_device.specs.Entries.{IsIdle}
+use Rattle.bay_device.specs.Fresh.{Past}
+use Rattle.bay_device.specs.Load.{IsCompiled, IsLoaded}
+use Rattle.bay_device.specs.Meaning.{HaltsAt, MeansAt, Runs}
+use Rattle.bay_device.specs.Steps.{Steps}
+use Rattle.bay_device.specs.declared.fault.LoadFault.{LoadFault}
+use Rattle.bay_device.specs.declared.fault.LoadFault.TheVariants.{OutOfMemory}
+use Rattle.bay_device.proofs.CommandLemmas.{step-commanded}
+use Rattle.bay_device.proofs.IdleLemmas.{loaded-idle}
+use Rattle.bay_device.proofs.MeaningLemmas.{means-step}
+use Rattle.bay_device.proofs.RunLemmas.{tells-backed}
+use Rattle.bay_device.proofs.ToldLemmas.{idle-talks}
+use Rattle.bay_report.specs.Load.{file_of, load_of, text_of}
+use Rattle.bay_report.specs.Report.{Refuses, report_text}
+use Rattle.bay_report.specs.TextLines.{lines_of}
+use Rattle.bay_replay.specs.Replay.{DeviceReport, LoadReport, LoadsReport, PartsReport}
+use Rattle.bay_replay.specs.Scenario.{ScenarioParts}
+use Rattle.bay_report_laws.specs.History.{EachPast, answers_of, device_after, events_of}
+use Rattle.bay_report_laws.specs.Runs.{IsBlank, IsGuarded, IsRun, ReportsAreRuns}
+use Rattle.bay_report_laws.proofs.BudgetLemmas.{step-halts}
+use Rattle.bay_report_laws.proofs.HistoryLemmas.{past-came, past-does, past-fresh, past-so, past-tells}
+use Rattle.bay_report_laws.proofs.LoadLemmas.{loaded-from, loaded-runs}
+use Rattle.bay_report_laws.proofs.TextLemmas.{goes}
+
+module _ (bay logic : List ℕ) (first : State)
+    (loaded : IsLoaded (file_of bay) (IsCompiled (text_of logic)) first) where
+  pub idle : IsIdle first
+  idle = loaded-idle (file_of bay) (IsCompiled (text_of logic))
+      (let r : Result State LoadFault = Ok first in r) loaded
+
+  pub guarded : (past : List Past) → EachPast Steps first past
+      → IsGuarded loaded.made.checked first past
+  guarded past steps =
+      let c = loaded.made.checked in
+      let tells =
+      past-tells first past (ap (λ talks. length talks) idle.closed) (idle-talks first idle) steps
+      in
+      let runs = loaded-runs bay logic first loaded in
+      record {
+        came = past-came loaded.bay loaded.image first past loaded.is steps;
+        halts = (past-does HaltsAt (Runs c) (step-halts c) first past runs steps).0;
+        means = (past-does (MeansAt c) (Runs c) (means-step c) first past runs steps).0;
+        commanded = past-so CommandedAt step-commanded first past steps;
+        fresh = past-fresh loaded.bay loaded.image first past loaded.is steps;
+        operated = tells.operates;
+        backed =
+            tells-backed (bay_of first) (events_of past) first (answers_of past)
+            (device_after first past) idle.unselected tells;
+      }
+
+  pub run-of : (trace text : List ℕ) (status : ℕ) → DeviceReport first (lines_of trace) text status
+      → IsRun (record { bay = bay; logic = logic; trace = trace }) first text status
+  run-of trace text status told =
+      let e =
+      goes first [] (lines_of trace) [] 0 told.2.0 status tt (All-nil IsBlank) told.2.2 in
+      record {
+        loaded = loaded;
+        past = e.whole;
+        steps = e.steps;
+        printed =
+            record {
+              report = told.0;
+              reported = told.1;
+              lines = e.all;
+              rest = e.rest;
+              split = e.split;
+              events = e.events;
+              ending = e.ending;
+              ends = e.ends;
+              whole = told.2.1 ∙ ap (λ t. report_text told.0 ++ t) e.printed;
+            };
+        guarded = guarded e.whole e.steps;
+      }
+
+by-load : (parts : ScenarioParts) (first : State) (text : List ℕ) (status : ℕ)
+    → load_of parts.bay parts.logic ≡ Ok first → LoadsReport parts text status
+    → Refuses OutOfMemory text status ⊎ IsRun parts first text status
+by-load parts first text status loads (inl told) =
+    inr (run-of parts.bay parts.logic first (loaded-from parts.bay parts.logic first loads)
+    parts.trace text status
+    (subst (λ loaded. LoadReport loaded parts.trace text status) loads told))
+by-load parts first text status loads (inr refused) = inl refused
+
+pub reports-are-runs : ReportsAreRuns
+reports-are-runs scenario parts first text status cut loads told =
+    by-load parts first text status loads
+    (subst (λ o. PartsReport o text status) cut told)

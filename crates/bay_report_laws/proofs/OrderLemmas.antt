@@ -1,0 +1,260 @@
+-- Where the line of a command stands in the text of a run: among those that are printed for an event
+-- that has this command.
+use Rattle.std.proofs.Common.{◌≡◌, ℕ, ◌<◌, ◌≤◌, ◌^◌, List, [], ◌∷◌, ◌++◌, codes, length, Option, Some, None, Result, Ok, Err, ◌⊎◌, inl, inr, refl, ap, ap₂, sym, subst, ◌∙◌, append_assoc, arith}
+use Rattle.std.specs.Fmt.{decimal}
+use Rattle.std.specs.List.{Contains}
+use Rattle.bay_device.specs.Device.{State}
+use Rattle.bay_device.specs.Fresh.{Past}
+use Rattle.bay_device.specs.Outcomes.{last_moment}
+use Rattle.bay_device.specs.Steps.{Steps}
+use Rattle.bay_device.specs.declared.fault.LoadFault.{LoadFault}
+use Rattle.bay_device.specs.declared.fault.LoadFault.TheVariants.{OutOfMemory}
+use Rattle.bay_device.specs.declared.report.Report.{Report}
+use Rattle.bay_report.specs.Lines.{step_text}
+use Rattle.bay_report.specs.Load.{load_of}
+use Rattle.bay_replay.specs.Replay.{LoadReport, PartsReport}
+use Rattle.bay_replay.specs.Scenario.{ScenarioParts}
+use Rattle.bay_report_laws.specs.History.{EachPast, device_after}
+use Rattle.bay_report_laws.specs.Printed.{PrintedCommand, ended, lines_in, printed_command}
+use Rattle.bay_report_laws.specs.ReadBack.{HaveIds, switches_told}
+use Rattle.bay_report_laws.specs.Released.{IsPrintedFor}
+use Rattle.bay_report_laws.specs.Runs.{IsRun, printed_of}
+use Rattle.bay_report_laws.proofs.HistoryLemmas.{past-fixed}
+use Rattle.bay_report_laws.proofs.KeptLemmas.{step-on-time}
+use Rattle.bay_report_laws.proofs.LawLemmas.{run-of}
+use Rattle.bay_report_laws.proofs.LineLemmas.{AreLines, Each, decimal-free, each-append, each-line, ended-append, lines-are}
+use Rattle.bay_report_laws.proofs.LoadLemmas.{loaded-from}
+use Rattle.bay_report_laws.proofs.NameLemmas.{name-plain}
+use Rattle.bay_report_laws.proofs.PlaceLemmas.{AreGroups, Groups, Placed, cut, flat, groups-whole, heads, placed, tails}
+use Rattle.bay_report_laws.proofs.PrintLemmas.{IsCommandLine, IsLineOf, id-at, load-is, step-lines}
+use Rattle.bay_report_laws.proofs.ReadLemmas.{IsOther, command-read, load_line, no-command-line, no-space, told_text}
+use Rattle.bay_report_laws.proofs.ScanLemmas.{past-in}
+use Rattle.bay_report_laws.proofs.WithinLemmas.{ending-lines, known-run, load-free, no-parts-lines, refused-lines}
+
+-- the lines of all events
+past-groups : (first : State) (past : List Past) → EachPast Steps first past
+    → HaveIds first.switches → (gs : Groups) × AreGroups past gs
+past-groups first [] steps ids = ([], tt)
+past-groups first (p ∷ past) steps ids =
+    let before = past-groups first past steps.1 ids in
+    let here =
+    step-lines p.now p.answer p.after
+    (subst HaveIds (sym (past-fixed first (p ∷ past) steps).switches) ids) in
+    (here.lines ∷ before.0, (record { whole = here.whole; each = here.each }, before.1))
+
+-- ---- where lines stand
+
+module _ (begin load : List ℕ) (load_is : begin ≡ load ++ 10 ∷ []) where
+  behind-is : (past : List Past) (gs : Groups) (part : List (List ℕ)) → AreGroups past gs
+      → ended (load ∷ (flat gs ++ part)) ≡ begin ++ (printed_of past ++ ended part)
+  behind-is past gs part are =
+      ap (λ t. load ++ 10 ∷ t) (ended-append (flat gs) part
+      ∙ ap (λ t. t ++ ended part) (sym (groups-whole past gs are)))
+      ∙ sym (append_assoc load (10 ∷ []) (printed_of past ++ ended part))
+      ∙ ap (λ t. t ++ (printed_of past ++ ended part)) (sym load_is)
+
+  pub printed-for : (p : Past) (earlier : List Past) (gs : Groups) (part rest : List (List ℕ))
+      (line : List ℕ) → AreGroups earlier gs
+      → step_text p.now p.answer p.after ≡ ended (part ++ line ∷ rest)
+      → IsPrintedFor begin p earlier (load ∷ (flat gs ++ part)) line
+  printed-for p earlier gs part rest line are own = record {
+    part = ended part;
+    rest = ended rest;
+    own = own ∙ ended-append part (line ∷ rest);
+    behind = behind-is earlier gs part are;
+  }
+
+-- ---- what a command's line says
+
+some-same : {A : Type 0} (x y : A) → ◌≡◌ {A = Option A} (Some x) (Some y) → x ≡ y
+some-same x y e = cc
+
+module _ (first : State) (past : List Past) (steps : EachPast Steps first past)
+    (ids : HaveIds first.switches) (before : List (List ℕ)) (line : List ℕ)
+    (at : Placed past before line)
+    (l : IsCommandLine at.order.now at.order.answer at.order.after line) where
+  pub order-steps : EachPast Steps first (at.order ∷ at.earlier)
+  order-steps = past-in Steps first at.later at.order at.earlier past at.split steps
+
+  pub order-switches : at.order.after.switches ≡ first.switches
+  order-switches = (past-fixed first (at.order ∷ at.earlier) order-steps).switches
+
+  abbrev pub order_said : PrintedCommand
+  order_said = record { moment = at.order.now; id = l.switch.id; on = l.command.on }
+
+  -- It is read as the command of the event.
+  pub order-read : (command : PrintedCommand) → printed_command line ≡ Some command
+      → order_said ≡ command
+  order-read command reads =
+      let late : at.order.now ≤ last_moment =
+      step-on-time at.order.now at.order.event (device_after first at.earlier) at.order.answer
+      at.order.after l.step order-steps.0 l.done in
+      let early : at.order.now < 2 ^ 64 = omega arith in
+      let named =
+      id-at at.order.after.switches l.command.switch l.switch
+      (subst HaveIds (sym order-switches) ids) l.here in
+      some-same order_said command
+      (sym (ap printed_command l.is
+      ∙ command-read at.order.now l.switch.id l.command.on early (name-plain 16 l.switch.id named))
+      ∙ reads)
+
+-- ---- the text of a run
+
+load-other : (i d b : ℕ) → printed_command (load_line i d b) ≡ None
+load-other i d b =
+    no-command-line (codes "instructions=" ++ decimal i) (codes "depth=" ++ decimal d)
+    (codes "budget=" ++ decimal b) (decimal-free 32 i no-space) (decimal-free 32 d no-space) refl
+
+no-command : {A : Type 0} (line : List ℕ) (command : PrintedCommand)
+    → printed_command line ≡ None → printed_command line ≡ Some command → A
+no-command line command none is =
+    absurd (let no : ◌≡◌ {A = Option PrintedCommand} None (Some command) = sym none ∙ is in cc)
+
+each-none : (Is : List ℕ → Type 0) (lines : List (List ℕ)) → Each Is lines
+    → Each (λ l. Unit {0}) lines
+each-none Is [] all = tt
+each-none Is (line ∷ lines) all = ((all.0.0, tt), each-none Is lines all.1)
+
+flat-each : (past : List Past) (gs : Groups) → AreGroups past gs
+    → Each (λ l. Unit {0}) (flat gs)
+flat-each [] [] are = tt
+flat-each [] (g ∷ gs) are = absurd are
+flat-each (p ∷ past) [] are = absurd are
+flat-each (p ∷ past) (g ∷ gs) are =
+    each-append (λ l. Unit {0}) (flat gs) g (flat-each past gs are.1) (each-none _ g are.0.each)
+
+each-other : (lines part after : List (List ℕ)) (line : List ℕ) → Each IsOther lines
+    → lines ≡ part ++ line ∷ after → IsOther line
+each-other lines part after line each e = at part (subst (λ ls. Each IsOther ls) e each)
+  where
+    at : (part : List (List ℕ)) → Each IsOther (part ++ line ∷ after) → IsOther line
+    at [] all = all.0.1
+    at (x ∷ part) all = at part all.1
+
+-- Before the line of a command stands the line of the load, and it is one of those of an event.
+pub record Ordered (load : List ℕ) (past : List Past) (before : List (List ℕ)) (line : List ℕ)
+    : Type 0 where
+  pub behind : List (List ℕ)
+  pub begins : before ≡ load ∷ behind
+  pub at : Placed past behind line
+  pub is : IsCommandLine at.order.now at.order.answer at.order.after line
+
+module _ (parts : ScenarioParts) (first : State) (text : List ℕ) (status : ℕ)
+    (run : IsRun parts first text status) where
+  abbrev pub report : Report
+  report = run.printed.report
+
+  abbrev pub load : List ℕ
+  load = load_line report.instructions report.depth report.budget
+
+  text-lines : (gs : Groups) → AreGroups run.past gs → (others : List (List ℕ))
+      → Each IsOther others → run.printed.ending ≡ ended others
+      → lines_in text ≡ load ∷ (flat gs ++ (others ++ [] ∷ []))
+  text-lines gs are others each is =
+      let rest : List (List ℕ) = flat gs ++ others in
+      let whole : text ≡ ended (load ∷ rest) =
+      run.printed.whole
+      ∙ ap₂ (λ x y. x ++ y) (load-is report)
+      (ap₂ (λ x y. x ++ y) (groups-whole run.past gs are) is ∙ sym (ended-append (flat gs) others))
+      ∙ append_assoc load (10 ∷ []) (ended rest) in
+      ap lines_in whole
+      ∙ lines-are (λ l. Unit {0}) (load ∷ rest) (
+        (load-free report.instructions report.depth report.budget, tt),
+        each-append (λ l. Unit {0}) (flat gs) others (flat-each run.past gs are)
+            (each-none IsOther others each),
+      )
+      ∙ ap (λ ls. load ∷ ls) (append_assoc (flat gs) others ([] ∷ []))
+
+  of-kind : (before behind : List (List ℕ)) (line : List ℕ) (command : PrintedCommand)
+      → before ≡ load ∷ behind → printed_command line ≡ Some command
+      → (at : Placed run.past behind line)
+      → IsLineOf at.order.now at.order.answer at.order.after line
+      → Ordered load run.past before line
+  of-kind before behind line command begins reads at (inl scan) =
+      no-command line command (ap printed_command scan.is
+      ∙ no-command-line (decimal at.order.now) (codes "scan")
+      ((codes "steps=" ++ decimal scan.steps)
+      ++ told_text (switches_told at.order.after 0 at.order.after.switches))
+      (decimal-free 32 at.order.now no-space) refl refl) reads
+  of-kind before behind line command begins reads at (inr (inl l)) =
+      record { behind = behind; begins = begins; at = at; is = l }
+  of-kind before behind line command begins reads at (inr (inr other)) =
+      no-command line command other.no_command reads
+
+  by-place : (gs : Groups) (rest before after : List (List ℕ)) (line : List ℕ)
+      (command : PrintedCommand) → printed_command line ≡ Some command → AreGroups run.past gs
+      → Each IsOther rest → load ∷ (flat gs ++ rest) ≡ before ++ line ∷ after
+      → Ordered load run.past before line
+  by-place gs rest [] after line command reads are others e =
+      no-command line command (subst (λ l. printed_command l ≡ None)
+      (heads load line (flat gs ++ rest) after e)
+      (load-other report.instructions report.depth report.budget)) reads
+  by-place gs rest (x ∷ before) after line command reads are others e =
+      elim (cut (flat gs) rest before after line
+      (tails load x (flat gs ++ rest) (before ++ line ∷ after) e)) [
+        | inl f ↦
+            (let at = placed run.past gs before f.rest line are f.first in
+            of-kind (x ∷ before) before line command
+            (ap (λ l. l ∷ before) (sym (heads load x (flat gs ++ rest) (before ++ line ∷ after) e)))
+            reads at at.is)
+        | inr s ↦
+            no-command line command
+            (each-other rest s.part after line others s.second).no_command reads
+      ]
+
+  -- Each line of a command stands so.
+  pub ordered : (before after : List (List ℕ)) (line : List ℕ) (command : PrintedCommand)
+      → lines_in text ≡ before ++ line ∷ after → printed_command line ≡ Some command
+      → Ordered load run.past before line
+  ordered before after line command e reads =
+      let known = known-run parts first text status run in
+      let groups = past-groups first run.past run.steps known.ids in
+      let ending =
+      ending-lines (length run.printed.lines) run.printed.rest run.printed.ending status
+      run.printed.ends in
+      let rest : List (List ℕ) = ending.lines ++ [] ∷ [] in
+      let others : Each IsOther rest =
+      each-append IsOther ending.lines ([] ∷ []) ending.each
+      ((refl, record { no_scan = refl; no_command = refl }), tt) in
+      by-place groups.0 rest before after line command reads groups.1 others
+      (sym (text-lines groups.0 groups.1 ending.lines ending.each ending.whole) ∙ e)
+
+-- ---- a report
+
+no-commands : (text : List ℕ) → AreLines IsOther text
+    → (line : List ℕ) → Contains (lines_in text) line → printed_command line ≡ None
+no-commands text lines line at =
+    let other : IsOther line =
+    each-line lines (record { no_scan = refl; no_command = refl }) line at in
+    other.no_command
+
+-- what is so of the text of each run, and of one that has no line of a command
+module _ (Are : (parts : ScenarioParts) (first : State) (text : List ℕ) (status : ℕ)
+    → IsRun parts first text status → Type 0)
+    (run-are : (parts : ScenarioParts) (first : State) (text : List ℕ) (status : ℕ)
+    (run : IsRun parts first text status) → Are parts first text status run) where
+  abbrev pub OfReport : List ℕ → ℕ → Type 0
+  OfReport text status =
+      ((line : List ℕ) → Contains (lines_in text) line → printed_command line ≡ None)
+      ⊎ ((parts : ScenarioParts) × ((first : State)
+      × ((run : IsRun parts first text status) × Are parts first text status run)))
+
+  by-load : (parts : ScenarioParts) (text : List ℕ) (status : ℕ) (loaded : Result State LoadFault)
+      → load_of parts.bay parts.logic ≡ loaded → LoadReport loaded parts.trace text status
+      → OfReport text status
+  by-load parts text status (Ok first) is told =
+      let run : IsRun parts first text status =
+      run-of parts.bay parts.logic first (loaded-from parts.bay parts.logic first is) parts.trace
+      text status told in
+      inr (parts, (first, (run, run-are parts first text status run)))
+  by-load parts text status (Err fault) is told =
+      inl (no-commands text (subst (AreLines IsOther) (sym told.0) (refused-lines fault)))
+
+  pub of-parts : (o : Option ScenarioParts) (text : List ℕ) (status : ℕ)
+      → PartsReport o text status → OfReport text status
+  of-parts None text status told =
+      inl (no-commands text (subst (AreLines IsOther) (sym told.0) no-parts-lines))
+  of-parts (Some parts) text status (inl told) =
+      by-load parts text status (load_of parts.bay parts.logic) refl told
+  of-parts (Some parts) text status (inr refused) =
+      inl (no-commands text (subst (AreLines IsOther) (sym refused.0) (refused-lines OutOfMemory)))

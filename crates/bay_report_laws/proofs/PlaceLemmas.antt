@@ -1,0 +1,187 @@
+-- The lines of a history, event by event, and whose line stands at a place among them.
+use Rattle.std.proofs.Common.{◌≡◌, ℕ, ◌==◌, List, [], ◌∷◌, ◌++◌, ◌⊎◌, inl, inr, refl, ap, ap₂, sym, subst, ◌∙◌, append_assoc, append-nil}
+use Rattle.std.proofs.lemmas.List.{append_cancel_right}
+use Rattle.std.specs.List.{slice_split}
+use Rattle.bay_device.specs.Fresh.{Past}
+use Rattle.bay_report.specs.Lines.{step_text}
+use Rattle.bay_report_laws.specs.Printed.{ended}
+use Rattle.bay_report_laws.specs.Runs.{printed_of}
+use Rattle.bay_report_laws.proofs.LineLemmas.{Each, ended-append, lines-are}
+use Rattle.bay_report_laws.proofs.PrintLemmas.{IsLineOf}
+
+-- ---- lists that are cut
+
+-- what stands before an item of two joined lists
+pub record InFirst {A : Type 0} (us bs xs ys : List A) (x : A) : Type 0 where
+  pub rest : List A
+  pub first : us ≡ xs ++ x ∷ rest
+  pub later : ys ≡ rest ++ bs
+
+pub record InSecond {A : Type 0} (us bs xs ys : List A) (x : A) : Type 0 where
+  pub part : List A
+  pub before : xs ≡ us ++ part
+  pub second : bs ≡ part ++ x ∷ ys
+
+pub heads : {A : Type 0} (a b : A) (xs ys : List A) → a ∷ xs ≡ b ∷ ys → a ≡ b
+heads a b xs ys e = cc
+
+pub tails : {A : Type 0} (a b : A) (xs ys : List A) → a ∷ xs ≡ b ∷ ys → xs ≡ ys
+tails a b xs ys e = cc
+
+pub cut : {A : Type 0} (us bs xs ys : List A) (x : A) → us ++ bs ≡ xs ++ x ∷ ys
+    → InFirst us bs xs ys x ⊎ InSecond us bs xs ys x
+cut [] bs xs ys x e = inr (record { part = xs; before = refl; second = e })
+cut (u ∷ us) bs [] ys x e =
+    inl (record {
+      rest = us;
+      first = ap (λ y. y ∷ us) (heads u x (us ++ bs) ys e);
+      later = sym (tails u x (us ++ bs) ys e);
+    })
+cut (u ∷ us) bs (y ∷ xs) ys x e =
+    let same = heads u y (us ++ bs) (xs ++ x ∷ ys) e in
+    elim (cut us bs xs ys x (tails u y (us ++ bs) (xs ++ x ∷ ys) e)) [
+      | inl f ↦ inl (record {
+        rest = f.rest;
+        first = ap₂ (λ z zs. z ∷ zs) same f.first;
+        later = f.later;
+      })
+      | inr s ↦ inr (record {
+        part = s.part;
+        before = ap₂ (λ z zs. z ∷ zs) (sym same) s.before;
+        second = s.second;
+      })
+    ]
+
+-- ---- lines, event by event
+
+-- the lines of events, the last event first
+abbrev pub Groups : Type 0
+Groups = List (List (List ℕ))
+
+-- all of them in their order
+abbrev pub flat : Groups → List (List ℕ)
+flat [] = []
+flat (g ∷ gs) = flat gs ++ g
+
+pub record IsGroup (p : Past) (g : List (List ℕ)) : Type 0 where
+  pub whole : step_text p.now p.answer p.after ≡ ended g
+  pub each : Each (λ line. IsLineOf p.now p.answer p.after line) g
+
+abbrev pub AreGroups : List Past → Groups → Type 0
+AreGroups [] [] = Unit {0}
+AreGroups [] (g ∷ gs) = ⊥
+AreGroups (p ∷ past) [] = ⊥
+AreGroups (p ∷ past) (g ∷ gs) = IsGroup p g × AreGroups past gs
+
+pub groups-whole : (past : List Past) (gs : Groups) → AreGroups past gs
+    → printed_of past ≡ ended (flat gs)
+groups-whole [] [] are = refl
+groups-whole [] (g ∷ gs) are = absurd are
+groups-whole (p ∷ past) [] are = absurd are
+groups-whole (p ∷ past) (g ∷ gs) are =
+    ap₂ (λ s t. s ++ t) (groups-whole past gs are.1) are.0.whole ∙ sym (ended-append (flat gs) g)
+
+flat-append : (xs ys : Groups) → flat (xs ++ ys) ≡ flat ys ++ flat xs
+flat-append [] ys = sym (append-nil (flat ys))
+flat-append (x ∷ xs) ys =
+    ap (λ ls. ls ++ x) (flat-append xs ys) ∙ append_assoc (flat ys) (flat xs) x
+
+-- ---- whose line it is
+
+pub record Placed (past : List Past) (before : List (List ℕ)) (line : List ℕ) : Type 0 where
+  pub later : List Past
+  pub order : Past
+  pub earlier : List Past
+  pub split : past ≡ later ++ order ∷ earlier
+  pub groups : Groups
+  pub are : AreGroups earlier groups
+  pub part : List (List ℕ)
+  pub rest : List (List ℕ)
+  pub own : step_text order.now order.answer order.after ≡ ended (part ++ line ∷ rest)
+  pub is : IsLineOf order.now order.answer order.after line
+  pub behind : before ≡ flat groups ++ part
+
+each-at : (Is : List ℕ → Type 0) (part : List (List ℕ)) (line : List ℕ) (rest : List (List ℕ))
+    → Each Is (part ++ line ∷ rest) → Is line
+each-at Is [] line rest each = each.0.1
+each-at Is (x ∷ part) line rest each = each-at Is part line rest each.1
+
+pub placed : (past : List Past) (gs : Groups) (before after : List (List ℕ)) (line : List ℕ)
+    → AreGroups past gs → flat gs ≡ before ++ line ∷ after → Placed past before line
+placed [] [] [] after line are e = absurd cc
+placed [] [] (x ∷ before) after line are e = absurd cc
+placed [] (g ∷ gs) before after line are e = absurd are
+placed (p ∷ past) [] before after line are e = absurd are
+placed (p ∷ past) (g ∷ gs) before after line are e = elim (cut (flat gs) g before after line e) [
+  | inl f ↦
+      (let there = placed past gs before f.rest line are.1 f.first in
+      record {
+        later = p ∷ there.later;
+        order = there.order;
+        earlier = there.earlier;
+        split = ap (λ ps. p ∷ ps) there.split;
+        groups = there.groups;
+        are = there.are;
+        part = there.part;
+        rest = there.rest;
+        own = there.own;
+        is = there.is;
+        behind = there.behind;
+      })
+  | inr s ↦ record {
+    later = [];
+    order = p;
+    earlier = past;
+    split = refl;
+    groups = gs;
+    are = are.1;
+    part = s.part;
+    rest = after;
+    own = are.0.whole ∙ ap ended s.second;
+    is = each-at (λ l. IsLineOf p.now p.answer p.after l) s.part line after
+        (subst (λ ls. Each (λ l. IsLineOf p.now p.answer p.after l) ls) s.second are.0.each);
+    behind = s.before;
+  }
+]
+
+-- ---- the group of one of the events
+
+pub record OneGroup (since : List Past) (q : Past) (earlier : List Past) (gs : Groups)
+    : Type 0 where
+  pub own : List (List ℕ)
+  pub is : IsGroup q own
+  pub others : Groups
+  pub are : AreGroups earlier others
+  pub back : List (List ℕ)
+  pub split : flat gs ≡ (flat others ++ own) ++ back
+
+pub one-group : (since : List Past) (q : Past) (earlier : List Past) (gs : Groups)
+    → AreGroups (since ++ q ∷ earlier) gs → OneGroup since q earlier gs
+one-group [] q earlier [] are = absurd are
+one-group [] q earlier (g ∷ gs) are = record {
+  own = g;
+  is = are.0;
+  others = gs;
+  are = are.1;
+  back = [];
+  split = sym (append-nil (flat gs ++ g));
+}
+one-group (x ∷ since) q earlier [] are = absurd are
+one-group (x ∷ since) q earlier (g ∷ gs) are =
+    let there = one-group since q earlier gs are.1 in
+    record {
+      own = there.own;
+      is = there.is;
+      others = there.others;
+      are = there.are;
+      back = there.back ++ g;
+      split = ap (λ ls. ls ++ g) there.split
+          ∙ append_assoc (flat there.others ++ there.own) there.back g;
+    }
+
+-- Two lists of lines that make one text are the same.
+pub same-lines : (Is Are : List ℕ → Type 0) (xs ys : List (List ℕ)) → Each Is xs → Each Are ys
+    → ended xs ≡ ended ys → xs ≡ ys
+same-lines Is Are xs ys each all e =
+    append_cancel_right xs ys ([] ∷ [])
+    (sym (lines-are Is xs each) ∙ ap (slice_split (λ b. b == 10)) e ∙ lines-are Are ys all)

@@ -1,0 +1,26 @@
+-- What is printed is read back: the three lines.
+use Rattle.bay_report_laws.specs.ReadBack.{ReadsBudgets, ReadsCommands, ReadsScans, switches_told}
+use Rattle.bay_report_laws.proofs.NameLemmas.{name-plain}
+use Rattle.bay_report_laws.proofs.PrintLemmas.{command-is, load-is, scan-is, told-plain}
+use Rattle.bay_report_laws.proofs.ReadLemmas.{budget-read, command-read, load_line, order_line, scan-read, scan_line}
+
+pub reads-budgets : ReadsBudgets
+reads-budgets report small = (
+  load_line report.instructions report.depth report.budget,
+  load-is report,
+  budget-read report.instructions report.depth report.budget small,
+)
+
+pub reads-scans : ReadsScans
+reads-scans now steps s early few ids = (
+  scan_line now steps (switches_told s 0 s.switches),
+  scan-is now steps s,
+  scan-read now steps (switches_told s 0 s.switches) early few (told-plain s 0 s.switches ids),
+)
+
+pub reads-commands : ReadsCommands
+reads-commands now id on early named = (
+  order_line now id on,
+  command-is now id on,
+  command-read now id on early (name-plain 16 id named),
+)

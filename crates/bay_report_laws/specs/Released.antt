@@ -1,0 +1,69 @@
+-- What stands before a command's line in the text of a report.
+use Rattle.std.specs.Prelude.{ℕ, ◌≡◌, ◌+◌, ◌≤◌, ◌⊎◌, true, All, List, ◌∷◌, ◌++◌, None, Some, if◌then◌else◌}
+use Rattle.std.specs.List.{Contains}
+use Rattle.bay_device.specs.Device.{State}
+use Rattle.bay_device.specs.Fresh.{IsSameProcess, Past}
+use Rattle.bay_device.specs.declared.event.Event.TheVariants.{Scan}
+use Rattle.bay_report.specs.Lines.{step_text}
+use Rattle.bay_report.specs.Report.{report_text}
+use Rattle.bay_replay.specs.Replay.{IsReport}
+use Rattle.bay_replay.specs.Scenario.{ScenarioParts}
+use Rattle.bay_report_laws.specs.Printed.{PrintedCommand, PrintedScan, PrintedSwitch, ended, lines_in, printed_command, printed_scan}
+use Rattle.bay_report_laws.specs.Runs.{IsRun, printed_of}
+
+-- A line, which stands behind these lines of a text that begins so, is one of what is printed for an
+-- event, which comes behind these events.
+pub record IsPrintedFor (begin : List ℕ) (p : Past) (earlier : List Past)
+    (before : List (List ℕ)) (line : List ℕ) : Type 0 where
+  pub part : List ℕ
+  pub rest : List ℕ
+  pub own : step_text p.now p.answer p.after ≡ part ++ (line ++ 10 ∷ rest)
+  pub behind : ended before ≡ begin ++ (printed_of earlier ++ part)
+
+-- A scan's line releases a command: it has `id=x1` of the switch for on, `id=1y` for off.
+pub record Releases (scan : PrintedScan) (command : PrintedCommand) : Type 0 where
+  pub switch : PrintedSwitch
+  pub told : Contains scan.switches switch
+  pub same : switch.id ≡ command.id
+  pub released : (if command.on then switch.closes else switch.opens) ≡ true
+
+-- Among the lines before a command's stands that of a scan that releases it, at most so many
+-- milliseconds before; both are of what is printed for events of this history, and of the events
+-- between the two none has changed the process.
+pub record IsReleasedBy (age : ℕ) (begin : List ℕ) (past : List Past) (before : List (List ℕ))
+    (line : List ℕ) (command : PrintedCommand) : Type 0 where
+  pub later : List Past
+  pub order : Past
+  pub since : List Past
+  pub scan : Past
+  pub earlier : List Past
+  pub split : past ≡ later ++ order ∷ (since ++ scan ∷ earlier)
+  pub ordered : IsPrintedFor begin order (since ++ scan ∷ earlier) before line
+  pub scanned : scan.event ≡ Scan
+  pub front : List (List ℕ)
+  pub told : List ℕ
+  pub back : List (List ℕ)
+  pub lines : before ≡ front ++ told ∷ back
+  pub printed : IsPrintedFor begin scan earlier front told
+  pub read : PrintedScan
+  pub is : printed_scan told ≡ Some read
+  pub releases : Releases read command
+  pub recent : command.moment ≤ read.moment + age
+  pub unchanged : All (λ (p : Past). IsSameProcess scan.after p.after) since
+
+-- So it is of each line of a command in the text of a run.
+abbrev pub AreReleased : (parts : ScenarioParts) (first : State) (text : List ℕ) (status : ℕ)
+    → IsRun parts first text status → Type 0
+AreReleased parts first text status run =
+    (before after : List (List ℕ)) (line : List ℕ) (command : PrintedCommand)
+    → lines_in text ≡ before ++ line ∷ after → printed_command line ≡ Some command
+    → IsReleasedBy run.loaded.bay.scan_max_age_ms (report_text run.printed.report) run.past before
+    line command
+
+-- A report has no line of a command, or is the text of a run in which each is released.
+abbrev pub CommandsAreReleased : Type 0
+CommandsAreReleased =
+    (scenario text : List ℕ) (status : ℕ) → IsReport scenario text status
+    → ((line : List ℕ) → Contains (lines_in text) line → printed_command line ≡ None)
+    ⊎ ((parts : ScenarioParts) × ((first : State)
+    × ((run : IsRun parts first text status) × AreReleased parts first text status run)))

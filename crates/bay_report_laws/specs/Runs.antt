@@ -1,0 +1,115 @@
+-- A report is a run of a device.
+use Rattle.std.specs.Prelude.{ℕ, ◌≡◌, ◌+◌, List, [], ◌∷◌, ◌++◌, All, length, codes, None, Some, Ok, ◌⊎◌}
+use Rattle.bay_control.specs.Backing.{AreBacked}
+use Rattle.il_check.specs.Program.{Checked}
+use Rattle.bay_device.specs.Commands.{CommandedAt}
+use Rattle.bay_device.specs.Device.{State, bay_of}
+use Rattle.bay_device.specs.Fresh.{Came, Past}
+use Rattle.bay_device.specs.Load.{IsCompiled, IsLoaded}
+use Rattle.bay_device.specs.Meaning.{HaltsAt, MeansAt}
+use Rattle.bay_device.specs.Operates.{AllOperate}
+use Rattle.bay_device.specs.Report.{IsReport as IsReportOf}
+use Rattle.bay_device.specs.Steps.{Steps}
+use Rattle.bay_device.specs.Told.{told_all}
+use Rattle.bay_device.specs.declared.fault.LoadFault.TheVariants.{OutOfMemory}
+use Rattle.bay_device.specs.declared.report.Report.{Report}
+use Rattle.bay_trace.specs.Placing.{placed_event}
+use Rattle.bay_trace.specs.Trace.{NamedData, at_moment, blank, trace_line_of}
+use Rattle.bay_report.specs.Lines.{step_text, unreadable_text}
+use Rattle.bay_report.specs.Load.{file_of, load_of, text_of}
+use Rattle.bay_report.specs.Report.{Refuses, report_text}
+use Rattle.bay_report.specs.TextLines.{lines_of}
+use Rattle.bay_replay.specs.Replay.{IsReport}
+use Rattle.bay_replay.specs.Scenario.{ScenarioParts, scenario_of}
+use Rattle.bay_report_laws.specs.History.{AllFresh, EachPast, answers_of, device_after, events_of}
+
+-- ---- the lines of a trace
+
+-- A line says nothing.
+abbrev pub IsBlank : List ℕ → Type 0
+IsBlank line = trace_line_of line ≡ Some blank
+
+-- The last of some lines that says something tells of an event at its moment, by the names that the
+-- device before it has; before it stand these lines, and behind it blank ones.
+pub record IsLast (s : State) (p : Past) (before lines : List (List ℕ)) : Type 0 where
+  pub line : List ℕ
+  pub blanks : List (List ℕ)
+  pub split : lines ≡ before ++ line ∷ blanks
+  pub named : NamedData
+  pub reads : trace_line_of line ≡ Some (at_moment p.now named)
+  pub event : p.event ≡ placed_event s named
+  pub blank : All IsBlank blanks
+
+-- The events are those of these lines, one for each that says something.
+abbrev pub AreOfLines : State → List Past → List (List ℕ) → Type 0
+AreOfLines first [] lines = All IsBlank lines
+AreOfLines first (p ∷ past) lines =
+    (before : List (List ℕ)) × IsLast (device_after first past) p before lines
+    × AreOfLines first past before
+
+-- ---- the text
+
+-- what is printed for events, one after the other
+abbrev pub printed_of : List Past → List ℕ
+printed_of [] = []
+printed_of (p ∷ past) = printed_of past ++ step_text p.now p.answer p.after
+
+-- How a trace ends behind so many lines: behind its last line, or at one that can't be read, which
+-- is told by its number, or for whose octets there is no memory.
+abbrev pub EndsAs : ℕ → List (List ℕ) → List ℕ → ℕ → Type 0
+EndsAs done [] ending status = (ending ≡ []) × (status ≡ 0)
+EndsAs done (line ∷ lines) ending status =
+    (((trace_line_of line ≡ None) × (ending ≡ unreadable_text (done + 1)))
+    ⊎ (ending ≡ codes "fault memory\n"))
+    × (status ≡ 3)
+
+-- The text and the status of a trace that is replayed on a device, by these events: the line of its
+-- load, what is printed for the events, and how it ends.
+pub record IsTextOf (first : State) (past : List Past) (trace text : List ℕ) (status : ℕ)
+    : Type 0 where
+  pub report : Report
+  pub reported : IsReportOf first.machine.image report
+  pub lines : List (List ℕ)
+  pub rest : List (List ℕ)
+  pub split : lines_of trace ≡ lines ++ rest
+  pub events : AreOfLines first past lines
+  pub ending : List ℕ
+  pub ends : EndsAs (length lines) rest ending status
+  pub whole : text ≡ report_text report ++ (printed_of past ++ ending)
+
+-- ---- a run
+
+-- What holds of the events of a device that runs a program, from load on.
+pub record IsGuarded (c : Checked) (first : State) (past : List Past) : Type 0 where
+  pub came : Came past (device_after first past)
+  -- each scan halts without a trap, within the budget, and leaves what the program means;
+  pub halts : EachPast HaltsAt first past
+  pub means : EachPast (MeansAt c) first past
+  -- each command is one that the interlocking releases, on a fresh scan, while no switch is
+  -- operating, and something is sent with it;
+  pub commanded : EachPast CommandedAt first past
+  -- behind it stands a scan of these events, not too old, since which the process has not changed;
+  pub fresh : AllFresh first.scan_max_age_ms past
+  -- and the commands are the operates that are accepted in what the octets of the events and of the
+  -- answers tell, each backed by a select where its switch has to be selected.
+  pub operated : AllOperate (bay_of first) first.connections (events_of past) (answers_of past)
+  pub backed : AreBacked first.controls.controls
+      (told_all (bay_of first) first.connections (events_of past) (answers_of past))
+
+-- The text and the status are those of a run of a device, which was loaded from the parts of a
+-- scenario.
+pub record IsRun (parts : ScenarioParts) (first : State) (text : List ℕ) (status : ℕ)
+    : Type 0 where
+  pub loaded : IsLoaded (file_of parts.bay) (IsCompiled (text_of parts.logic)) first
+  pub past : List Past
+  pub steps : EachPast Steps first past
+  pub printed : IsTextOf first past parts.trace text status
+  pub guarded : IsGuarded loaded.made.checked first past
+
+-- Where the parts of a scenario load to a device, each report is that of a run of it, or says that
+-- there was no memory for its load.
+abbrev pub ReportsAreRuns : Type 0
+ReportsAreRuns =
+    (scenario : List ℕ) (parts : ScenarioParts) (first : State) (text : List ℕ) (status : ℕ)
+    → scenario_of scenario ≡ Some parts → load_of parts.bay parts.logic ≡ Ok first
+    → IsReport scenario text status → Refuses OutOfMemory text status ⊎ IsRun parts first text status

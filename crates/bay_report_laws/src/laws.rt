@@ -1,0 +1,50 @@
+// Laws of a report. Each function does nothing, and its contract is the law.
+ghost use Rattle.bay_report_laws.specs.Answered.{CommandsAreAnswered};
+ghost use Rattle.bay_report_laws.specs.ReadBack.{ReadsBudgets, ReadsCommands, ReadsScans};
+ghost use Rattle.bay_report_laws.specs.Released.{CommandsAreReleased};
+ghost use Rattle.bay_report_laws.specs.Runs.{ReportsAreRuns};
+ghost use Rattle.bay_report_laws.specs.Texts.{ScansAreWithinBudget};
+
+/// Where the parts of a scenario load to a device, each report of the scenario is that of a run of
+/// this device, or says that memory ran out while it was loaded. The device is that of the bay file
+/// and of the image to which the program is compiled. The text is the line of the load, and behind
+/// it, line by line of the trace, what is printed for the answer to the line's event; and its end.
+/// In the run each scan halts without a trap in the steps that are answered, within the budget, and
+/// leaves what the program means. Each command is one that the interlocking releases on a fresh
+/// scan; behind it stands a scan of this run, not too old, since which the process has not changed;
+/// and it is an operate that a client's octets ask for and that the octets of the answer accept,
+/// backed by a select where its switch has to be selected.
+pub fn a_report_is_a_run()
+    ensures { ReportsAreRuns }
+{}
+
+/// The line of a load, of a scan and of a command is read back: by a definition that cuts a line into
+/// words and knows nothing of how it is printed. Numbers are below 2 ^ 64, and ids are as a bay file
+/// has them.
+pub fn what_is_printed_is_read_back()
+    ensures budgets { ReadsBudgets }
+    ensures scans { ReadsScans }
+    ensures commands { ReadsCommands }
+{}
+
+/// In each text that a replay may print, each line of a scan tells of at most as many steps as the
+/// first line allows.
+pub fn scans_are_within_the_budget()
+    ensures { ScansAreWithinBudget }
+{}
+
+/// In each text that a replay may print, behind each line `ms command id on` (or `off`) stands,
+/// before it in the same text, a line `m scan ..` with `id=x1` (for `off`: `id=1y`), where ms - m is
+/// at most the bay's `scan_max_age_ms`; and of the events of the trace between the two none has
+/// changed what the process tells: no contact, no input and no measure.
+pub fn printed_commands_are_released()
+    ensures { CommandsAreReleased }
+{}
+
+/// In each text that a replay may print, each line of a command is of what is printed for octets of a
+/// client. One of their PDUs asks for the operate of this switch; and among the lines for the same
+/// line of the trace stands one of sent octets, by their hexadecimal digits, whose PDU, read as the
+/// response to that one, has a success as its result.
+pub fn printed_commands_are_answered()
+    ensures { CommandsAreAnswered }
+{}
