@@ -1,5 +1,12 @@
 pub mod AnswerLemmas
+pub mod BudgetLemmas
+pub mod HistoryLemmas
+pub mod KeptLemmas
 pub mod LoadLemmas
+pub mod LoadedLemmas
 pub mod PartLemmas
+pub mod PathLemmas
 pub mod ProgressLemmas
 pub mod ReadLemmas
+pub mod RunLemmas
+pub mod TraceLemmas

@@ -6,10 +6,17 @@
 -- `Scenario`: the three parts, between the first two lines that are `%%`, and how many bytes it may
 -- have. `LineAnswers`: what is printed for a line, as a function of a choice: memory was refused
 -- for the bytes of the line (only if they are more than in any line before), or in the device.
--- `Answering` is private to how a line is answered: with which choice, and by which steps.
+-- `Runs`: each text is that of a run of the scenario's device, and what holds of this run;
+-- `History`: what has happened to a device since load. `Answering` is private to how a line is answered: with which choice, and by which steps.
 -- `ScenarioView` maps the code's slices to plain data.
 
 -- What public clauses cite of the crates below.
+pub use Rattle.bay_device.specs.Commands
+pub use Rattle.bay_device.specs.Fresh
+pub use Rattle.bay_device.specs.Meaning
+pub use Rattle.bay_device.specs.Operates
+pub use Rattle.bay_device.specs.Steps
+pub use Rattle.bay_device.specs.Told
 pub use Rattle.bay_report.specs.Lines
 pub use Rattle.bay_report.specs.Load
 pub use Rattle.bay_report.specs.Report
@@ -18,7 +25,9 @@ pub use Rattle.bay_trace.specs.Placing
 pub use Rattle.bay_trace.specs.Trace
 -- Its own definitions.
 pub mod Answering
+pub mod History
 pub mod LineAnswers
 pub mod Replay
+pub mod Runs
 pub mod Scenario
 pub mod ScenarioView

@@ -6,6 +6,7 @@ use Rattle.bay_device.specs.Report.{IsReport as IsReportOf}
 use Rattle.bay_device.specs.declared.report.Report.{Report}
 use Rattle.bay_replay.specs.LineAnswers.{Choice, Replaying, line_answer}
 use Rattle.bay_report.specs.Load.{load_of}
+use Rattle.bay_replay.specs.Runs.{IsOfRun}
 use Rattle.bay_replay.specs.Scenario.{ScenarioParts, scenario_of, scenario_limit}
 use Rattle.bay_report.specs.TextLines.{lines_of}
 use Rattle.bay_io.specs.Input.{IsEnded, octets_of}
@@ -48,10 +49,11 @@ abbrev pub LoadsReport : ScenarioParts → List ℕ → ℕ → Type 0
 LoadsReport parts text status = LoadReport (load_of parts.bay parts.logic) parts.trace text status
     ⊎ Refuses OutOfMemory text status
 
--- the text and the status of a scenario's parts
+-- The text and the status of a scenario's parts. What these are is said once more by what happens to
+-- the device: they are those of a run of it, of which all holds that is proved of a run.
 abbrev pub PartsReport : Option ScenarioParts → List ℕ → ℕ → Type 0
 PartsReport None text status = (text ≡ codes "fault 120 line 0\n") × (status ≡ 3)
-PartsReport (Some parts) text status = LoadsReport parts text status
+PartsReport (Some parts) text status = LoadsReport parts text status × IsOfRun parts text status
 
 -- the text and the status of a scenario
 abbrev pub IsReport : List ℕ → List ℕ → ℕ → Type 0

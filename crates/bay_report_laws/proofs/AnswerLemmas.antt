@@ -29,18 +29,18 @@ use Rattle.bay_report.specs.Lines.{closed_text, commands_text, ended_text, ran_t
 use Rattle.bay_report.specs.Report.{report_text}
 use Rattle.bay_replay.specs.Scenario.{ScenarioParts, scenario_of}
 use Rattle.bay_report_laws.specs.Answered.{AreAnswered, CommandsAreAnswered, IsAnswered}
-use Rattle.bay_report_laws.specs.History.{EachPast, device_after}
+use Rattle.bay_replay.specs.History.{EachPast, device_after}
 use Rattle.bay_report_laws.specs.Printed.{PrintedCommand, ended, lines_in, printed_command}
 use Rattle.bay_report_laws.specs.ReadBack.{HaveIds}
 use Rattle.bay_report_laws.specs.Released.{IsPrintedFor}
-use Rattle.bay_report_laws.specs.Runs.{IsRun}
-use Rattle.bay_report_laws.proofs.HistoryLemmas.{past-does}
-use Rattle.bay_report_laws.proofs.LawLemmas.{idle}
+use Rattle.bay_replay.specs.Runs.{IsRun}
+use Rattle.bay_replay.proofs.HistoryLemmas.{past-does}
+use Rattle.bay_replay.proofs.RunLemmas.{idle}
 use Rattle.bay_report_laws.proofs.LineLemmas.{AreLines, decimal-free, each-append, ended-append, free, free-append, hex-free, lines-are, map-lines, more-lines}
-use Rattle.bay_report_laws.proofs.OrderLemmas.{load, of-parts, order-read, order-switches, ordered, printed-for}
+use Rattle.bay_report_laws.proofs.OrderLemmas.{load, load-no-command, of-command, of-parts, order-read, order-switches, other-no-command, printed-for, stands}
 use Rattle.bay_report_laws.proofs.PlaceLemmas.{Placed}
 use Rattle.bay_report_laws.proofs.PrintLemmas.{IsCommandLine, closed-lines, commands-lines, ended-lines, load-is, ran-lines, sends-lines}
-use Rattle.bay_report_laws.proofs.KeptLemmas.{scan_told}
+use Rattle.bay_replay.proofs.KeptLemmas.{scan_told}
 use Rattle.bay_report_laws.proofs.ReadLemmas.{no-end, send-read, send_line}
 use Rattle.bay_report_laws.proofs.ScanLemmas.{past-in}
 use Rattle.bay_report_laws.proofs.WholeLemmas.{send-whole}
@@ -266,7 +266,11 @@ module _ (first : State) (past : List Past) (steps : EachPast Steps first past)
 run-answered : (parts : ScenarioParts) (first : State) (text : List ℕ) (status : ℕ)
     (run : IsRun parts first text status) → AreAnswered parts first text status run
 run-answered parts first text status run before after line command e reads =
-    let o = ordered parts first text status run before after line command e reads in
+    let o =
+    stands printed_command other-no-command load-no-command parts first text status run before after
+    line command e reads in
+    let l =
+    of-command o.at.order.now o.at.order.answer o.at.order.after line command reads o.at.is in
     let known = known-run parts first text status run in
     let begin = report_text run.printed.report in
     let line_of_load = load parts first text status run in
@@ -279,8 +283,8 @@ run-answered parts first text status run before after line command e reads =
       sized = idle-talks first quiet;
       eight = ap (λ talks. length talks) quiet.closed;
     })
-    o.behind line o.at o.is command reads)
+    o.behind line o.at l command reads)
 
 pub commands-are-answered : CommandsAreAnswered
 commands-are-answered scenario text status told =
-    of-parts AreAnswered run-answered (scenario_of scenario) text status told
+    of-parts printed_command other-no-command load-no-command AreAnswered run-answered (scenario_of scenario) text status told

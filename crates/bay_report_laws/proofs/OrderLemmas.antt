@@ -7,23 +7,25 @@ use Rattle.bay_device.specs.Device.{State}
 use Rattle.bay_device.specs.Fresh.{Past}
 use Rattle.bay_device.specs.Outcomes.{last_moment}
 use Rattle.bay_device.specs.Steps.{Steps}
+use Rattle.bay_device.specs.declared.event.Step.{Step}
 use Rattle.bay_device.specs.declared.fault.LoadFault.{LoadFault}
+use Rattle.bay_device.specs.declared.fault.StepFault.{StepFault}
 use Rattle.bay_device.specs.declared.fault.LoadFault.TheVariants.{OutOfMemory}
 use Rattle.bay_device.specs.declared.report.Report.{Report}
 use Rattle.bay_report.specs.Lines.{step_text}
 use Rattle.bay_report.specs.Load.{load_of}
 use Rattle.bay_replay.specs.Replay.{LoadReport, PartsReport}
 use Rattle.bay_replay.specs.Scenario.{ScenarioParts}
-use Rattle.bay_report_laws.specs.History.{EachPast, device_after}
+use Rattle.bay_replay.specs.History.{EachPast, device_after}
 use Rattle.bay_report_laws.specs.Printed.{PrintedCommand, ended, lines_in, printed_command}
 use Rattle.bay_report_laws.specs.ReadBack.{HaveIds, switches_told}
 use Rattle.bay_report_laws.specs.Released.{IsPrintedFor}
-use Rattle.bay_report_laws.specs.Runs.{IsRun, printed_of}
-use Rattle.bay_report_laws.proofs.HistoryLemmas.{past-fixed}
-use Rattle.bay_report_laws.proofs.KeptLemmas.{step-on-time}
-use Rattle.bay_report_laws.proofs.LawLemmas.{run-of}
+use Rattle.bay_replay.specs.Runs.{IsRun, printed_of}
+use Rattle.bay_replay.proofs.HistoryLemmas.{past-fixed}
+use Rattle.bay_replay.proofs.KeptLemmas.{step-on-time}
+use Rattle.bay_replay.proofs.RunLemmas.{run-of}
 use Rattle.bay_report_laws.proofs.LineLemmas.{AreLines, Each, decimal-free, each-append, each-line, ended-append, lines-are}
-use Rattle.bay_report_laws.proofs.LoadLemmas.{loaded-from}
+use Rattle.bay_replay.proofs.LoadedLemmas.{loaded-from}
 use Rattle.bay_report_laws.proofs.NameLemmas.{name-plain}
 use Rattle.bay_report_laws.proofs.PlaceLemmas.{AreGroups, Groups, Placed, cut, flat, groups-whole, heads, placed, tails}
 use Rattle.bay_report_laws.proofs.PrintLemmas.{IsCommandLine, IsLineOf, id-at, load-is, step-lines}
@@ -100,16 +102,6 @@ module _ (first : State) (past : List Past) (steps : EachPast Steps first past)
 
 -- ---- the text of a run
 
-load-other : (i d b : ℕ) → printed_command (load_line i d b) ≡ None
-load-other i d b =
-    no-command-line (codes "instructions=" ++ decimal i) (codes "depth=" ++ decimal d)
-    (codes "budget=" ++ decimal b) (decimal-free 32 i no-space) (decimal-free 32 d no-space) refl
-
-no-command : {A : Type 0} (line : List ℕ) (command : PrintedCommand)
-    → printed_command line ≡ None → printed_command line ≡ Some command → A
-no-command line command none is =
-    absurd (let no : ◌≡◌ {A = Option PrintedCommand} None (Some command) = sym none ∙ is in cc)
-
 each-none : (Is : List ℕ → Type 0) (lines : List (List ℕ)) → Each Is lines
     → Each (λ l. Unit {0}) lines
 each-none Is [] all = tt
@@ -131,13 +123,12 @@ each-other lines part after line each e = at part (subst (λ ls. Each IsOther ls
     at [] all = all.0.1
     at (x ∷ part) all = at part all.1
 
--- Before the line of a command stands the line of the load, and it is one of those of an event.
-pub record Ordered (load : List ℕ) (past : List Past) (before : List (List ℕ)) (line : List ℕ)
+-- Before a line stands the line of the load, and it is one of those of an event.
+pub record Standing (load : List ℕ) (past : List Past) (before : List (List ℕ)) (line : List ℕ)
     : Type 0 where
   pub behind : List (List ℕ)
   pub begins : before ≡ load ∷ behind
   pub at : Placed past behind line
-  pub is : IsCommandLine at.order.now at.order.answer at.order.after line
 
 module _ (parts : ScenarioParts) (first : State) (text : List ℕ) (status : ℕ)
     (run : IsRun parts first text status) where
@@ -165,48 +156,42 @@ module _ (parts : ScenarioParts) (first : State) (text : List ℕ) (status : ℕ
       )
       ∙ ap (λ ls. load ∷ ls) (append_assoc (flat gs) others ([] ∷ []))
 
-  of-kind : (before behind : List (List ℕ)) (line : List ℕ) (command : PrintedCommand)
-      → before ≡ load ∷ behind → printed_command line ≡ Some command
-      → (at : Placed run.past behind line)
-      → IsLineOf at.order.now at.order.answer at.order.after line
-      → Ordered load run.past before line
-  of-kind before behind line command begins reads at (inl scan) =
-      no-command line command (ap printed_command scan.is
-      ∙ no-command-line (decimal at.order.now) (codes "scan")
-      ((codes "steps=" ++ decimal scan.steps)
-      ++ told_text (switches_told at.order.after 0 at.order.after.switches))
-      (decimal-free 32 at.order.now no-space) refl refl) reads
-  of-kind before behind line command begins reads at (inr (inl l)) =
-      record { behind = behind; begins = begins; at = at; is = l }
-  of-kind before behind line command begins reads at (inr (inr other)) =
-      no-command line command other.no_command reads
+-- lines that are read to something, as no other line and no line of a load is
+module _ {A : Type 0} (read : List ℕ → Option A)
+    (other_none : (line : List ℕ) → IsOther line → read line ≡ None)
+    (load_none : (i d b : ℕ) → read (load_line i d b) ≡ None) where
+  pub no-read : {B : Type 0} (line : List ℕ) (x : A) → read line ≡ None → read line ≡ Some x → B
+  no-read line x none is =
+      absurd (let no : ◌≡◌ {A = Option A} None (Some x) = sym none ∙ is in cc)
 
-  by-place : (gs : Groups) (rest before after : List (List ℕ)) (line : List ℕ)
-      (command : PrintedCommand) → printed_command line ≡ Some command → AreGroups run.past gs
-      → Each IsOther rest → load ∷ (flat gs ++ rest) ≡ before ++ line ∷ after
-      → Ordered load run.past before line
-  by-place gs rest [] after line command reads are others e =
-      no-command line command (subst (λ l. printed_command l ≡ None)
-      (heads load line (flat gs ++ rest) after e)
-      (load-other report.instructions report.depth report.budget)) reads
-  by-place gs rest (x ∷ before) after line command reads are others e =
+  by-place : (r : Report) (past : List Past) (gs : Groups) (rest before after : List (List ℕ))
+      (line : List ℕ) (x : A) → read line ≡ Some x → AreGroups past gs → Each IsOther rest
+      → load_line r.instructions r.depth r.budget ∷ (flat gs ++ rest)
+      ≡ before ++ line ∷ after
+      → Standing (load_line r.instructions r.depth r.budget) past before line
+  by-place r past gs rest [] after line x reads are others e =
+      no-read line x (subst (λ l. read l ≡ None) (heads _ line (flat gs ++ rest) after e)
+      (load_none r.instructions r.depth r.budget)) reads
+  by-place r past gs rest (y ∷ before) after line x reads are others e =
       elim (cut (flat gs) rest before after line
-      (tails load x (flat gs ++ rest) (before ++ line ∷ after) e)) [
-        | inl f ↦
-            (let at = placed run.past gs before f.rest line are f.first in
-            of-kind (x ∷ before) before line command
-            (ap (λ l. l ∷ before) (sym (heads load x (flat gs ++ rest) (before ++ line ∷ after) e)))
-            reads at at.is)
+      (tails _ y (flat gs ++ rest) (before ++ line ∷ after) e)) [
+        | inl f ↦ record {
+          behind = before;
+          begins = ap (λ l. l ∷ before)
+              (sym (heads _ y (flat gs ++ rest) (before ++ line ∷ after) e));
+          at = placed past gs before f.rest line are f.first;
+        }
         | inr s ↦
-            no-command line command
-            (each-other rest s.part after line others s.second).no_command reads
+            no-read line x (other_none line (each-other rest s.part after line others s.second))
+            reads
       ]
 
-  -- Each line of a command stands so.
-  pub ordered : (before after : List (List ℕ)) (line : List ℕ) (command : PrintedCommand)
-      → lines_in text ≡ before ++ line ∷ after → printed_command line ≡ Some command
-      → Ordered load run.past before line
-  ordered before after line command e reads =
+  -- Each such line of the text of a run stands so.
+  pub stands : (parts : ScenarioParts) (first : State) (text : List ℕ) (status : ℕ)
+      (run : IsRun parts first text status) (before after : List (List ℕ)) (line : List ℕ) (x : A)
+      → lines_in text ≡ before ++ line ∷ after → read line ≡ Some x
+      → Standing (load parts first text status run) run.past before line
+  stands parts first text status run before after line x e reads =
       let known = known-run parts first text status run in
       let groups = past-groups first run.past run.steps known.ids in
       let ending =
@@ -216,45 +201,71 @@ module _ (parts : ScenarioParts) (first : State) (text : List ℕ) (status : ℕ
       let others : Each IsOther rest =
       each-append IsOther ending.lines ([] ∷ []) ending.each
       ((refl, record { no_scan = refl; no_command = refl }), tt) in
-      by-place groups.0 rest before after line command reads groups.1 others
-      (sym (text-lines groups.0 groups.1 ending.lines ending.each ending.whole) ∙ e)
+      by-place run.printed.report run.past groups.0 rest before after line x reads groups.1 others
+      (sym (text-lines parts first text status run groups.0 groups.1 ending.lines ending.each
+      ending.whole) ∙ e)
 
--- ---- a report
+  -- ---- a report
 
-no-commands : (text : List ℕ) → AreLines IsOther text
-    → (line : List ℕ) → Contains (lines_in text) line → printed_command line ≡ None
-no-commands text lines line at =
-    let other : IsOther line =
-    each-line lines (record { no_scan = refl; no_command = refl }) line at in
-    other.no_command
+  none-read : (text : List ℕ) → AreLines IsOther text
+      → (line : List ℕ) → Contains (lines_in text) line → read line ≡ None
+  none-read text lines line at =
+      let other : IsOther line =
+      each-line lines (record { no_scan = refl; no_command = refl }) line at in
+      other_none line other
 
--- what is so of the text of each run, and of one that has no line of a command
-module _ (Are : (parts : ScenarioParts) (first : State) (text : List ℕ) (status : ℕ)
-    → IsRun parts first text status → Type 0)
-    (run-are : (parts : ScenarioParts) (first : State) (text : List ℕ) (status : ℕ)
-    (run : IsRun parts first text status) → Are parts first text status run) where
-  abbrev pub OfReport : List ℕ → ℕ → Type 0
-  OfReport text status =
-      ((line : List ℕ) → Contains (lines_in text) line → printed_command line ≡ None)
-      ⊎ ((parts : ScenarioParts) × ((first : State)
-      × ((run : IsRun parts first text status) × Are parts first text status run)))
+  -- what is so of the text of each run, and of one that has no such line
+  module _ (Are : (parts : ScenarioParts) (first : State) (text : List ℕ) (status : ℕ)
+      → IsRun parts first text status → Type 0)
+      (run-are : (parts : ScenarioParts) (first : State) (text : List ℕ) (status : ℕ)
+      (run : IsRun parts first text status) → Are parts first text status run) where
+    abbrev pub OfReport : List ℕ → ℕ → Type 0
+    OfReport text status =
+        ((line : List ℕ) → Contains (lines_in text) line → read line ≡ None)
+        ⊎ ((parts : ScenarioParts) × ((first : State)
+        × ((run : IsRun parts first text status) × Are parts first text status run)))
 
-  by-load : (parts : ScenarioParts) (text : List ℕ) (status : ℕ) (loaded : Result State LoadFault)
-      → load_of parts.bay parts.logic ≡ loaded → LoadReport loaded parts.trace text status
-      → OfReport text status
-  by-load parts text status (Ok first) is told =
-      let run : IsRun parts first text status =
-      run-of parts.bay parts.logic first (loaded-from parts.bay parts.logic first is) parts.trace
-      text status told in
-      inr (parts, (first, (run, run-are parts first text status run)))
-  by-load parts text status (Err fault) is told =
-      inl (no-commands text (subst (AreLines IsOther) (sym told.0) (refused-lines fault)))
+    by-load : (parts : ScenarioParts) (text : List ℕ) (status : ℕ)
+        (loaded : Result State LoadFault) → load_of parts.bay parts.logic ≡ loaded
+        → LoadReport loaded parts.trace text status → OfReport text status
+    by-load parts text status (Ok first) is told =
+        let run : IsRun parts first text status =
+        run-of parts.bay parts.logic first (loaded-from parts.bay parts.logic first is) parts.trace
+        text status told in
+        inr (parts, (first, (run, run-are parts first text status run)))
+    by-load parts text status (Err fault) is told =
+        inl (none-read text (subst (AreLines IsOther) (sym told.0) (refused-lines fault)))
 
-  pub of-parts : (o : Option ScenarioParts) (text : List ℕ) (status : ℕ)
-      → PartsReport o text status → OfReport text status
-  of-parts None text status told =
-      inl (no-commands text (subst (AreLines IsOther) (sym told.0) no-parts-lines))
-  of-parts (Some parts) text status (inl told) =
-      by-load parts text status (load_of parts.bay parts.logic) refl told
-  of-parts (Some parts) text status (inr refused) =
-      inl (no-commands text (subst (AreLines IsOther) (sym refused.0) (refused-lines OutOfMemory)))
+    pub of-parts : (o : Option ScenarioParts) (text : List ℕ) (status : ℕ)
+        → PartsReport o text status → OfReport text status
+    of-parts None text status told =
+        inl (none-read text (subst (AreLines IsOther) (sym told.0) no-parts-lines))
+    of-parts (Some parts) text status (inl told, run) =
+        by-load parts text status (load_of parts.bay parts.logic) refl told
+    of-parts (Some parts) text status (inr refused, run) =
+        inl (none-read text
+        (subst (AreLines IsOther) (sym refused.0) (refused-lines OutOfMemory)))
+
+-- ---- the line of a command
+
+pub load-no-command : (i d b : ℕ) → printed_command (load_line i d b) ≡ None
+load-no-command i d b =
+    no-command-line (codes "instructions=" ++ decimal i) (codes "depth=" ++ decimal d)
+    (codes "budget=" ++ decimal b) (decimal-free 32 i no-space) (decimal-free 32 d no-space) refl
+
+pub other-no-command : (line : List ℕ) → IsOther line → printed_command line ≡ None
+other-no-command line other = other.no_command
+
+-- It is the line of a command of the event that it stands with.
+pub of-command : (now : ℕ) (answer : Result Step StepFault) (s : State) (line : List ℕ)
+    (command : PrintedCommand) → printed_command line ≡ Some command → IsLineOf now answer s line
+    → IsCommandLine now answer s line
+of-command now answer s line command reads (inl scan) =
+    no-read printed_command other-no-command load-no-command line command
+    (ap printed_command scan.is
+    ∙ no-command-line (decimal now) (codes "scan")
+    ((codes "steps=" ++ decimal scan.steps) ++ told_text (switches_told s 0 s.switches))
+    (decimal-free 32 now no-space) refl refl) reads
+of-command now answer s line command reads (inr (inl l)) = l
+of-command now answer s line command reads (inr (inr other)) =
+    no-read printed_command other-no-command load-no-command line command other.no_command reads

@@ -5,7 +5,7 @@ use Rattle.std.specs.List.{slice_split}
 use Rattle.bay_device.specs.Fresh.{Past}
 use Rattle.bay_report.specs.Lines.{step_text}
 use Rattle.bay_report_laws.specs.Printed.{ended}
-use Rattle.bay_report_laws.specs.Runs.{printed_of}
+use Rattle.bay_replay.specs.Runs.{printed_of}
 use Rattle.bay_report_laws.proofs.LineLemmas.{Each, ended-append, lines-are}
 use Rattle.bay_report_laws.proofs.PrintLemmas.{IsLineOf}
 

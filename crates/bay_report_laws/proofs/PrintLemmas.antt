@@ -19,7 +19,7 @@ use Rattle.bay_report.specs.Report.{report_text}
 use Rattle.bay_report.specs.Lines.{closed_text, closing_text, command_line, command_part, commands_text, digit_of, done_text, ended_text, order_text, ran_text, refusal_line, scan_text, send_text, sends_text, step_text, switches_text, why_text}
 use Rattle.bay_report_laws.specs.Printed.{PrintedSwitch}
 use Rattle.bay_report_laws.specs.ReadBack.{HaveIds, switches_told}
-use Rattle.bay_report_laws.proofs.KeptLemmas.{scan_told}
+use Rattle.bay_replay.proofs.KeptLemmas.{scan_told}
 use Rattle.bay_report_laws.proofs.LineLemmas.{AreLines, decimal-free, free, free-append, hex-free, more-lines, no-lines, one-line}
 use Rattle.bay_report_laws.proofs.NameLemmas.{name-plain}
 use Rattle.bay_report_laws.proofs.ReadLemmas.{AllPlain, IsOther, IsPlain, load_line, no-end, no-space, order_line, order_word, other-line, scan_line, told_text, word-free, word_of}

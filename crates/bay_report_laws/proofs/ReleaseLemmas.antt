@@ -19,20 +19,20 @@ use Rattle.bay_device.specs.declared.fault.StepFault.{StepFault}
 use Rattle.bay_report.specs.Lines.{ended_text, scan_text, step_text}
 use Rattle.bay_report.specs.Report.{report_text}
 use Rattle.bay_replay.specs.Scenario.{ScenarioParts, scenario_of}
-use Rattle.bay_report_laws.specs.History.{AllFresh, EachPast, device_after}
+use Rattle.bay_replay.specs.History.{AllFresh, EachPast, device_after}
 use Rattle.bay_report_laws.specs.Printed.{PrintedCommand, PrintedSwitch, ended, printed_command}
 use Rattle.bay_report_laws.specs.ReadBack.{HaveIds, switches_told}
 use Rattle.bay_report_laws.specs.Released.{AreReleased, CommandsAreReleased, IsPrintedFor, IsReleasedBy}
-use Rattle.bay_report_laws.specs.Runs.{IsRun}
-use Rattle.bay_report_laws.proofs.HistoryLemmas.{past-fixed}
-use Rattle.bay_report_laws.proofs.KeptLemmas.{scan_told, step-on-time}
+use Rattle.bay_replay.specs.Runs.{IsRun}
+use Rattle.bay_replay.proofs.HistoryLemmas.{past-fixed}
+use Rattle.bay_replay.proofs.KeptLemmas.{scan_told, step-on-time}
 use Rattle.bay_report_laws.proofs.LineLemmas.{Each, each-append, ended-append}
 use Rattle.bay_report_laws.proofs.PlaceLemmas.{AreGroups, OneGroup, Placed, flat, one-group, same-lines}
 use Rattle.bay_report_laws.proofs.PrintLemmas.{IsCommandLine, IsLineOf, ended-lines, load-is, scan-free, scan-is, told-plain}
 use Rattle.bay_report_laws.proofs.ReadLemmas.{scan-read, scan_line}
 use Rattle.bay_report_laws.proofs.ScanLemmas.{LastScan, fresh-at, last-scan, past-in, same-since}
 use Rattle.bay_report_laws.proofs.WithinLemmas.{AreFew, known-run, past-few}
-use Rattle.bay_report_laws.proofs.OrderLemmas.{load, of-parts, order-read, order-steps, order-switches, ordered, printed-for}
+use Rattle.bay_report_laws.proofs.OrderLemmas.{load, load-no-command, of-command, of-parts, order-read, order-steps, order-switches, other-no-command, printed-for, stands}
 
 -- ---- freshness
 
@@ -259,7 +259,11 @@ module _ (age : ℕ) (first : State) (past : List Past) (known : Known age first
 run-released : (parts : ScenarioParts) (first : State) (text : List ℕ) (status : ℕ)
     (run : IsRun parts first text status) → AreReleased parts first text status run
 run-released parts first text status run before after line command e reads =
-    let o = ordered parts first text status run before after line command e reads in
+    let o =
+    stands printed_command other-no-command load-no-command parts first text status run before after
+    line command e reads in
+    let l =
+    of-command o.at.order.now o.at.order.answer o.at.order.after line command reads o.at.is in
     let known = known-run parts first text status run in
     let age = run.loaded.bay.scan_max_age_ms in
     let begin = report_text run.printed.report in
@@ -276,8 +280,8 @@ run-released parts first text status run before after line command e reads =
       few = past-few first run.printed.report.budget known.small known.ids
           run.printed.reported.budget run.past run.steps known.within;
     })
-    begin line_of_load (load-is run.printed.report) o.behind line o.at o.is command reads)
+    begin line_of_load (load-is run.printed.report) o.behind line o.at l command reads)
 
 pub commands-are-released : CommandsAreReleased
 commands-are-released scenario text status told =
-    of-parts AreReleased run-released (scenario_of scenario) text status told
+    of-parts printed_command other-no-command load-no-command AreReleased run-released (scenario_of scenario) text status told

@@ -14,8 +14,8 @@ use Rattle.bay_device.specs.declared.event.Event.TheVariants.{Scan}
 use Rattle.bay_device.specs.declared.event.Step.{Step}
 use Rattle.bay_device.specs.declared.fault.StepFault.{StepFault}
 use Rattle.bay_device.specs.declared.fault.StepFault.TheVariants.{MomentTooLarge, TimeWentBack}
-use Rattle.bay_report_laws.specs.History.{EachPast, device_after}
-use Rattle.bay_report_laws.proofs.KeptLemmas.{Scanned, scan_told, turned}
+use Rattle.bay_replay.specs.History.{EachPast, device_after}
+use Rattle.bay_replay.proofs.KeptLemmas.{Scanned, scan_told, turned}
 
 -- ---- the last scan
 

@@ -21,19 +21,19 @@ use Rattle.bay_report.specs.Load.{load_of}
 use Rattle.bay_report.specs.Report.{refusal_of, report_text}
 use Rattle.bay_replay.specs.Replay.{LoadReport, PartsReport}
 use Rattle.bay_replay.specs.Scenario.{ScenarioParts, scenario_of}
-use Rattle.bay_report_laws.specs.History.{EachPast, device_after}
+use Rattle.bay_replay.specs.History.{EachPast, device_after}
 use Rattle.bay_report_laws.specs.Printed.{PrintedScan, lines_in, printed_budget, printed_scan}
 use Rattle.bay_report_laws.specs.ReadBack.{HaveIds, switches_told}
-use Rattle.bay_report_laws.specs.Runs.{EndsAs, IsRun, printed_of}
+use Rattle.bay_replay.specs.Runs.{EndsAs, IsRun, printed_of}
 use Rattle.bay_report_laws.specs.Texts.{AreWithinBudget, ScansAreWithinBudget, first_of}
-use Rattle.bay_report_laws.proofs.BudgetLemmas.{IsWithin, step-within}
-use Rattle.bay_report_laws.proofs.HistoryLemmas.{past-does, past-fixed}
-use Rattle.bay_report_laws.proofs.KeptLemmas.{scan_told, step-on-time}
-use Rattle.bay_report_laws.proofs.LawLemmas.{run-of}
+use Rattle.bay_replay.proofs.BudgetLemmas.{IsWithin, step-within}
+use Rattle.bay_replay.proofs.HistoryLemmas.{past-does, past-fixed}
+use Rattle.bay_replay.proofs.KeptLemmas.{scan_told, step-on-time}
+use Rattle.bay_replay.proofs.RunLemmas.{run-of}
 use Rattle.bay_report_laws.proofs.LineLemmas.{AreLines, decimal-free, each-line, free, free-append, map-lines, more-lines, no-lines, one-line, split-at}
-use Rattle.bay_report_laws.proofs.LoadLemmas.{loaded-from, loaded-runs}
+use Rattle.bay_replay.proofs.LoadedLemmas.{loaded-from, loaded-runs}
 use Rattle.bay_report_laws.proofs.NameLemmas.{bay-named}
-use Rattle.bay_report_laws.proofs.PathLemmas.{budget-small}
+use Rattle.bay_replay.proofs.PathLemmas.{budget-small}
 use Rattle.bay_report_laws.proofs.PrintLemmas.{IsLineOf, IsScanLine, load-is, step-lines, told-plain}
 use Rattle.bay_report_laws.proofs.ReadLemmas.{IsOther, budget-read, load_line, no-end, no-scan-line, no-space, order_word, other-line, scan-read}
 
@@ -254,9 +254,9 @@ by-parts : (o : Option ScenarioParts) (text : List ℕ) (status : ℕ) → Parts
     → AreWithinBudget text
 by-parts None text status told =
     no-scans text (subst (AreLines IsOther) (sym told.0) no-parts-lines)
-by-parts (Some parts) text status (inl told) =
+by-parts (Some parts) text status (inl told, run) =
     by-load parts text status (load_of parts.bay parts.logic) refl told
-by-parts (Some parts) text status (inr refused) =
+by-parts (Some parts) text status (inr refused, run) =
     no-scans text (subst (AreLines IsOther) (sym refused.0) (refused-lines OutOfMemory))
 
 pub scans-are-within : ScansAreWithinBudget

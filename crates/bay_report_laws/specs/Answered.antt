@@ -17,10 +17,10 @@ use Rattle.bay_report.specs.Lines.{step_text}
 use Rattle.bay_report.specs.Report.{report_text}
 use Rattle.bay_replay.specs.Replay.{IsReport}
 use Rattle.bay_replay.specs.Scenario.{ScenarioParts}
-use Rattle.bay_report_laws.specs.History.{device_after}
+use Rattle.bay_replay.specs.History.{device_after}
 use Rattle.bay_report_laws.specs.Printed.{PrintedCommand, lines_in, printed_command, printed_send}
 use Rattle.bay_report_laws.specs.Released.{IsPrintedFor}
-use Rattle.bay_report_laws.specs.Runs.{IsRun}
+use Rattle.bay_replay.specs.Runs.{IsRun}
 
 -- A command's line is of what is printed for octets of a client. One of their PDUs asks for the
 -- operate of this switch; and among the lines that are printed for these octets is one of sent

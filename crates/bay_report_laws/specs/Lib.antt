@@ -1,24 +1,17 @@
--- What a report says of the device that was replayed.
+-- What is read off the text of a report.
 --
--- `History`: what is said of all that has happened to a device since load. `Runs` is the main file:
--- a report is the text of a run of its scenario's device, and what holds of this run. `Printed`: how
--- a line is read, by its words alone; `ReadBack`: so is each that is printed. `Texts`: that scans are
--- within the budget; `Released`: what stands before a command's line; `Answered`: what stands
--- beside it.
+-- `Printed`: how a line is read, by its words alone; `ReadBack`: so is each that is printed. `Released`
+-- is the main file: what stands before a command's line; `Answered`: what stands beside it. `Texts`:
+-- that scans are within the budget.
 
 -- What public clauses cite of the crates below.
-pub use Rattle.bay_device.specs.Commands
 pub use Rattle.bay_device.specs.Fresh
-pub use Rattle.bay_device.specs.Meaning
-pub use Rattle.bay_device.specs.Operates
-pub use Rattle.bay_device.specs.Steps
 pub use Rattle.bay_device.specs.Told
 pub use Rattle.bay_replay.specs.Replay
+pub use Rattle.bay_replay.specs.Runs
 -- Its own definitions.
 pub mod Answered
-pub mod History
 pub mod Printed
 pub mod ReadBack
 pub mod Released
-pub mod Runs
 pub mod Texts

@@ -9,7 +9,7 @@ use Rattle.bay_report.specs.Report.{report_text}
 use Rattle.bay_replay.specs.Replay.{IsReport}
 use Rattle.bay_replay.specs.Scenario.{ScenarioParts}
 use Rattle.bay_report_laws.specs.Printed.{PrintedCommand, PrintedScan, PrintedSwitch, ended, lines_in, printed_command, printed_scan}
-use Rattle.bay_report_laws.specs.Runs.{IsRun, printed_of}
+use Rattle.bay_replay.specs.Runs.{IsRun, printed_of}
 
 -- A line, which stands behind these lines of a text that begins so, is one of what is printed for an
 -- event, which comes behind these events.

@@ -2,21 +2,7 @@
 ghost use Rattle.bay_report_laws.specs.Answered.{CommandsAreAnswered};
 ghost use Rattle.bay_report_laws.specs.ReadBack.{ReadsBudgets, ReadsCommands, ReadsScans};
 ghost use Rattle.bay_report_laws.specs.Released.{CommandsAreReleased};
-ghost use Rattle.bay_report_laws.specs.Runs.{ReportsAreRuns};
 ghost use Rattle.bay_report_laws.specs.Texts.{ScansAreWithinBudget};
-
-/// Where the parts of a scenario load to a device, each report of the scenario is that of a run of
-/// this device, or says that memory ran out while it was loaded. The device is that of the bay file
-/// and of the image to which the program is compiled. The text is the line of the load, and behind
-/// it, line by line of the trace, what is printed for the answer to the line's event; and its end.
-/// In the run each scan halts without a trap in the steps that are answered, within the budget, and
-/// leaves what the program means. Each command is one that the interlocking releases on a fresh
-/// scan; behind it stands a scan of this run, not too old, since which the process has not changed;
-/// and it is an operate that a client's octets ask for and that the octets of the answer accept,
-/// backed by a select where its switch has to be selected.
-pub fn a_report_is_a_run()
-    ensures { ReportsAreRuns }
-{}
 
 /// The line of a load, of a scan and of a command is read back: by a definition that cuts a line into
 /// words and knows nothing of how it is printed. Numbers are below 2 ^ 64, and ids are as a bay file

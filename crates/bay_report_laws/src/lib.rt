@@ -1,6 +1,6 @@
-// What a report that a replay prints says of the device that was replayed.
+// What is read off the text of a report that a replay prints.
 //
-// - `laws`: a report is a run of the device of its scenario, and what is read off its text.
+// - `laws`: the steps of scans, and what stands before and beside each command.
 #![tactic(auto)]
 
 pub mod laws;

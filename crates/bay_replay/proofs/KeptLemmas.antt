@@ -4,6 +4,7 @@
 use Rattle.std.proofs.Common.{◌≡◌, ℕ, zero, suc, ℤ, ◌≤◌, Bool, true, false, cond, nat_lt, List, [], ◌∷◌, slice_get, Option, Some, None, Result, Ok, Err, ◌⊎◌, inl, inr, refl, ap, ap₂, sym, subst, ◌∙◌, arith}
 use Rattle.std.proofs.lemmas.Bool.Decides.{nat_tests}
 use Rattle.bay_config.specs.declared.bay.MeterField.{MeterField}
+use Rattle.bay_config.specs.declared.bay.Source.{Source}
 use Rattle.bay_connection.specs.Talk.{Indication, Talk, Terms, answers, tells, releases, ends, fails, indications, left_by}
 use Rattle.bay_nodes.specs.declared.switch.Switch.{Switch}
 use Rattle.bay_nodes.specs.Names.{meter_names}
@@ -33,6 +34,7 @@ pub record Fixed (s t : State) : Type 0 where
   pub age : t.scan_max_age_ms ≡ s.scan_max_age_ms
   pub image : t.machine.image ≡ s.machine.image
   pub switches : t.switches ≡ s.switches
+  pub writes : t.writes ≡ s.writes
 
 -- what a scan alone changes
 pub record Kept (s t : State) : Type 0 where
@@ -45,6 +47,7 @@ record Parts : Type 0 where
   age : ℕ
   image : Image
   switches : List Switch
+  writes : List Source
   scans : Option ℕ
   rows : List Row
 
@@ -53,6 +56,7 @@ parts_of s = record {
   age = s.scan_max_age_ms;
   image = s.machine.image;
   switches = s.switches;
+  writes = s.writes;
   scans = s.last_scan;
   rows = s.rows;
 }
@@ -64,6 +68,7 @@ kept-parts s t same = record {
         age = ap (λ (p : Parts). p.age) same;
         image = ap (λ (p : Parts). p.image) same;
         switches = ap (λ (p : Parts). p.switches) same;
+        writes = ap (λ (p : Parts). p.writes) same;
       };
   scans = ap (λ (p : Parts). p.scans) same;
   interlocking = λ k x. ap (leaf_of _) (ap (λ (p : Parts). p.rows) same);
@@ -85,6 +90,7 @@ same-said now a terms pdu d =
       age = d.state.scan_max_age_ms;
       image = d.state.machine.image;
       switches = switches;
+      writes = d.state.writes;
       scans = d.state.last_scan;
       rows = rows;
     } in p)
@@ -168,9 +174,6 @@ module _ (now : ℕ) (s : State) where
       quiet-parts s (close_outcome now a s (Some talk)) refl
       (same-with s (place_of a) None (without_owner a (device_at now s)) refl)
 
-  fixed-none : Fixed s s
-  fixed-none = record { age = refl; image = refl; switches = refl }
-
   quiet-contact : (k : ℕ) (position : Dbpos) (o : Option Switch)
       → Quiet s (contact_outcome now k position s o)
   quiet-contact k position None =
@@ -178,7 +181,7 @@ module _ (now : ℕ) (s : State) where
   quiet-contact k position (Some switch) = (
     refl,
     record {
-      fixed = record { age = refl; image = refl; switches = refl };
+      fixed = record { age = refl; image = refl; switches = refl; writes = refl };
       scans = refl;
       interlocking = keeps-contact s.switches k switch position now s.rows;
     },
@@ -197,7 +200,7 @@ module _ (now : ℕ) (s : State) where
   quiet-measure k field value (Some id) = (
     refl,
     record {
-      fixed = record { age = refl; image = refl; switches = refl };
+      fixed = record { age = refl; image = refl; switches = refl; writes = refl };
       scans = refl;
       interlocking =
           keeps-measure (field_names field (meter_names k)) value now s.rows (field-away k field);
@@ -257,7 +260,7 @@ step-fixed now event old answer new steps =
     elim (turned now event old answer new steps) [
       | inl quiet ↦ quiet.1.fixed
       | inr scan ↦ subst (Fixed old) (sym scan.left)
-          (record { age = refl; image = refl; switches = refl })
+          (record { age = refl; image = refl; switches = refl; writes = refl })
     ]
 
 -- ---- moments

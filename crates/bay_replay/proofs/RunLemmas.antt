@@ -1,5 +1,5 @@
 -- A report is a run.
-use Rattle.std.proofs.Common.{◌≡◌, ℕ, List, [], ◌++◌, ◌⊎◌, length, Result, Ok, inl, inr, ap, subst, ◌∙◌}
+use Rattle.std.proofs.Common.{ℕ, List, [], ◌++◌, length, Result, Ok, inl, inr, ap, subst, ◌∙◌}
 use Rattle.std.proofs.lemmas.List.Elements.{All-nil}
 use Rattle.bay_device.specs.Commands.{CommandedAt}
 use Rattle.bay_device.specs.Device.{State, bay_of}
@@ -9,23 +9,22 @@ use Rattle.bay_device.specs.Load.{IsCompiled, IsLoaded}
 use Rattle.bay_device.specs.Meaning.{HaltsAt, MeansAt, Runs}
 use Rattle.bay_device.specs.Steps.{Steps}
 use Rattle.bay_device.specs.declared.fault.LoadFault.{LoadFault}
-use Rattle.bay_device.specs.declared.fault.LoadFault.TheVariants.{OutOfMemory}
 use Rattle.bay_device.proofs.CommandLemmas.{step-commanded}
 use Rattle.bay_device.proofs.IdleLemmas.{loaded-idle}
 use Rattle.bay_device.proofs.MeaningLemmas.{means-step}
 use Rattle.bay_device.proofs.RunLemmas.{tells-backed}
 use Rattle.bay_device.proofs.ToldLemmas.{idle-talks}
-use Rattle.bay_report.specs.Load.{file_of, load_of, text_of}
-use Rattle.bay_report.specs.Report.{Refuses, report_text}
+use Rattle.bay_report.specs.Load.{file_of, text_of}
+use Rattle.bay_report.specs.Report.{report_text}
 use Rattle.bay_report.specs.TextLines.{lines_of}
-use Rattle.bay_replay.specs.Replay.{DeviceReport, LoadReport, LoadsReport, PartsReport}
+use Rattle.bay_replay.specs.Replay.{DeviceReport, LoadReport, LoadsReport}
 use Rattle.bay_replay.specs.Scenario.{ScenarioParts}
-use Rattle.bay_report_laws.specs.History.{EachPast, answers_of, device_after, events_of}
-use Rattle.bay_report_laws.specs.Runs.{IsBlank, IsGuarded, IsRun, ReportsAreRuns}
-use Rattle.bay_report_laws.proofs.BudgetLemmas.{step-halts}
-use Rattle.bay_report_laws.proofs.HistoryLemmas.{past-came, past-does, past-fresh, past-so, past-tells}
-use Rattle.bay_report_laws.proofs.LoadLemmas.{loaded-from, loaded-runs}
-use Rattle.bay_report_laws.proofs.TextLemmas.{goes}
+use Rattle.bay_replay.specs.History.{EachPast, answers_of, device_after, events_of}
+use Rattle.bay_replay.specs.Runs.{IsBlank, IsGuarded, IsOfRun, IsRun}
+use Rattle.bay_replay.proofs.BudgetLemmas.{step-halts}
+use Rattle.bay_replay.proofs.HistoryLemmas.{past-came, past-does, past-fresh, past-so, past-tells}
+use Rattle.bay_replay.proofs.LoadedLemmas.{loaded-from, loaded-runs}
+use Rattle.bay_replay.proofs.TraceLemmas.{goes}
 
 module _ (bay logic : List ℕ) (first : State)
     (loaded : IsLoaded (file_of bay) (IsCompiled (text_of logic)) first) where
@@ -77,16 +76,11 @@ module _ (bay logic : List ℕ) (first : State)
         guarded = guarded e.whole e.steps;
       }
 
-by-load : (parts : ScenarioParts) (first : State) (text : List ℕ) (status : ℕ)
-    → load_of parts.bay parts.logic ≡ Ok first → LoadsReport parts text status
-    → Refuses OutOfMemory text status ⊎ IsRun parts first text status
-by-load parts first text status loads (inl told) =
+-- What is printed for parts that load is of a run.
+pub of-run : (parts : ScenarioParts) (text : List ℕ) (status : ℕ) → LoadsReport parts text status
+    → IsOfRun parts text status
+of-run parts text status (inl told) first loads =
     inr (run-of parts.bay parts.logic first (loaded-from parts.bay parts.logic first loads)
     parts.trace text status
     (subst (λ loaded. LoadReport loaded parts.trace text status) loads told))
-by-load parts first text status loads (inr refused) = inl refused
-
-pub reports-are-runs : ReportsAreRuns
-reports-are-runs scenario parts first text status cut loads told =
-    by-load parts first text status loads
-    (subst (λ o. PartsReport o text status) cut told)
+of-run parts text status (inr refused) first loads = inl refused

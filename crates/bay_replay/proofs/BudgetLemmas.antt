@@ -12,8 +12,8 @@ use Rattle.bay_device.specs.declared.event.Step.{Step}
 use Rattle.bay_device.specs.declared.fault.StepFault.{StepFault}
 use Rattle.bay_device.specs.declared.fault.StepFault.TheVariants.{MomentTooLarge, TimeWentBack}
 use Rattle.bay_device.proofs.MeaningLemmas.{means-step, scan-halts}
-use Rattle.bay_report_laws.proofs.KeptLemmas.{scan_told, turned}
-use Rattle.bay_report_laws.proofs.PathLemmas.{run-ends}
+use Rattle.bay_replay.proofs.KeptLemmas.{scan_told, turned}
+use Rattle.bay_replay.proofs.PathLemmas.{run-ends}
 
 -- ---- a scan
 

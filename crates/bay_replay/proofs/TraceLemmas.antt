@@ -12,8 +12,8 @@ use Rattle.bay_trace.specs.Trace.{LineData, NamedData, at_moment, blank, trace_l
 use Rattle.bay_report.specs.Lines.{step_text}
 use Rattle.bay_replay.specs.LineAnswers.{Choice, LineAnswer, Replaying, event_answer, heard, line_answer, memory_answer, named_answer, unread}
 use Rattle.bay_replay.specs.Replay.{TraceReport}
-use Rattle.bay_report_laws.specs.History.{EachPast, device_after}
-use Rattle.bay_report_laws.specs.Runs.{AreOfLines, EndsAs, IsBlank, printed_of}
+use Rattle.bay_replay.specs.History.{EachPast, device_after}
+use Rattle.bay_replay.specs.Runs.{AreOfLines, EndsAs, IsBlank, printed_of}
 
 -- ---- one more line
 

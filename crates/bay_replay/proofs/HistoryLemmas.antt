@@ -12,8 +12,8 @@ use Rattle.bay_device.specs.declared.event.Step.{Step}
 use Rattle.bay_device.specs.declared.fault.StepFault.{StepFault}
 use Rattle.bay_device.proofs.FreshLemmas.{step-fresh}
 use Rattle.bay_device.proofs.RunLemmas.{Tells, tells}
-use Rattle.bay_report_laws.specs.History.{AllFresh, EachPast, answers_of, device_after, events_of}
-use Rattle.bay_report_laws.proofs.KeptLemmas.{Fixed, step-fixed}
+use Rattle.bay_replay.specs.History.{AllFresh, EachPast, answers_of, device_after, events_of}
+use Rattle.bay_replay.proofs.KeptLemmas.{Fixed, step-fixed}
 
 -- ---- laws of a step
 
@@ -54,7 +54,7 @@ past-came bay image first (p ∷ past) is steps = (
 
 pub past-fixed : (first : State) (past : List Past) → EachPast Steps first past
     → Fixed first (device_after first past)
-past-fixed first [] steps = record { age = refl; image = refl; switches = refl }
+past-fixed first [] steps = record { age = refl; image = refl; switches = refl; writes = refl }
 past-fixed first (p ∷ past) steps =
     let before = past-fixed first past steps.1 in
     let here = step-fixed p.now p.event (device_after first past) p.answer p.after steps.0 in
@@ -62,6 +62,7 @@ past-fixed first (p ∷ past) steps =
       age = here.age ∙ before.age;
       image = here.image ∙ before.image;
       switches = here.switches ∙ before.switches;
+      writes = here.writes ∙ before.writes;
     }
 
 pub past-fresh : (bay : Bay) (image : Image) (first : State) (past : List Past)

@@ -19,9 +19,8 @@ use Rattle.bay_report.specs.Lines.{step_text, unreadable_text}
 use Rattle.bay_report.specs.Load.{file_of, load_of, text_of}
 use Rattle.bay_report.specs.Report.{Refuses, report_text}
 use Rattle.bay_report.specs.TextLines.{lines_of}
-use Rattle.bay_replay.specs.Replay.{IsReport}
-use Rattle.bay_replay.specs.Scenario.{ScenarioParts, scenario_of}
-use Rattle.bay_report_laws.specs.History.{AllFresh, EachPast, answers_of, device_after, events_of}
+use Rattle.bay_replay.specs.History.{AllFresh, EachPast, answers_of, device_after, events_of}
+use Rattle.bay_replay.specs.Scenario.{ScenarioParts}
 
 -- ---- the lines of a trace
 
@@ -106,10 +105,9 @@ pub record IsRun (parts : ScenarioParts) (first : State) (text : List ℕ) (stat
   pub printed : IsTextOf first past parts.trace text status
   pub guarded : IsGuarded loaded.made.checked first past
 
--- Where the parts of a scenario load to a device, each report is that of a run of it, or says that
--- there was no memory for its load.
-abbrev pub ReportsAreRuns : Type 0
-ReportsAreRuns =
-    (scenario : List ℕ) (parts : ScenarioParts) (first : State) (text : List ℕ) (status : ℕ)
-    → scenario_of scenario ≡ Some parts → load_of parts.bay parts.logic ≡ Ok first
-    → IsReport scenario text status → Refuses OutOfMemory text status ⊎ IsRun parts first text status
+-- Where the parts of a scenario load to a device, the text and the status are those of a run of it,
+-- or say that there was no memory for its load.
+abbrev pub IsOfRun : ScenarioParts → List ℕ → ℕ → Type 0
+IsOfRun parts text status =
+    (first : State) → load_of parts.bay parts.logic ≡ Ok first
+    → Refuses OutOfMemory text status ⊎ IsRun parts first text status
