@@ -1,0 +1,8 @@
+pub mod AgeLemmas
+pub mod BeginLemmas
+pub mod HistoryLemmas
+pub mod LateLemmas
+pub mod OrderLemmas
+pub mod ScanLemmas
+pub mod SentLemmas
+pub mod TurnLemmas

@@ -1,0 +1,85 @@
+-- The turns of a service are done one after the other, and what happens in them is one history.
+use Rattle.std.proofs.Common.{◌≡◌, ℕ, zero, suc, List, [], ◌∷◌, Option, Result, Ok, Err, inl, inr, ap, sym, subst, ◌∙◌, arith}
+use Rattle.bay_device.specs.Device.{State}
+use Rattle.bay_device.specs.Fresh.{Came, Past}
+use Rattle.bay_io.specs.Calls.{WriteCall}
+use Rattle.bay_io.specs.Watched.{Writing}
+use Rattle.bay_io.specs.declared.outbox.WriteFault.{WriteFault}
+use Rattle.bay_serve.specs.Calls.{Call}
+use Rattle.bay_serve.specs.Turns.{Held}
+use Rattle.bay_serve_laws.specs.Events.{turn_events}
+use Rattle.bay_serve_laws.proofs.LineLemmas.{line-process}
+use Rattle.bay_serve_laws.proofs.PartLemmas.{Part-turn}
+use Rattle.bay_serving.specs.Host.{HostCall}
+use Rattle.bay_serving.specs.ServeReport.{AfterTurn, MayPause, Serving, ServesTurns, TurnGoes, text_of_next}
+use Rattle.bay_serving_laws.specs.Service.{AreTurns, DoneTurn, IsService, IsTurn, held_after, held_behind, later_turns, past_behind, past_of, turn_in, turns_in}
+use Rattle.bay_serving_laws.proofs.HistoryLemmas.{Stands, one-run, stands-events, stands-first}
+
+-- ---- all turns
+
+pub stands-turns : (first : State) (ts : List DoneTurn) (h : Held) (past : List Past)
+    → Stands first past h.device → Stands first (past_of ts h past) (held_after ts h).device
+stands-turns first [] h past at = at
+stands-turns first (t ∷ ts) h past at =
+    let events = turn_events t.now t.line t.script h in
+    let whole = Part-turn ⊥ t.now t.line t.script h (λ none. absurd none) in
+    stands-turns first ts (held_behind t h) (past_behind t.now events h.device past)
+    (subst (Stands first (past_behind t.now events h.device past)) (sym whole.device)
+    (stands-events first t.now events h.device past at))
+
+-- ---- those that were served
+
+later-are : (Ends Goes : Type 0) (h : Held) (told : Result ℕ WriteFault)
+    (rest : AfterTurn told Ends Goes) (more : Goes → List DoneTurn)
+    → ((goes : Goes) → AreTurns h (more goes))
+    → AreTurns h (later_turns Ends Goes told rest more)
+later-are Ends Goes h (Err fault) rest more each = tt
+later-are Ends Goes h (Ok status) goes more each = each goes
+
+module _ {L H W : Type 0} (step : L → Call → L → Type 0) (acts : H → HostCall L → H → Type 0)
+    (contents : W → Option (List ℕ)) (asks : W → WriteCall → W → Type 0) where
+  paused-held : (after next : Serving L H) → MayPause acts after next → next.held ≡ after.held
+  paused-held after next (inl same) = ap (λ (b : Serving L H). b.held) same
+  paused-held after next (inr paused) = paused.2
+
+  is-turn : (line : Option (ℕ × List ℕ)) (before : Serving L H) (old : Writing W)
+      (after : Serving L H) (new : Writing W) (answer : Result ℕ WriteFault)
+      (goes : TurnGoes step acts contents asks line before old after new answer)
+      → IsTurn before.held (turn_in step acts contents asks line before old after new answer goes)
+  is-turn line before old after new answer goes = record {
+    all_read = goes.serves.all_read;
+    all_offered = goes.serves.all_offered;
+    of_process = line-process (text_of_next line);
+    not_before = omega arith;
+    commands = goes.serves.commands;
+  }
+
+  pub turned : (turns : ℕ) (lines : List (ℕ × List ℕ)) (before : Serving L H) (old : Writing W)
+      (host : H) (new : Writing W) (answer : Result ℕ WriteFault)
+      (serves : ServesTurns step acts contents asks turns lines before old host new answer)
+      → AreTurns before.held
+      (turns_in step acts contents asks turns lines before old host new answer serves)
+  turned zero lines before old host new answer serves = tt
+  turned (suc turns) lines before old host new answer (inl fails) = tt
+  turned (suc turns) lines before old host new answer (inr did) = (
+    is-turn _ _ _ _ _ _ did.3,
+    later-are _ _ _ did.2 did.4 _ (λ rest.
+        subst (λ h. AreTurns h (turns_in step acts contents asks turns _ rest.0 did.1 host new
+        answer
+        rest.2)) (paused-held did.0 rest.0 rest.1 ∙ did.3.serves.server)
+        (turned turns _ rest.0 _ host new answer rest.2)),
+  )
+
+  pub service-of : (turns : ℕ) (lines : List (ℕ × List ℕ)) (before : Serving L H)
+      (old new : Writing W) (host : H) (answer : Result ℕ WriteFault)
+      (serves : ServesTurns step acts contents asks turns lines before old host new answer)
+      → Came [] before.held.device → IsService before.held
+      (turns_in step acts contents asks turns lines before old host new answer serves)
+  service-of turns lines before old new host answer serves begin =
+      let ts = turns_in step acts contents asks turns lines before old host new answer serves in
+      let first : State = before.held.device in
+      record {
+        are = turned turns lines before old host new answer serves;
+        run = one-run first (past_of ts before.held []) (held_after ts before.held).device begin
+            (stands-turns first ts before.held [] (stands-first first begin));
+      }

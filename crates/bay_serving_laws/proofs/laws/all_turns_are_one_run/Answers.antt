@@ -1,0 +1,12 @@
+use Rattle.bay_serve.specs.Calls.{Called}
+use Rattle.bay_serving_laws.proofs.BeginLemmas.{begun-of}
+use Rattle.bay_serving_laws.proofs.TurnLemmas.{service-of}
+use Rattle.bay_serving_laws.proofs.laws.all_turns_are_one_run.Goals as goal
+
+pub returns-clause-run : goal.returns-clause-run
+returns-clause-run g c = λ turns lines before old new host answer serves loaded.
+    service-of (Called g.L.Link.does g.L.Link.failures) g.H.Host.does g.W.Sink.contents
+    g.W.Sink.does turns lines before old new host answer serves loaded
+
+pub returns-clause-begins : goal.returns-clause-begins
+returns-clause-begins g c = begun-of

@@ -1,0 +1,89 @@
+-- What stands behind each command that a turn tells: who asked for it, what was answered, and what
+-- released it.
+use Rattle.std.specs.Prelude.{ℕ, ◌≡◌, ◌+◌, true, List, [], ◌∷◌, ◌++◌, Option, Some, Ok}
+use Rattle.std.specs.Borrow.{Bor}
+use Rattle.std.specs.List.{Contains}
+use Rattle.bay_connection.specs.Talk.{Talk, Terms, indications, tells}
+use Rattle.bay_process.specs.Values.{is_truth}
+use Rattle.bay_services.specs.Accepted.{accepted_in}
+use Rattle.bay_services.specs.Entries.{operates_in}
+use Rattle.bay_services.specs.Released.{releasing}
+use Rattle.bay_services.specs.declared.answer.Command.{Command}
+use Rattle.bay_tree.specs.Rows.{leaf_of}
+use Rattle.bay_device.specs.Commands.{IsReleasedAt}
+use Rattle.bay_device.specs.Device.{State, bay_of}
+use Rattle.bay_device.specs.Fresh.{HasScan, Past}
+use Rattle.bay_device.specs.Outcomes.{outcome, place_of}
+use Rattle.bay_device.specs.Told.{pdu_in, talk_at}
+use Rattle.bay_device.specs.declared.event.Event.TheVariants.{Recv}
+use Rattle.bay_device.specs.declared.event.Sent.{Sent}
+use Rattle.bay_device.specs.declared.event.Step.{Step}
+use Rattle.bay_serve.specs.Turns.{Held, turn_calls}
+use Rattle.bay_serve_laws.specs.Events.{ChosenEvent, done_at, turn_events}
+use Rattle.bay_serve_laws.specs.Flows.{FlowsAt, given_of, sent_to}
+use Rattle.bay_serving_laws.specs.Service.{DoneTurn, held_behind, past_behind}
+
+-- Among these events is such a scan, and it left the interlocking value of the command TRUE (EnaCls
+-- for on, EnaOpn for off).
+pub record IsReleasedBy (now age : ℕ) (past : List Past) (command : Command) : Type 0 where
+  pub scan : HasScan now age past
+  pub enabled : is_truth true
+      (leaf_of (releasing command.switch command.on) scan.scan.after.rows) ≡ true
+
+-- Some octets stand among others.
+abbrev pub StandIn : List ℕ → List ℕ → Type 0
+StandIn octets all = (before : List ℕ) × (after : List ℕ) × (all ≡ before ++ octets ++ after)
+
+-- all that the device sends to an association in a turn
+abbrev pub sent_in : ℕ → DoneTurn → Held → List ℕ
+sent_in a t h =
+    sent_to a (done_at t.now (turn_events t.now t.line t.script h) h.device).answers
+
+-- In a turn octets of an association were heard, behind some of its events; they stand among those
+-- that the link gave of the association in the turn, and this is the device's answer to them.
+pub record IsHeard (h : Held) (t : DoneTurn) : Type 0 where
+  pub front : List ChosenEvent
+  pub choice : Option ℕ
+  pub association : ℕ
+  pub octets : Bor (List ℕ)
+  pub back : List ChosenEvent
+  pub is : turn_events t.now t.line t.script h ≡ front ++ (choice, Recv association octets) ∷ back
+  pub given : StandIn octets.now (given_of association (turn_calls t.now t.line t.script h))
+  pub step : Step
+  pub answered : (outcome choice t.now (Recv association octets)
+      (done_at t.now front h.device).after).answer ≡ Ok step
+
+-- Octets that were heard come to a command: one of their PDUs asks for this operate, and octets
+-- that are sent to the association in the turn have a success as its result, read as the response
+-- to that PDU. What the link takes of the association in the turn, and then what its queue holds,
+-- is what the queue held, and then all that is sent to it. A scan among the events before released
+-- the command, on the device that the octets came to.
+pub record IsOrdered (first : State) (h : Held) (t : DoneTurn) (past : List Past)
+    (command : Command) : Type 0 where
+  pub heard : IsHeard h t
+  pub talk : Talk
+  pub is_open : talk_at (place_of heard.association)
+      (done_at t.now heard.front h.device).after.connections ≡ Some talk
+  pub terms : Terms
+  pub pdu : List ℕ
+  pub asked : Contains (indications talk heard.octets.now) (tells terms pdu)
+  pub sent : Sent
+  pub answers : Contains heard.step.sent sent
+  pub to : sent.association ≡ heard.association
+  pub stands : StandIn sent.octets (sent_in heard.association t h)
+  pub place : ℕ
+  pub number : heard.association ≡ place + 1
+  pub flows : FlowsAt t.now t.line t.script h place
+  pub accepts : Contains (operates_in (accepted_in t.now heard.association pdu (bay_of first)
+      (pdu_in sent.octets))) command
+  pub allowed : IsReleasedAt t.now (done_at t.now heard.front h.device).after command
+  pub released : IsReleasedBy t.now first.scan_max_age_ms
+      (past_behind t.now heard.front h.device past) command
+
+-- So is each command that each of the turns tells.
+abbrev pub AreOrdered : State → Held → List Past → List DoneTurn → Type 0
+AreOrdered first h past [] = Unit {0}
+AreOrdered first h past (t ∷ ts) =
+    ((command : Command) → Contains t.told.commands command → IsOrdered first h t past command)
+    × AreOrdered first (held_behind t h)
+    (past_behind t.now (turn_events t.now t.line t.script h) h.device past) ts

@@ -1,0 +1,154 @@
+-- The turns of a service, and all that happens to its device in them.
+use Rattle.std.specs.Prelude.{ℕ, ◌≡◌, ◌≤◌, zero, suc, List, [], ◌∷◌, ◌++◌, length, replicate, Option, Result, Ok, Err}
+use mathlib.Core.Logic.{inl, inr}
+use Rattle.bay_control.specs.Backing.{AreBacked}
+use Rattle.il_check.specs.Program.{Checked}
+use Rattle.bay_device.specs.Commands.{CommandedAt}
+use Rattle.bay_device.specs.Device.{State, bay_of}
+use Rattle.bay_device.specs.Fresh.{Came, IsFresh, Past}
+use Rattle.bay_device.specs.Meaning.{MeansAt, Runs}
+use Rattle.bay_device.specs.Operates.{AllOperate}
+use Rattle.bay_device.specs.Outcomes.{outcome}
+use Rattle.bay_device.specs.Steps.{EachStep}
+use Rattle.bay_device.specs.Told.{told_all}
+use Rattle.bay_device.specs.declared.event.Event.{Event}
+use Rattle.bay_device.specs.declared.event.Step.{Step}
+use Rattle.bay_device.specs.declared.fault.StepFault.{StepFault}
+use Rattle.bay_io.specs.Calls.{WriteCall}
+use Rattle.bay_io.specs.Watched.{Writing}
+use Rattle.bay_io.specs.declared.outbox.WriteFault.{WriteFault}
+use Rattle.bay_trace.specs.Trace.{NamedData}
+use Rattle.bay_serve.specs.Calls.{Call}
+use Rattle.bay_serve.specs.Served.{line_in}
+use Rattle.bay_serve.specs.Turns.{Held, Script, after_turn, moment_at}
+use Rattle.bay_serve.specs.declared.told.Turn.{Turn}
+use Rattle.bay_serve_laws.specs.Events.{ChosenEvent, turn_events}
+use Rattle.bay_serve_laws.specs.Flows.{IsOfProcess}
+use Rattle.bay_serving.specs.Host.{HostCall}
+use Rattle.bay_serving.specs.ServeReport.{AfterTurn, Serving, ServesTurns, TurnGoes, text_of_next}
+
+-- ---- a server as it is made
+
+-- The device is as it was loaded, and nothing is to be sent to any of the eight associations.
+pub record IsBegun (h : Held) : Type 0 where
+  pub loaded : Came [] h.device
+  pub empty : h.queues ≡ replicate 8 []
+
+-- ---- turns
+
+-- a turn that was done: its moment, what its line tells, what the link and the memory decided, and
+-- what it told
+pub record DoneTurn : Type 0 where
+  pub now : ℕ
+  pub line : Option NamedData
+  pub script : Script
+  pub told : Turn
+
+-- what the server holds behind a turn
+abbrev pub held_behind : DoneTurn → Held → Held
+held_behind t h = (after_turn t.now t.line t.script h).server
+
+-- behind all of them
+abbrev pub held_after : List DoneTurn → Held → Held
+held_after [] h = h
+held_after (t ∷ ts) h = held_after ts (held_behind t h)
+
+-- A turn was done on a server: the link answered to eight reads and eight offers, the line tells of
+-- the process, the moment is not before the last, and the turn told the commands that it noted.
+pub record IsTurn (h : Held) (t : DoneTurn) : Type 0 where
+  pub all_read : length t.script.readings ≡ 8
+  pub all_offered : length t.script.offers ≡ 8
+  pub of_process : IsOfProcess t.line
+  pub not_before : h.device.moment ≤ t.now
+  pub commands : t.told.commands ≡ (after_turn t.now t.line t.script h).noted.commands
+
+-- So was each, on what the turns before it left.
+abbrev pub AreTurns : Held → List DoneTurn → Type 0
+AreTurns h [] = Unit {0}
+AreTurns h (t ∷ ts) = IsTurn h t × AreTurns (held_behind t h) ts
+
+-- ---- the turns that were served
+
+-- those behind a turn, if its lines could be written
+abbrev pub later_turns : (Ends Goes : Type 0) (told : Result ℕ WriteFault)
+    → AfterTurn told Ends Goes → (Goes → List DoneTurn) → List DoneTurn
+later_turns Ends Goes (Err fault) ends more = []
+later_turns Ends Goes (Ok status) goes more = more goes
+
+module _ {L H W : Type 0} (step : L → Call → L → Type 0) (acts : H → HostCall L → H → Type 0)
+    (contents : W → Option (List ℕ)) (asks : W → WriteCall → W → Type 0) where
+  abbrev pub turn_in : (line : Option (ℕ × List ℕ)) (before : Serving L H) (old : Writing W)
+      (after : Serving L H) (new : Writing W) (answer : Result ℕ WriteFault)
+      → TurnGoes step acts contents asks line before old after new answer → DoneTurn
+  turn_in line before old after new answer goes = record {
+    now = moment_at goes.clock before.held;
+    line = line_in (text_of_next line);
+    script = goes.serves.script;
+    told = goes.turn;
+  }
+
+  -- each turn that was done, in their order
+  abbrev pub turns_in : (turns : ℕ) (lines : List (ℕ × List ℕ)) (before : Serving L H)
+      (old : Writing W) (host : H) (new : Writing W) (answer : Result ℕ WriteFault)
+      → ServesTurns step acts contents asks turns lines before old host new answer
+      → List DoneTurn
+  turns_in zero lines before old host new answer serves = []
+  turns_in (suc turns) lines before old host new answer (inl fails) = []
+  turns_in (suc turns) lines before old host new answer (inr did) =
+      turn_in _ _ _ _ _ _ did.3
+      ∷ later_turns _ _ did.2 did.4 (λ rest. turns_in turns _ rest.0 _ host new answer rest.2)
+
+-- ---- what has happened
+
+-- what has happened once these events have, at this moment
+abbrev pub past_behind : ℕ → List ChosenEvent → State → List Past → List Past
+past_behind now [] s past = past
+past_behind now (e ∷ es) s past =
+    let o = outcome e.0 now e.1 s in
+    past_behind now es o.after
+    (record { now = now; event = e.1; answer = o.answer; after = o.after } ∷ past)
+
+-- and once these turns have been done
+abbrev pub past_of : List DoneTurn → Held → List Past → List Past
+past_of [] h past = past
+past_of (t ∷ ts) h past =
+    past_of ts (held_behind t h)
+    (past_behind t.now (turn_events t.now t.line t.script h) h.device past)
+
+-- the events in their order, and their answers
+abbrev pub events_of : List Past → List (ℕ × Event)
+events_of [] = []
+events_of (p ∷ past) = events_of past ++ (p.now, p.event) ∷ []
+
+abbrev pub answers_of : List Past → List (Result Step StepFault)
+answers_of [] = []
+answers_of (p ∷ past) = answers_of past ++ p.answer ∷ []
+
+-- Behind each command stands such a scan among the events before it.
+abbrev pub AllFresh : ℕ → List Past → Type 0
+AllFresh age [] = Unit {0}
+AllFresh age (p ∷ past) = IsFresh p.now age past p.answer × AllFresh age past
+
+-- ---- one run
+
+-- All that has happened to a device since load, which led from the first to the last.
+pub record IsOneRun (first : State) (past : List Past) (last : State) : Type 0 where
+  pub came : Came past last
+  -- Each command is one that the interlocking releases, on a fresh scan, while no switch is
+  -- operating, and something is sent with it;
+  pub commanded : EachStep CommandedAt (events_of past) first (answers_of past) last
+  -- behind it stands a scan of these events, not too old, since which the process has not changed;
+  pub fresh : AllFresh first.scan_max_age_ms past
+  -- and the commands are the operates that are accepted in what the octets of the events and of the
+  -- answers tell, each backed by a select where its switch has to be selected.
+  pub operated : AllOperate (bay_of first) first.connections (events_of past) (answers_of past)
+  pub backed : AreBacked first.controls.controls
+      (told_all (bay_of first) first.connections (events_of past) (answers_of past))
+  -- Each scan of a device that runs a program leaves what the program means.
+  pub means : (c : Checked) → Runs c first
+      → EachStep (MeansAt c) (events_of past) first (answers_of past) last
+
+-- Turns were done on a server, and what happened in them since load is one run of its device.
+pub record IsService (first : Held) (turns : List DoneTurn) : Type 0 where
+  pub are : AreTurns first turns
+  pub run : IsOneRun first.device (past_of turns first []) (held_after turns first).device

@@ -1,0 +1,58 @@
+// Laws of a service. Each function does nothing, and its contract is the law.
+ghost use Rattle.std.specs.Prelude.{ℕ, List, [], Ok, Result, replicate};
+ghost use Rattle.bay_device.specs.Device.{State};
+ghost use Rattle.bay_device.specs.Fresh.{Came};
+ghost use Rattle.bay_io.specs.Watched.{Writing};
+ghost use Rattle.bay_io.specs.declared.outbox.WriteFault.{WriteFault};
+ghost use Rattle.bay_report.specs.Load.{LoadsTo};
+ghost use Rattle.bay_report.specs.declared.load.Form.{Form};
+ghost use Rattle.bay_serve.specs.Calls.{Called};
+ghost use Rattle.bay_serve.specs.Turns.{Held};
+ghost use Rattle.bay_serving.specs.ServeReport.{Serving, ServesTurns};
+ghost use Rattle.bay_serving_laws.specs.Orders.{AreOrdered};
+ghost use Rattle.bay_serving_laws.specs.Service.{AreTurns, DoneTurn, IsBegun, IsService, turns_in};
+
+use bay_io::calls::Sink;
+use bay_serve::link::Link;
+use bay_serving::host::Host;
+
+/// All turns that are served are one run of the device, from load on: the events of the turns, each
+/// at its turn's moment, are a history of the device. Behind each command stands a scan of this
+/// history, not too old, since which the process has not changed. Each command is one that the
+/// interlocking releases on a fresh scan, and an operate that a client's octets ask for and that
+/// the octets of the answer accept, backed by a select where its switch has to be selected. Each
+/// scan of a device that runs a program leaves what the program means.
+pub fn all_turns_are_one_run<L: Link, H: Host<L>, W: Sink>(_link: &L, _host: &H, _sink: &W)
+    ensures run { (turns : ℕ) (lines : List (ℕ × List ℕ)) (before : Serving L H)
+        (old new : Writing W) (host : H) (answer : Result ℕ WriteFault)
+        (serves : ServesTurns (Called L.does L.failures) H.does W.contents W.does turns lines before
+        old host new answer) → Came [] before.held.device
+        → IsService before.held (turns_in (Called L.does L.failures) H.does W.contents W.does turns
+        lines before old host new answer serves) }
+    // A server is served as it is made, of a device that was just loaded.
+    ensures begins { (bay : List ℕ) (form : Form) (program : List ℕ) (device : State)
+        → LoadsTo bay form program (Ok device)
+        → IsBegun (record { device = device; queues = replicate 8 [] }) }
+{}
+
+/// Each command that a turn reports, so each line `ms command id on` (or `off`) that is printed for
+/// it, is an operate that a client asked for: in octets that the link gave of its association in
+/// this turn. Its success stands in octets that were sent to this association in the turn, and thus
+/// were taken by the link, or put into the association's queue. A scan before them, not too old,
+/// left the interlocking value TRUE, and since then the process has not changed.
+pub fn each_command_is_asked_for<L: Link, H: Host<L>, W: Sink>(_link: &L, _host: &H, _sink: &W)
+    ensures { (turns : ℕ) (lines : List (ℕ × List ℕ)) (before : Serving L H) (old new : Writing W)
+        (host : H) (answer : Result ℕ WriteFault)
+        (serves : ServesTurns (Called L.does L.failures) H.does W.contents W.does turns lines before
+        old host new answer) → IsBegun before.held
+        → AreOrdered before.held.device before.held [] (turns_in (Called L.does L.failures) H.does
+        W.contents W.does turns lines before old host new answer serves) }
+{}
+
+/// No octets that any client sends, in whatever turns, make a command without the interlocking:
+/// whatever the link brings and the process reports, each command of each turn stands on a scan
+/// that left its interlocking value TRUE, and on an operate that was asked for and answered.
+pub fn no_octets_command_alone()
+    ensures { (begun : Held) (turns : List DoneTurn) → IsBegun begun → AreTurns begun turns
+        → AreOrdered begun.device begun [] turns }
+{}
