@@ -1,6 +1,7 @@
 -- Lemmas on lines that are logged one after the other.
 use Rattle.std.proofs.Common.{◌≡◌, ℕ, ◌+◌, ◌<◌, ◌≤◌, List, [], ◌∷◌, ◌++◌, length, drop, get_or, map, Option, refl, sym, ap, subst, add-one}
 use Rattle.std.proofs.Math.Seq.{drop-cons}
+use Rattle.std.specs.List.{flat_map}
 use Rattle.std.proofs.lemmas.List.{drop_all}
 use Rattle.bay_io.specs.Calls.{WriteCall}
 use Rattle.bay_io.specs.Sent.{Logs}
@@ -24,6 +25,33 @@ module _ {W : Type 0} (contents : W → Option (List ℕ)) (asks : W → WriteCa
       → LogsAll contents asks old lines new → LogsAll contents asks old other new
   logs-as old new lines other same logged =
       subst (λ ls. LogsAll contents asks old ls new) same logged
+
+  -- where the lines of each item are several
+  module _ {A : Type 0} (f : A → List (List ℕ)) (xs : List A) where
+    pub record LogsFrom (old : Writing W) (k : ℕ) (mid : Writing W) : Type 0 where
+      pub goes : (new : Writing W) → LogsAll contents asks mid (flat_map f (drop k xs)) new
+          → LogsAll contents asks old (flat_map f xs) new
+
+    pub from-start : (old : Writing W) → LogsFrom old 0 old
+    from-start old = record { goes = λ new rest. rest }
+
+    pub from-next : (old mid next : Writing W) (k : ℕ) (d : A) → LogsFrom old k mid
+        → k < length xs → LogsAll contents asks mid (f (get_or xs k d)) next
+        → LogsFrom old (k + 1) next
+    from-next old mid next k d before lt logged =
+        let split : drop k xs ≡ get_or xs k d ∷ drop (k + 1) xs =
+        rw (add-one, drop-cons xs k d) refl in
+        record {
+          goes = λ new rest. before.goes new
+              (subst (λ ls. LogsAll contents asks mid ls new) (sym (ap (flat_map f) split))
+              (logs-then mid next new _ _ logged rest));
+        }
+
+    pub from-end : (old mid : Writing W) (k : ℕ) → LogsFrom old k mid → length xs ≤ k
+        → LogsAll contents asks old (flat_map f xs) mid
+    from-end old mid k before end =
+        before.goes mid (subst (λ ls. LogsAll contents asks mid ls mid)
+        (sym (ap (flat_map f) (drop_all k xs end))) refl)
 
   module _ {A : Type 0} (f : A → List ℕ) (xs : List A) where
     -- the lines of the items before one were logged

@@ -94,6 +94,7 @@ module _ {L B : Type 0} (below : B → L) (does : L → Call → L → Type 0) (
     opened = s.opened;
     refused = s.refused;
     commands = s.commands;
+    decisions = s.decisions;
     closed = s.closed;
     memory = s.memory;
   }

@@ -1,16 +1,26 @@
 -- What is logged of a server, line by line.
-use Rattle.std.specs.Prelude.{ℕ, ◌==◌, List, [], ◌∷◌, ◌++◌, codes, map, slice_index, Option, None, Some, if◌then◌else◌}
+use Rattle.std.specs.Prelude.{ℕ, ℤ, ◌==◌, Bool, List, [], ◌∷◌, ◌++◌, codes, map, slice_get, slice_index, Option, None, Some, option_map, unwrap_or, Result, Ok, Err, unsigned_abs, if◌then◌else◌}
+use Rattle.std.specs.Int.{is_negative}
+use Rattle.std.specs.List.{flat_map}
 use Rattle.std.specs.Fmt.{decimal}
 use Rattle.std.specs.Net.Addr.{ipv4_octets}
 use Rattle.std.specs.Net.Socket.{v4_ip, v4_port}
 use Rattle.std.specs.declared.net.socket_addr.SocketAddrV4.{SocketAddrV4}
+use Rattle.bay_control.specs.declared.cause.AddCause.{AddCause}
+use Rattle.bay_control.specs.declared.cause.AddCause.TheVariants.{NotSupported, SelectFailed, PositionReached, BlockedByMode, BlockedByInterlocking, CommandAlreadyInExecution, OneOfNControl, TimeLimitOver, ObjectNotSelected}
+use Rattle.bay_device.specs.Device.{State}
 use Rattle.bay_lines.specs.Shown.{shown_text}
+use Rattle.bay_nodes.specs.declared.switch.Switch.{Switch}
 use Rattle.bay_port.specs.Code.{code_of as port_code_of}
 use Rattle.bay_port.specs.declared.news.News.{News}
 use Rattle.bay_port.specs.declared.news.News.TheVariants.{Opened, Closed}
 use Rattle.bay_port.specs.declared.news.Parting.{Parting}
 use Rattle.bay_port.specs.declared.news.Parting.TheVariants as parting
 use Rattle.bay_serve.specs.Code.{code_of}
+use Rattle.bay_services.specs.declared.answer.Asked.{Asked}
+use Rattle.bay_services.specs.declared.answer.Decision.{Decision}
+use Rattle.bay_services.specs.declared.target.ControlPart.{ControlPart}
+use Rattle.bay_services.specs.declared.target.ControlPart.TheVariants.{Select, SelectWith, Operate, Cancel}
 use Rattle.bay_serve.specs.declared.fault.ServeFault.{ServeFault}
 use Rattle.bay_serve.specs.declared.fault.ServeFault.TheVariants.{BadLine, MomentTooLarge}
 use Rattle.bay_serve.specs.declared.told.Closing.{Closing}
@@ -95,6 +105,74 @@ abbrev pub memory_line : ℕ → ℕ → List ℕ
 memory_line now a =
     joined (decimal now ∷ codes " association " ∷ decimal a ∷ codes " closed memory\n" ∷ [])
 
+-- ---- controls
+
+-- what is asked of one
+abbrev pub service_words : ControlPart → List ℕ
+service_words Select = codes " select "
+service_words SelectWith = codes " select "
+service_words Operate = codes " operate "
+service_words Cancel = codes " cancel "
+
+-- what was decided, with the number of the cause and its text
+abbrev pub verdict_words : Result (Unit {0}) AddCause → List ℕ
+verdict_words (Ok done) = codes ": done\n"
+verdict_words (Err NotSupported) =
+    codes ": refused 1: the switch has no control of this kind\n"
+verdict_words (Err SelectFailed) =
+    codes ": refused 3: another association has selected the switch\n"
+verdict_words (Err PositionReached) =
+    codes ": refused 5: the switch is where it is asked to go\n"
+verdict_words (Err BlockedByMode) = codes ": refused 8: the request is a test request\n"
+verdict_words (Err BlockedByInterlocking) =
+    codes ": refused 10: the interlocking does not release the operation\n"
+verdict_words (Err CommandAlreadyInExecution) = codes ": refused 12: the switch is operating\n"
+verdict_words (Err OneOfNControl) =
+    codes ": refused 14: another switch is selected or operating\n"
+verdict_words (Err TimeLimitOver) =
+    codes ": refused 16: the switch did not reach its position in time\n"
+verdict_words (Err ObjectNotSelected) =
+    codes ": refused 18: the association has not selected the switch for this\n"
+
+-- the position that is asked for
+abbrev pub position_words : Bool → List ℕ
+position_words on = if on then codes " on orCat=" else codes " off orCat="
+
+abbrev pub sign_text : ℤ → List ℕ
+sign_text number = if is_negative number then codes "-" else []
+
+-- the switch at a place, as the bay file names it
+abbrev pub id_of : State → ℕ → List ℕ
+id_of s k = unwrap_or (option_map (λ (switch : Switch). switch.id) (slice_get s.switches k)) []
+
+-- what was written to one, with its orIdent as it is shown, and what was decided
+abbrev pub written_line : ℕ → List ℕ → List ℕ → Decision → Asked → List ℕ
+written_line now id ident decision asked =
+    joined (decimal now ∷ codes " association " ∷ decimal decision.association
+    ∷ service_words decision.part ∷ id ∷ position_words asked.on ∷ sign_text asked.origin.cat
+    ∷ decimal (unsigned_abs asked.origin.cat) ∷ codes " orIdent="
+    ∷ ident ∷ codes " ctlNum=" ∷ decimal asked.ctl_num
+    ∷ verdict_words decision.answer ∷ [])
+
+-- a select by a read
+abbrev pub selected_line : ℕ → List ℕ → Decision → List ℕ
+selected_line now id decision =
+    joined (decimal now ∷ codes " association " ∷ decimal decision.association
+    ∷ service_words decision.part ∷ id ∷ verdict_words decision.answer ∷ [])
+
+abbrev pub line_of : ℕ → List ℕ → Decision → Option Asked → List ℕ
+line_of now id decision None = selected_line now id decision
+line_of now id decision (Some asked) =
+    written_line now id (shown_text asked.origin.ident.items) decision asked
+
+abbrev pub decision_line : ℕ → State → Decision → List ℕ
+decision_line now s decision = line_of now (id_of s decision.switch) decision decision.asked
+
+-- what an association asked for, if octets of it came
+abbrev pub asked_log : ℕ → State → Option (List Decision) → List (List ℕ)
+asked_log now s None = []
+asked_log now s (Some decisions) = map (decision_line now s) decisions
+
 -- ---- turns
 
 -- the device refused what a line told
@@ -107,10 +185,12 @@ abbrev pub refused_log : ℕ → Option ℕ → List ℕ → List (List ℕ)
 refused_log now None line = []
 refused_log now (Some code) line = refused_line now code line ∷ []
 
--- A turn with this line: an association was opened, the line was refused, associations were closed.
-abbrev pub turn_log : ℕ → List ℕ → Turn → List (List ℕ)
-turn_log now line turn =
+-- A turn with this line: an association was opened, the line was refused, controls were asked for,
+-- associations were closed.
+abbrev pub turn_log : ℕ → State → List ℕ → Turn → List (List ℕ)
+turn_log now s line turn =
     opened_log now turn.opened ++ refused_log now turn.refused line
+    ++ flat_map (asked_log now s) turn.decisions
     ++ map (closed_line now) turn.closed ++ map (memory_line now) turn.memory
 
 -- a turn was not done, with this line of the trace, by its number

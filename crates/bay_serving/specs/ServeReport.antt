@@ -58,7 +58,7 @@ pub record TellsTurn {W : Type 0} (contents : W → Option (List ℕ))
     (now : ℕ) (line : Option (List ℕ)) (turn : Turn) (s : State) (old new : Writing W)
     (answer : Result ℕ WriteFault) : Type 0 where
   pub mid : Writing W
-  pub logged : LogsAll contents asks old (turn_log now (unwrap_or line []) turn) mid
+  pub logged : LogsAll contents asks old (turn_log now s (unwrap_or line []) turn) mid
   pub printed : PrintsTurn contents asks now turn s mid new answer
 
 -- why a turn is not done is logged, printed and flushed

@@ -7,7 +7,9 @@ ghost use Rattle.bay_serving.specs.LogLines as spec;
 ghost use Rattle.bay_port.specs.declared.news.News.TheVariants.{Closed};
 ghost use Rattle.bay_serve.specs.declared.fault.ServeFault.TheVariants.{BadLine};
 
+use crate::control_lines::log_controls;
 use crate::host::BindFault;
+use bay_device::device::Device;
 use bay_io::calls::{Part, Sink};
 use bay_io::writer::WatchedWriter;
 use bay_lines::shown::Shown;
@@ -212,12 +214,20 @@ fn log_memories<W: Sink>(writer: &mut WatchedWriter<W>, moment: u64, memory: &[u
     }
 }
 
-/// Logs what a turn with this line reports, but for its commands.
-pub fn log_turn<W: Sink>(writer: &mut WatchedWriter<W>, moment: u64, line: &[u8], turn: &Turn)
-    ensures { LogsAll W.contents W.does writer.old (turn_log moment line.now turn.now) writer.new }
+/// Logs what a turn with this line reports.
+pub fn log_turn<W: Sink>(
+    writer: &mut WatchedWriter<W>,
+    device: &Device,
+    moment: u64,
+    line: &[u8],
+    turn: &Turn,
+)
+    ensures { LogsAll W.contents W.does writer.old (turn_log moment device.now line.now turn.now)
+        writer.new }
 {
     log_opened(writer, moment, turn.opened);
     log_refused(writer, moment, turn.refused, line);
+    log_controls(writer, device, moment, &turn.decisions);
     log_closings(writer, moment, turn.closed.as_slice());
     log_memories(writer, moment, turn.memory.as_slice());
 }

@@ -135,7 +135,7 @@ pub fn tell_turn<W: Sink>(
     ensures { TellsTurn W.contents W.does moment (text_in line.entry) turn.now device.now writer.old
         writer.new result }
 {
-    log_turn(writer, moment, octets_in(line), turn);
+    log_turn(writer, device, moment, octets_in(line), turn);
     print_turn(writer, device, moment, turn)
 }
 

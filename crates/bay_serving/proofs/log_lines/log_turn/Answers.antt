@@ -15,5 +15,6 @@ returns g c =
     (ap (map (memory_line c.args.moment)) c.as_slice-2.ensures) c.log_memories.ensures in
     logs-then g.W.Sink.contents g.W.Sink.does _ _ _ _ _
     (logs-then g.W.Sink.contents g.W.Sink.does _ _ _ _ _
+    (logs-then g.W.Sink.contents g.W.Sink.does _ _ _ _ _
     (logs-then g.W.Sink.contents g.W.Sink.does _ _ _ _ _ c.log_opened.ensures c.log_refused.ensures)
-    closings) memories
+    c.log_controls.ensures) closings) memories
