@@ -1,5 +1,6 @@
 pub mod AnswerLemmas
 pub mod LineLemmas
+pub mod MeantLemmas
 pub mod NameLemmas
 pub mod OrderLemmas
 pub mod PlaceLemmas

@@ -1,5 +1,6 @@
 // Laws of a report. Each function does nothing, and its contract is the law.
 ghost use Rattle.bay_report_laws.specs.Answered.{CommandsAreAnswered};
+ghost use Rattle.bay_report_laws.specs.Meant.{ScansAreMeant};
 ghost use Rattle.bay_report_laws.specs.ReadBack.{ReadsBudgets, ReadsCommands, ReadsScans};
 ghost use Rattle.bay_report_laws.specs.Released.{CommandsAreReleased};
 ghost use Rattle.bay_report_laws.specs.Texts.{ScansAreWithinBudget};
@@ -33,4 +34,12 @@ pub fn printed_commands_are_released()
 /// response to that one, has a success as its result.
 pub fn printed_commands_are_answered()
     ensures { CommandsAreAnswered }
+{}
+
+/// In each text that a replay may print, each line of a scan is of what is printed for a scan of the
+/// trace, at its moment, and its `id=xy` are, switch by switch, the values that the text of the
+/// program means for EnaOpn and EnaCls: on what the device keeps, and on the positions, the inputs
+/// and the measured values that it has by then. One that the program does not name is 0.
+pub fn printed_scans_are_meant()
+    ensures { ScansAreMeant }
 {}
