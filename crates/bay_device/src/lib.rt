@@ -30,3 +30,6 @@ pub mod report;
 mod state;
 mod step;
 mod table;
+
+// What a step answers.
+pub use bay_services::answer::{Command, Decision};

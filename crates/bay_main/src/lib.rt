@@ -17,6 +17,8 @@ pub use bay_replay::replay;
 pub use bay_serving::host;
 pub use bay_words::words;
 // What serves a device over any link.
+pub use bay_serve::fault::ServeFault;
 pub use bay_serve::link::{Arrival, Link, LinkFault};
 pub use bay_serve::server::Server;
+pub use bay_serve::told::{Closing, Turn};
 pub use bay_serve::turn::serve_turn;
