@@ -1,5 +1,6 @@
 -- What each event leaves of a device by whose program a rule holds.
 use Rattle.std.proofs.Common.{◌≡◌, ℕ, ℤ, zero, suc, Bool, true, false, not, ◌||◌, cond, List, [], ◌∷◌, ◌++◌, slice_get, slice_set, Option, None, Some, refl, ap, sym, subst, ◌∙◌}
+use Rattle.std.proofs.lemmas.Bool.{or_parts, not-false}
 use Rattle.std.specs.Bool.{beq}
 use Rattle.bay_config.specs.declared.bay.MeterField.{MeterField}
 use Rattle.bay_connection.specs.Talk.{Indication, answers, tells, releases, ends, fails, Talk, Terms, indications, left_by}
@@ -159,14 +160,6 @@ quiet-same s t p = record {
   fits = λ count all. subst (AllFit count) (sym p.rows) all;
 }
 
-or-none : (a b : Bool) → a || b ≡ false → (a ≡ false) × (b ≡ false)
-or-none true b h = absurd cc
-or-none false b h = (refl, h)
-
-not-none : (b : Bool) → not b ≡ false → b ≡ true
-not-none true h = refl
-not-none false h = absurd cc
-
 same-truth : (a b : Bool) → beq a b ≡ true → a ≡ b
 same-truth true true h = refl
 same-truth true false h = absurd cc
@@ -192,9 +185,9 @@ quiet-contact now k switch position s =
       reads = refl;
       writes = refl;
       scans = refl;
-      stale = λ h. (or-none s.is_stale (not told) h).0;
+      stale = λ h. (or_parts s.is_stale (not told) h).0;
       rows = λ h. ap (λ (b : Bool). cond b s.rows (rows_after_change names position now s.rows))
-          (not-none told (or-none s.is_stale (not told) h).1);
+          (not-false told (or_parts s.is_stale (not told) h).1);
       inputs = λ h. refl;
       keeps = keeps-contact s.switches k switch position now s.rows;
       fits = λ count. contact-fits count s.switches k switch position now s.rows;
@@ -211,10 +204,10 @@ quiet-input k value before s here =
       reads = refl;
       writes = refl;
       scans = refl;
-      stale = λ h. (or-none s.is_stale (not told) h).0;
+      stale = λ h. (or_parts s.is_stale (not told) h).0;
       rows = λ h. refl;
       inputs = λ h. ap (slice_set s.input_values k)
-          (same-truth value before (not-none told (or-none s.is_stale (not told) h).1))
+          (same-truth value before (not-false told (or_parts s.is_stale (not told) h).1))
           ∙ set-same s.input_values k before here;
       keeps = λ j x. refl;
       fits = λ count all. all;
@@ -232,10 +225,10 @@ quiet-measure now k field value s typed =
       reads = refl;
       writes = refl;
       scans = refl;
-      stale = λ h. (or-none s.is_stale (not told) h).0;
+      stale = λ h. (or_parts s.is_stale (not told) h).0;
       rows = λ h. ap (λ (b : Bool). cond b s.rows
           (with_status names (leaf.Int32 value) Good now s.rows))
-          (not-none told (or-none s.is_stale (not told) h).1);
+          (not-false told (or_parts s.is_stale (not told) h).1);
       inputs = λ h. refl;
       keeps = keeps-measure names value now s.rows (field-away k field);
       fits = λ count. measure-fits count names value now s.rows typed;

@@ -2,7 +2,7 @@
 use Rattle.std.proofs.Common.{◌≡◌, ◌≢◌, ◌≤◌, ◌+◌, ◌-◌, ℕ, ℤ, Bool, true, false, not, ◌||◌, cond, nat_lt, List, [], ◌∷◌, ◌++◌, All, map, slice_get, slice_set, unwrap_or, Option, None, Some, Result, Ok, Err, IfOk, IsOk, refl, ap, ap₂, sym, ◌∙◌, subst, arith}
 use Rattle.std.specs.Bool.{beq}
 use Rattle.std.specs.List.{AllByRecursion}
-use Rattle.std.proofs.lemmas.Bool.{and_parts, leb-true}
+use Rattle.std.proofs.lemmas.Bool.{and_parts, leb-true, or_parts, not-false, not-true}
 use Rattle.bay_config.specs.declared.bay.MeterField.{MeterField}
 use Rattle.bay_config.specs.declared.bay.Source.{Source}
 use Rattle.bay_config.specs.declared.bay.Source.TheVariants as source
@@ -111,14 +111,6 @@ still-closed s a t p =
 
 -- ---- a contact, an input and a measure
 
-or-none : (a b : Bool) → a || b ≡ false → (a ≡ false) × (b ≡ false)
-or-none true b h = absurd cc
-or-none false b h = (refl, h)
-
-not-none : (b : Bool) → not b ≡ false → b ≡ true
-not-none true h = refl
-not-none false h = absurd cc
-
 same-truth : (a b : Bool) → beq a b ≡ true → a ≡ b
 same-truth true true h = refl
 same-truth true false h = absurd cc
@@ -132,9 +124,9 @@ still-contact now k switch position s =
     let told : Bool = tells names.position position s.rows in
     record {
       scans = refl;
-      stale = λ h. (or-none s.is_stale (not told) h).0;
+      stale = λ h. (or_parts s.is_stale (not told) h).0;
       same = λ h.
-          let is : told ≡ true = not-none told (or-none s.is_stale (not told) h).1 in
+          let is : told ≡ true = not-false told (or_parts s.is_stale (not told) h).1 in
           let rows : rows_after_contact names position now s.rows ≡ s.rows =
           ap (λ (b : Bool). cond b s.rows (rows_after_change names position now s.rows)) is in
           process-same s (contact_taken now k switch position s) rows refl;
@@ -146,10 +138,10 @@ still-input k value before s here =
     let told : Bool = beq value before in
     record {
       scans = refl;
-      stale = λ h. (or-none s.is_stale (not told) h).0;
+      stale = λ h. (or_parts s.is_stale (not told) h).0;
       same = λ h.
           let is : value ≡ before =
-          same-truth value before (not-none told (or-none s.is_stale (not told) h).1) in
+          same-truth value before (not-false told (or_parts s.is_stale (not told) h).1) in
           process-same s (input_taken k value before s) refl
           (ap (slice_set s.input_values k) is ∙ set-same s.input_values k before here);
     }
@@ -161,9 +153,9 @@ still-measure now k field value s =
     let told : Bool = tells_measure names value s.rows in
     record {
       scans = refl;
-      stale = λ h. (or-none s.is_stale (not told) h).0;
+      stale = λ h. (or_parts s.is_stale (not told) h).0;
       same = λ h.
-          let is : told ≡ true = not-none told (or-none s.is_stale (not told) h).1 in
+          let is : told ≡ true = not-false told (or_parts s.is_stale (not told) h).1 in
           let rows : rows_after_measure names value now s.rows ≡ s.rows =
           ap (λ (b : Bool). cond b s.rows (with_status names (leaf.Int32 value) Good now s.rows)) is
           in
@@ -341,10 +333,6 @@ first-fresh : (now : ℕ) (s : State) (commands : List Command)
 first-fresh now s [] all some = absurd (some refl)
 first-fresh now s (x ∷ commands) all some = (all 0 x (omega arith)).fresh
 
-not-all : (b : Bool) → not b ≡ true → b ≡ false
-not-all true h = absurd cc
-not-all false h = refl
-
 recent-at : (now age : ℕ) (o : Option ℕ) → is_recent now age o ≡ true
     → (m : ℕ) × (o ≡ Some m) × (now ≤ m + age)
 recent-at now age None h = absurd cc
@@ -358,7 +346,7 @@ has-scan now past s tracks fresh =
     and_parts (is_recent now s.scan_max_age_ms s.last_scan) (not s.is_stale) fresh in
     let recent = recent-at now s.scan_max_age_ms s.last_scan parts.0 in
     let w : Since recent.0 past s =
-    tracks.since_scan recent.0 recent.1 (not-all s.is_stale parts.1) in
+    tracks.since_scan recent.0 recent.1 (not-true s.is_stale parts.1) in
     record {
       since = w.since;
       scan = w.scan;

@@ -30,11 +30,6 @@ front-whole (x ∷ xs) = ap (λ ys. x ∷ ys) (front-whole xs)
 pub front-of : {A : Type 0} (xs ys : List A) → take (length xs) (xs ++ ys) ≡ xs
 front-of xs ys = front-kept xs xs ys (front-whole xs)
 
--- a list that is gone over
-pub nothing-left : {A : Type 0} (xs : List A) → length xs ≡ 0 → xs ≡ []
-nothing-left [] is = refl
-nothing-left (x ∷ xs) is = absurd (omega arith)
-
 pub first-short : (pdu : List ℕ) (rest : List (List ℕ))
     → All {X = List ℕ} (λ p. length p ≤ 65000) (pdu ∷ rest) → length pdu ≤ 65000
 first-short pdu rest all = all 0 [] (omega arith)

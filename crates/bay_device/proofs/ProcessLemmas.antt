@@ -1,15 +1,12 @@
 -- A switch at its place.
 use Rattle.std.proofs.Common.{◌≡◌, ◌<◌, ℕ, zero, suc, List, [], ◌∷◌, length, slice_get, Some, option_map, refl, ap, sym, ◌∙◌, arith}
 use Rattle.std.proofs.lemmas.List.{length-map}
-use Rattle.std.proofs.lemmas.Option.{slice_get-map}
+use Rattle.std.proofs.lemmas.Option.{slice_get-map, same_Some}
 use Rattle.bay_nodes.specs.declared.switch.Switch.{Switch}
 use Rattle.bay_nodes.specs.Names.{switch_names}
 use Rattle.bay_process.specs.Layout.{Layout, switch_in, switches_of}
 use Rattle.bay_process.specs.declared.switch.BoundSwitch.{BoundSwitch}
 use Rattle.bay_services.specs.Places.{ArePlaced}
-
-same-some : (a b : Switch) → Some a ≡ Some b → a ≡ b
-same-some a b e = cc
 
 -- the rows of the switch at a place have its names
 pub named-there : (layout : Layout) (switches : List BoundSwitch) (k : ℕ) (bound : BoundSwitch)
@@ -21,7 +18,7 @@ named-there layout switches k bound s placed here is =
     slice_get-map (λ (b : BoundSwitch). b.switch) switches k
     ∙ ap (λ o. option_map (λ (b : BoundSwitch). b.switch) o) here in
     (placed k bound here).named
-    ∙ ap (switch_names (switches_of switches) k) (same-some bound.switch s (sym own ∙ is))
+    ∙ ap (switch_names (switches_of switches) k) (same_Some bound.switch s (sym own ∙ is))
 
 -- a place within a list has something
 pub there-is : {A : Type 0} (xs : List A) (k : ℕ) → k < length xs

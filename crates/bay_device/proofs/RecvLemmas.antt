@@ -119,10 +119,6 @@ ended-at (Err why) P ok err = err
 pub same-talk : (t u : Talk) (o : Option Talk) → Some t ≡ o → o ≡ Some u → t ≡ u
 same-talk t u o a b = let e : Some t ≡ Some u = a ∙ b in cc
 
-pub no-octets : (xs : List ℕ) → length xs ≡ 0 → xs ≡ []
-no-octets [] is = refl
-no-octets (x ∷ xs) is = absurd (omega arith)
-
 -- ---- an event without octets has one outcome
 
 none-heard : (choice : Option ℕ) (now a : ℕ) (s : State) (o : Option Talk)

@@ -1,5 +1,6 @@
 -- Lemmas on tables of names.
 use Rattle.std.proofs.Common.{◌≡◌, ◌≢◌, ℕ, zero, suc, ◌+◌, ◌-◌, ◌*◌, ◌%◌, ◌<◌, ◌≤◌, Bool, true, false, cond, nat_eq, nat_lt, List, [], ◌∷◌, length, get_or, map, position, slice_get, option_map, Some, None, ◌⊎◌, ⊎_elim, inl, inr, refl, ap, sym, ◌∙◌, arith}
+use Rattle.std.proofs.lemmas.Bool.{false_from_ne_true}
 use Rattle.std.specs.List.{fold, position_from}
 use Rattle.std.specs.Char.{to_ascii_uppercase}
 use Rattle.std.specs.Str.{bytes_eq}
@@ -45,10 +46,6 @@ pub same-spelled : (a b : List ℕ) → bytes_eq a b ≡ true → same_name a b 
 unfolding same_name
 same-spelled a b e =
     (bytes_eq-Decides (upper a) (upper b)).1 (ap upper ((bytes_eq-Decides a b).0 e))
-
-not-true : (b : Bool) → (b ≡ true → ⊥) → b ≡ false
-not-true true h = absurd (h refl)
-not-true false h = refl
 
 earlier : (j i : ℕ) → j < i + 1 → (j < i) ⊎ (j ≡ i)
 earlier zero zero h = inr refl
@@ -191,6 +188,6 @@ passed-over f xs firsts name t j x lt here =
     let mapped : slice_get (map f xs) j ≡ Some (f x) =
     slice_get-map f xs j ∙ ap (option_map f) here in
     let bound = t.first j (f x) mapped in
-    not-true (same_name (f x) name)
+    false_from_ne_true (same_name (f x) name)
     (λ same. let key = same-key (f x) name same in
     omega (arith, bound, lt, ap (λ k. get_or firsts k 0) key))

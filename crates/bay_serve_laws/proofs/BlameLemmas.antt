@@ -1,5 +1,6 @@
 -- A failed link is told only where a call failed.
 use Rattle.std.proofs.Common.{◌≡◌, ℕ, ◌<◌, ◌≤◌, ◌||◌, Bool, true, false, List, [], ◌∷◌, ◌++◌, refl, ap, sym, ◌∙◌, arith, ◌⊎◌, inl, inr, zero, suc, drop}
+use Rattle.std.proofs.lemmas.Bool.{or_left, or_right}
 use Rattle.std.proofs.Math.Bool.{or_assoc}
 use Rattle.bay_serve.specs.Calls.{Call, Called, Talks, is_failed, failures_after}
 use Rattle.bay_serve.specs.Offers.{offering_of}
@@ -27,14 +28,6 @@ pub tells-append : (xs : List (ℕ × Closing)) (a : ℕ) (closing : Closing)
 tells-append [] a closing e = rw e refl
 tells-append (x ∷ xs) a closing e = ap (λ b. is_link_failed x.1 || b) (tells-append xs a closing e)
 
-or-left : (a b : Bool) → a ≡ true → (a || b) ≡ true
-or-left true b e = refl
-or-left false b e = absurd (cc)
-
-or-right : (a b : Bool) → b ≡ true → (a || b) ≡ true
-or-right true b e = refl
-or-right false b e = e
-
 pub Blames-same : (l m : List (ℕ × Closing)) (calls : List Call) → tells_failure m ≡ tells_failure l
     → Blames l m calls
 Blames-same l m calls e t = inl (sym e ∙ t)
@@ -48,14 +41,14 @@ blames-first : (before : List (ℕ × Closing)) (xs ys : List Call)
     → (tells_failure before ≡ true) ⊎ (some_failed (xs ++ ys) ≡ true)
 blames-first before xs ys (inl t) = inl t
 blames-first before xs ys (inr e) =
-    inr (failed-append xs ys ∙ or-left (some_failed xs) (some_failed ys) e)
+    inr (failed-append xs ys ∙ or_left (some_failed xs) (some_failed ys) e)
 
 blames-rest : (before mid : List (ℕ × Closing)) (xs ys : List Call) → Blames before mid xs
     → (tells_failure mid ≡ true) ⊎ (some_failed ys ≡ true)
     → (tells_failure before ≡ true) ⊎ (some_failed (xs ++ ys) ≡ true)
 blames-rest before mid xs ys p (inl t) = blames-first before xs ys (p t)
 blames-rest before mid xs ys p (inr e) =
-    inr (failed-append xs ys ∙ or-right (some_failed xs) (some_failed ys) e)
+    inr (failed-append xs ys ∙ or_right (some_failed xs) (some_failed ys) e)
 
 pub Blames-trans : (before mid after : List (ℕ × Closing)) (xs ys : List Call)
     → Blames before mid xs → Blames mid after ys → Blames before after (xs ++ ys)

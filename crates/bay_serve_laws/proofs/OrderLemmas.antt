@@ -1,5 +1,6 @@
 -- The events of a turn are in their order.
 use Rattle.std.proofs.Common.{◌≡◌, ℕ, zero, suc, ◌+◌, ◌<◌, ◌≤◌, ◌||◌, Bool, true, false, cond, List, [], ◌∷◌, ◌++◌, length, Option, Some, None, refl, ap, sym, subst, ◌∙◌, arith, append_assoc}
+use Rattle.std.proofs.lemmas.Bool.{or_left, or_right}
 use Rattle.std.proofs.lemmas.List.Elements.{All-nil, All-cons, All-append, All-weaker}
 use Rattle.std.proofs.lemmas.List.Quantifiers.{position-Some}
 use Rattle.std.specs.declared.net.socket_addr.SocketAddrV4.{SocketAddrV4}
@@ -27,20 +28,12 @@ use Rattle.bay_serve_laws.proofs.PutLemmas.{Puts}
 use Rattle.bay_serve_laws.proofs.StandingLemmas.{full-is}
 use Rattle.bay_serve_laws.proofs.TellsLemmas.{some-append, tells-now}
 
-or-first : (b c : Bool) → b ≡ true → (b || c) ≡ true
-or-first true c e = refl
-or-first false c e = absurd (cc)
-
-or-second : (b c : Bool) → c ≡ true → (b || c) ≡ true
-or-second true c e = refl
-or-second false c e = e
-
 -- what was told at some place is told in the end
 tells-later : (is : Closing → Bool) (a : ℕ) (n m : Noted) → Grown n m → tells is a n.closed ≡ true
     → tells is a m.closed ≡ true
 tells-later is a n m g e =
     ap (tells is a) g.closed ∙ some-append _ n.closed g.closings
-    ∙ or-first (tells is a n.closed) (tells is a g.closings) e
+    ∙ or_left (tells is a n.closed) (tells is a g.closings) e
 
 -- of an association that is closed since its queue is full it is told
 cut-told : (now place : ℕ) (s : Turning) → standing_of place s ≡ Full
@@ -303,7 +296,7 @@ module _ (now : ℕ) (final : Noted) where
               refl,
               reason (place + 1) (some-append _ (offer_of place o s).calls
                   (offer_end now place true s)
-                  ∙ or-first _ _ (offer-fails place (queue_of place s) o.takes o.fails ∙ is)),
+                  ∙ or_left _ _ (offer-fails place (queue_of place s) o.takes o.fails ∙ is)),
             ) in
             All-cons (IsClosing has_reason) (closing_of place) (settled_events now t) is_one
             (cut-reason (settled_events now t) (settled-cut t
@@ -330,9 +323,9 @@ module _ (now : ℕ) (final : Noted) where
         (events_of_each (offer_one now) (offer_events now) (place + 1) cs t)
         (offer-closes place c s (omega arith) sized
         (Grown-trans t.noted (after_each (offer_one now) (place + 1) cs t).noted final later whole)
-        (λ a e. reason a (some-append (fails_for a) calls behind ∙ or-first _ _ e)))
+        (λ a e. reason a (some-append (fails_for a) calls behind ∙ or_left _ _ e)))
         (offers-close (place + 1) cs t (omega arith) here whole
-        (λ a e. reason a (some-append (fails_for a) calls behind ∙ or-second _ _ e)))
+        (λ a e. reason a (some-append (fails_for a) calls behind ∙ or_right _ _ e)))
 
 -- ---- a whole turn
 
@@ -347,7 +340,7 @@ record Fails (a : ℕ) (calls : List Call) : Type 0 where
 
 fails-later : (a : ℕ) (xs ys : List Call) → Fails a ys → Fails a (xs ++ ys)
 fails-later a xs ys f =
-    record { is = some-append (fails_for a) xs ys ∙ or-second _ _ f.is }
+    record { is = some-append (fails_for a) xs ys ∙ or_right _ _ f.is }
 
 pub in-order : (now : ℕ) (line : Option NamedData) (script : Script) (h : Held)
     → length script.readings ≡ 8 → length script.offers ≡ 8 → IsInOrder now line script h
@@ -380,12 +373,12 @@ in-order now line script h readings offers =
     let last = events_of_each (offer_one now) (offer_events now) 0 script.offers s4 in
     let failing = calls_of_each (offer_one now) (offer_calls now) 0 script.offers s4 in
     let closings : AreClosings why last =
-    offers-close now final why (λ a e. or-first _ _ e) 0 script.offers s4 (omega (arith, offers))
+    offers-close now final why (λ a e. or_left _ _ e) 0 script.offers s4 (omega (arith, offers))
     g4.sized (Grown-refl final w4.sized)
     (λ a e.
     let whole : Fails a (turn_calls now line script h) =
     fails-later a _ failing (record { is = e }) in
-    or-second (tells is_queue_full a told) _ whole.is) in
+    or_right (tells is_queue_full a told) _ whole.is) in
     let opens = accept_events now script.accepted s0 in
     let reads = events_of_each (read_one now) (read_events now) 0 script.readings s1 in
     let lines = line_events now line s2 in

@@ -1,6 +1,6 @@
 -- Which associations are open after an event, and its moment.
 use Rattle.std.proofs.Common.{◌≡◌, ◌≢◌, ℕ, ℤ, zero, suc, ◌+◌, ◌-◌, ◌<◌, ◌≤◌, ◌&&◌, nat_lt, Bool, true, false, if◌then◌else◌, List, [], ◌∷◌, Option, Some, None, is_some, unwrap_or, slice_get, set, length, Result, Ok, Err, refl, ap, sym, ◌∙◌, subst, arith}
-use Rattle.std.proofs.lemmas.Bool.{lt-ltb, le-ltb}
+use Rattle.std.proofs.lemmas.Bool.{lt-ltb, le-ltb, and_left}
 use Rattle.bay_nodes.specs.declared.switch.Switch.{Switch}
 use Rattle.bay_tree.specs.declared.leaf.Dbpos.{Dbpos}
 use Rattle.bay_config.specs.declared.bay.MeterField.{MeterField}
@@ -70,13 +70,9 @@ number-if true (suc a) i f e = let same : suc a - 1 ≡ i =
     ap (λ (o : Option ℕ). unwrap_or o (suc a - 1)) e in omega (arith, same)
 number-if false a i f e = absurd (cc)
 
-and-false : (a b : Bool) → a ≡ false → (a && b) ≡ false
-and-false true b e = absurd (cc)
-and-false false b e = refl
-
 pub number-of : (a place : ℕ) → place_of a ≡ Some place → a ≡ place + 1
 number-of a place e =
-    number-if (nat_lt 0 a && nat_lt a 9) a place (and-false (nat_lt 0 a) (nat_lt a 9)) e
+    number-if (nat_lt 0 a && nat_lt a 9) a place (and_left (nat_lt 0 a) (nat_lt a 9)) e
 
 -- ---- what keeps the connections
 

@@ -1,5 +1,6 @@
 -- Each command is released, and there is one at most; no client changes what releases it.
 use Rattle.std.proofs.Common.{◌≡◌, ◌≢◌, ◌≤◌, ℕ, zero, suc, ◌+◌, Bool, true, false, not, cond, nat_eq, nat_le, List, [], ◌∷◌, ◌++◌, All, length, Option, Some, None, Result, Ok, Err, is_ok, refl, ap, sym, subst, ◌∙◌, append-nil, arith}
+use Rattle.std.proofs.lemmas.Bool.{not-false}
 use Rattle.std.specs.List.{AllByRecursion}
 use Rattle.std.proofs.lemmas.Bool.Decides.{nat_tests}
 use Rattle.bay_tree.specs.Rows.{leaf_of, name_at}
@@ -241,10 +242,6 @@ both : (c : Client) (b : Bay) (first more : List Command) → AllByRecursion (Is
 both c b [] more p q = q
 both c b (x ∷ first) more p q = (p.0, both c b first more p.1 q)
 
-true-of : (b : Bool) → not b ≡ false → b ≡ true
-true-of true h = refl
-true-of false h = absurd cc
-
 -- what a decision saw released stands in the tree
 enabled-now : (c : Client) (b : Bay) (k : ℕ) (on : Bool) → is_released on (view_of c k b) ≡ true
     → is_truth true (leaf_of (releasing k on) b.rows) ≡ true
@@ -268,10 +265,10 @@ module _ (c : Client) (b : Bay) (s : State) (k : ℕ) (o : asked.Operate) where
   released-by busy ok =
       let seen = saw c.association k (ask_of o) (view_of c k b) (controls_at c.now s) ok in
       record {
-        fresh = true-of c.fresh seen.fresh;
+        fresh = not-false c.fresh seen.fresh;
         enabled =
             enabled-now c b k o.control.ctl_val
-            (true-of (is_released o.control.ctl_val (view_of c k b)) seen.released);
+            (not-false (is_released o.control.ctl_val (view_of c k b)) seen.released);
         idle = idle-now c.now b.controls s (controls_at c.now b.controls).execution busy seen.idle
             refl;
       }
@@ -303,7 +300,7 @@ module _ (c : Client) (b : Bay) (s : State) (k : ℕ) (o : asked.Operate) where
         e,
         ap (execution_at c.now s.controls) starts
             ∙ starting c.now k o.control.ctl_val s.controls timed
-            (true-of (is_controlled (control_of s.controls k).model) seen.controlled),
+            (not-false (is_controlled (control_of s.controls k).model) seen.controlled),
       )
   single-operated (Err why) timed is = tt
 

@@ -1,9 +1,10 @@
 use Rattle.std.proofs.Common.{◌≡◌, ℕ, List, [], ◌∷◌, ◌++◌, length, map, refl, ap, rules, sym, ◌∙◌, arith, append-nil, append_assoc}
+use Rattle.std.proofs.lemmas.List.{nil_from_length}
 use Rattle.std.specs.Vec.Iter.{into_iter_items}
 use Rattle.bay_connection.specs.Talk.{Terms, sending, terms_of}
 use Rattle.bay_device.specs.Hearing.{sent_on}
 use Rattle.bay_device.specs.declared.event.Sent.{Sent}
-use Rattle.bay_device.proofs.MessageLemmas.{first-short, front-kept, front-whole, nothing-left, others-short}
+use Rattle.bay_device.proofs.MessageLemmas.{first-short, front-kept, front-whole, others-short}
 use Rattle.bay_device.proofs.message.send_all.Goals as goal
 
 pub loop-pdu-init : goal.loop-pdu-init
@@ -49,7 +50,7 @@ returns-clause-ok c =
     let terms : Terms = terms_of c.args.connection.now.talk in
     let frame : List ℕ → Sent = λ p. sent_on a (sending terms p) in
     let empty : into_iter_items at.pdu-iterator ≡ [] =
-    nothing-left _ (sym at.invariant.counted ∙ c.in-None.ensures.steps.0) in
+    nil_from_length _ (sym at.invariant.counted ∙ c.in-None.ensures.steps.0) in
     sym (ap (λ ps. c.args.sent.now.items ++ map frame ps)
     (sym c.into_iter-pdu-iterator.ensures.into_iter_gives.0)
     ∙ at.invariant.goes ∙ ap (λ ps. at.sent.items ++ map frame ps) empty

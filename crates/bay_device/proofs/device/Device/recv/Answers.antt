@@ -1,4 +1,5 @@
 use Rattle.std.proofs.Common.{◌≡◌, ◌<◌, ℕ, [], length, Option, Some, Ok, Result, subst, ap, sym, ◌∙◌, arith}
+use Rattle.std.proofs.lemmas.List.{nil_from_length}
 use Rattle.std.proofs.lemmas.Bool.Decides.{nat_tests}
 use Rattle.bay_device.specs.Device.{State, device_at, ended_at}
 use Rattle.bay_device.specs.Outcomes.{connection_at, place_of}
@@ -7,7 +8,7 @@ use Rattle.bay_device.specs.Steps.{HearsFrom, Receives, quiet_answer}
 use Rattle.bay_device.specs.declared.event.Sent.{Sent}
 use Rattle.bay_device.specs.declared.event.Step.{Step}
 use Rattle.bay_device.specs.declared.fault.StepFault.{StepFault}
-use Rattle.bay_device.proofs.RecvLemmas.{no-octets, opened, received, received-none}
+use Rattle.bay_device.proofs.RecvLemmas.{opened, received, received-none}
 use Rattle.bay_device.proofs.device.Device.recv.Goals as goal
 
 pub returns-then-is_empty : goal.returns-then-is_empty
@@ -23,7 +24,7 @@ returns-then-is_empty c =
     let some : connection_at (place_of a) s ≡ Some talk.0 =
     ap (λ (o : Option ℕ). connection_at o s) here ∙ talk.1 in
     let none : octets ≡ [] =
-    no-octets octets (grind (arith, nat_tests, c.is_empty.ensures, c.if-is_empty.true)) in
+    nil_from_length octets (grind (arith, nat_tests, c.is_empty.ensures, c.if-is_empty.true)) in
     let told : Option Sent → Result Step StepFault = λ o. quiet_answer (Ok o) in
     let whole : Receives now a [] s (told (ended_at now s)) (device_at now s) =
     received-none now a s talk.0 some in
