@@ -27,7 +27,7 @@ use Rattle.bay_device.proofs.OperateLemmas.{step-operates}
 use Rattle.bay_device.proofs.ToldLemmas.{idle-talks, telling}
 use Rattle.bay_report.specs.Lines.{closed_text, commands_text, ended_text, ran_text, send_text, sends_text, step_text}
 use Rattle.bay_report.specs.Report.{report_text}
-use Rattle.bay_replay.specs.Scenario.{ScenarioParts, scenario_of}
+use Rattle.bay_replay.specs.Scenario.{ScenarioParts}
 use Rattle.bay_report_laws.specs.Answered.{AreAnswered, CommandsAreAnswered, IsAnswered}
 use Rattle.bay_replay.specs.History.{EachPast, device_after}
 use Rattle.bay_report_laws.specs.Printed.{PrintedCommand, ended, lines_in, printed_command}
@@ -37,7 +37,7 @@ use Rattle.bay_replay.specs.Runs.{IsRun}
 use Rattle.bay_replay.proofs.HistoryLemmas.{past-does}
 use Rattle.bay_replay.proofs.RunLemmas.{idle}
 use Rattle.bay_report_laws.proofs.LineLemmas.{AreLines, decimal-free, each-append, ended-append, free, free-append, hex-free, lines-are, map-lines, more-lines}
-use Rattle.bay_report_laws.proofs.OrderLemmas.{load, load-no-command, of-command, of-parts, order-read, order-switches, other-no-command, printed-for, stands}
+use Rattle.bay_report_laws.proofs.OrderLemmas.{load, load-no-command, of-command, of-each, order-read, order-switches, other-no-command, printed-for, stands}
 use Rattle.bay_report_laws.proofs.PlaceLemmas.{Placed}
 use Rattle.bay_report_laws.proofs.PrintLemmas.{IsCommandLine, closed-lines, commands-lines, ended-lines, load-is, ran-lines, sends-lines}
 use Rattle.bay_replay.proofs.KeptLemmas.{scan_told}
@@ -286,5 +286,4 @@ run-answered parts first text status run before after line command e reads =
     o.behind line o.at l command reads)
 
 pub commands-are-answered : CommandsAreAnswered
-commands-are-answered scenario text status told =
-    of-parts printed_command other-no-command load-no-command AreAnswered run-answered (scenario_of scenario) text status told
+commands-are-answered = of-each printed_command other-no-command load-no-command AreAnswered run-answered

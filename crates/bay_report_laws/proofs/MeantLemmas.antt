@@ -26,7 +26,7 @@ use Rattle.bay_device.specs.declared.fault.StepFault.{StepFault}
 use Rattle.bay_report.specs.Report.{report_text}
 use Rattle.bay_replay.specs.History.{EachPast, device_after}
 use Rattle.bay_replay.specs.Runs.{IsRun}
-use Rattle.bay_replay.specs.Scenario.{ScenarioParts, scenario_of}
+use Rattle.bay_replay.specs.Scenario.{ScenarioParts}
 use Rattle.bay_replay.proofs.HistoryLemmas.{past-fixed}
 use Rattle.bay_replay.proofs.KeptLemmas.{Scanned, scan_told, step-on-time, turned}
 use Rattle.bay_replay.proofs.LoadedLemmas.{file-sound}
@@ -35,7 +35,7 @@ use Rattle.bay_report_laws.specs.Printed.{PrintedScan, PrintedSwitch, printed_sc
 use Rattle.bay_report_laws.specs.ReadBack.{HaveIds, switches_told}
 use Rattle.bay_report_laws.specs.Released.{IsPrintedFor}
 use Rattle.bay_report_laws.proofs.LineLemmas.{decimal-free}
-use Rattle.bay_report_laws.proofs.OrderLemmas.{load, no-read, of-parts, printed-for, stands}
+use Rattle.bay_report_laws.proofs.OrderLemmas.{load, no-read, of-each, printed-for, stands}
 use Rattle.bay_report_laws.proofs.PlaceLemmas.{Placed}
 use Rattle.bay_report_laws.proofs.PrintLemmas.{IsLineOf, IsScanLine, load-is, told-plain}
 use Rattle.bay_report_laws.proofs.ReadLemmas.{IsOther, no-scan-line, no-space, order_word, scan-read}
@@ -229,6 +229,4 @@ run-meant parts first text status run before after line read e reads =
     (load-is run.printed.report) o.behind line o.at l read reads)
 
 pub scans-are-meant : ScansAreMeant
-scans-are-meant scenario text status told =
-    of-parts printed_scan other-no-scan load-none AreMeant run-meant (scenario_of scenario) text
-    status told
+scans-are-meant = of-each printed_scan other-no-scan load-none AreMeant run-meant

@@ -1,5 +1,4 @@
--- Where the line of a command stands in the text of a run: among those that are printed for an event
--- that has this command.
+-- Where a line stands in the text of a run: behind the line of the load, among those of an event.
 use Rattle.std.proofs.Common.{◌≡◌, ℕ, ◌<◌, ◌≤◌, ◌^◌, List, [], ◌∷◌, ◌++◌, codes, length, Option, Some, None, Result, Ok, Err, ◌⊎◌, inl, inr, refl, ap, ap₂, sym, subst, ◌∙◌, append_assoc, arith}
 use Rattle.std.specs.Fmt.{decimal}
 use Rattle.std.specs.List.{Contains}
@@ -15,11 +14,12 @@ use Rattle.bay_device.specs.declared.report.Report.{Report}
 use Rattle.bay_report.specs.Lines.{step_text}
 use Rattle.bay_report.specs.Load.{load_of}
 use Rattle.bay_replay.specs.Replay.{LoadReport, PartsReport}
-use Rattle.bay_replay.specs.Scenario.{ScenarioParts}
+use Rattle.bay_replay.specs.Scenario.{ScenarioParts, scenario_of}
 use Rattle.bay_replay.specs.History.{EachPast, device_after}
 use Rattle.bay_report_laws.specs.Printed.{PrintedCommand, ended, lines_in, printed_command}
 use Rattle.bay_report_laws.specs.ReadBack.{HaveIds, switches_told}
 use Rattle.bay_report_laws.specs.Released.{IsPrintedFor}
+use Rattle.bay_report_laws.specs.Reports.{HasNone, IsOf, OfEach}
 use Rattle.bay_replay.specs.Runs.{IsRun, printed_of}
 use Rattle.bay_replay.proofs.HistoryLemmas.{past-fixed}
 use Rattle.bay_replay.proofs.KeptLemmas.{step-on-time}
@@ -219,32 +219,40 @@ module _ {A : Type 0} (read : List ℕ → Option A)
       → IsRun parts first text status → Type 0)
       (run-are : (parts : ScenarioParts) (first : State) (text : List ℕ) (status : ℕ)
       (run : IsRun parts first text status) → Are parts first text status run) where
-    abbrev pub OfReport : List ℕ → ℕ → Type 0
-    OfReport text status =
-        ((line : List ℕ) → Contains (lines_in text) line → read line ≡ None)
-        ⊎ ((parts : ScenarioParts) × ((first : State)
-        × ((run : IsRun parts first text status) × Are parts first text status run)))
+    abbrev OfReport : List ℕ → List ℕ → ℕ → Type 0
+    OfReport scenario text status = HasNone read text ⊎ IsOf Are scenario text status
 
-    by-load : (parts : ScenarioParts) (text : List ℕ) (status : ℕ)
-        (loaded : Result State LoadFault) → load_of parts.bay parts.logic ≡ loaded
-        → LoadReport loaded parts.trace text status → OfReport text status
-    by-load parts text status (Ok first) is told =
+    by-load : (scenario : List ℕ) (parts : ScenarioParts) (text : List ℕ) (status : ℕ)
+        (loaded : Result State LoadFault) → scenario_of scenario ≡ Some parts
+        → load_of parts.bay parts.logic ≡ loaded → LoadReport loaded parts.trace text status
+        → OfReport scenario text status
+    by-load scenario parts text status (Ok first) cut is told =
         let run : IsRun parts first text status =
         run-of parts.bay parts.logic first (loaded-from parts.bay parts.logic first is) parts.trace
         text status told in
-        inr (parts, (first, (run, run-are parts first text status run)))
-    by-load parts text status (Err fault) is told =
+        inr (record {
+          parts = parts;
+          cut = cut;
+          first = first;
+          run = run;
+          are = run-are parts first text status run;
+        })
+    by-load scenario parts text status (Err fault) cut is told =
         inl (none-read text (subst (AreLines IsOther) (sym told.0) (refused-lines fault)))
 
-    pub of-parts : (o : Option ScenarioParts) (text : List ℕ) (status : ℕ)
-        → PartsReport o text status → OfReport text status
-    of-parts None text status told =
+    by-parts : (scenario : List ℕ) (o : Option ScenarioParts) (text : List ℕ) (status : ℕ)
+        → scenario_of scenario ≡ o → PartsReport o text status → OfReport scenario text status
+    by-parts scenario None text status cut told =
         inl (none-read text (subst (AreLines IsOther) (sym told.0) no-parts-lines))
-    of-parts (Some parts) text status (inl told, run) =
-        by-load parts text status (load_of parts.bay parts.logic) refl told
-    of-parts (Some parts) text status (inr refused, run) =
+    by-parts scenario (Some parts) text status cut (inl told, run) =
+        by-load scenario parts text status (load_of parts.bay parts.logic) cut refl told
+    by-parts scenario (Some parts) text status cut (inr refused, run) =
         inl (none-read text
         (subst (AreLines IsOther) (sym refused.0) (refused-lines OutOfMemory)))
+
+    pub of-each : OfEach read Are
+    of-each scenario text status told =
+        by-parts scenario (scenario_of scenario) text status refl told
 
 -- ---- the line of a command
 

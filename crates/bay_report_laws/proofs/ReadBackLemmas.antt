@@ -1,8 +1,13 @@
--- What is printed is read back: the three lines.
-use Rattle.bay_report_laws.specs.ReadBack.{ReadsBudgets, ReadsCommands, ReadsScans, switches_told}
+-- What is printed is read back: the four lines.
+use Rattle.std.proofs.Common.{refl}
+use Rattle.std.specs.Fmt.{decimal}
+use Rattle.hex.specs.Hex.{encode_lower}
+use Rattle.bay_report_laws.specs.ReadBack.{ReadsBudgets, ReadsCommands, ReadsScans, ReadsSends, switches_told}
+use Rattle.bay_report_laws.proofs.LineLemmas.{hex-free}
 use Rattle.bay_report_laws.proofs.NameLemmas.{name-plain}
 use Rattle.bay_report_laws.proofs.PrintLemmas.{command-is, load-is, scan-is, told-plain}
-use Rattle.bay_report_laws.proofs.ReadLemmas.{budget-read, command-read, load_line, order_line, scan-read, scan_line}
+use Rattle.bay_report_laws.proofs.ReadLemmas.{budget-read, command-read, load_line, order_line, scan-read, scan_line, send-read, send_line}
+use Rattle.bay_report_laws.proofs.WholeLemmas.{send-whole}
 
 pub reads-budgets : ReadsBudgets
 reads-budgets report small = (
@@ -23,4 +28,11 @@ reads-commands now id on early named = (
   order_line now id on,
   command-is now id on,
   command-read now id on early (name-plain 16 id named),
+)
+
+pub reads-sends : ReadsSends
+reads-sends now sent = (
+  send_line now sent.association (encode_lower sent.octets),
+  send-whole (decimal now) (decimal sent.association) (encode_lower sent.octets),
+  send-read now sent.association (encode_lower sent.octets) (hex-free 32 sent.octets refl),
 )

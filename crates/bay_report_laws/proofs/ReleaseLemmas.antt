@@ -18,7 +18,7 @@ use Rattle.bay_device.specs.declared.event.Step.{Step}
 use Rattle.bay_device.specs.declared.fault.StepFault.{StepFault}
 use Rattle.bay_report.specs.Lines.{ended_text, scan_text, step_text}
 use Rattle.bay_report.specs.Report.{report_text}
-use Rattle.bay_replay.specs.Scenario.{ScenarioParts, scenario_of}
+use Rattle.bay_replay.specs.Scenario.{ScenarioParts}
 use Rattle.bay_replay.specs.History.{AllFresh, EachPast, device_after}
 use Rattle.bay_report_laws.specs.Printed.{PrintedCommand, PrintedSwitch, ended, printed_command}
 use Rattle.bay_report_laws.specs.ReadBack.{HaveIds, switches_told}
@@ -32,7 +32,7 @@ use Rattle.bay_report_laws.proofs.PrintLemmas.{IsCommandLine, IsLineOf, ended-li
 use Rattle.bay_report_laws.proofs.ReadLemmas.{scan-read, scan_line}
 use Rattle.bay_report_laws.proofs.ScanLemmas.{LastScan, fresh-at, last-scan, past-in, same-since}
 use Rattle.bay_report_laws.proofs.WithinLemmas.{AreFew, known-run, past-few}
-use Rattle.bay_report_laws.proofs.OrderLemmas.{load, load-no-command, of-command, of-parts, order-read, order-steps, order-switches, other-no-command, printed-for, stands}
+use Rattle.bay_report_laws.proofs.OrderLemmas.{load, load-no-command, of-command, of-each, order-read, order-steps, order-switches, other-no-command, printed-for, stands}
 
 -- ---- freshness
 
@@ -283,5 +283,4 @@ run-released parts first text status run before after line command e reads =
     begin line_of_load (load-is run.printed.report) o.behind line o.at l command reads)
 
 pub commands-are-released : CommandsAreReleased
-commands-are-released scenario text status told =
-    of-parts printed_command other-no-command load-no-command AreReleased run-released (scenario_of scenario) text status told
+commands-are-released = of-each printed_command other-no-command load-no-command AreReleased run-released

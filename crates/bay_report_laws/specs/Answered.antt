@@ -1,5 +1,5 @@
 -- What stands beside a command's line: the operate that asked for it, and the response that accepts it.
-use Rattle.std.specs.Prelude.{ℕ, ◌≡◌, ◌⊎◌, List, ◌∷◌, ◌++◌, slice_get, None, Some}
+use Rattle.std.specs.Prelude.{ℕ, ◌≡◌, List, ◌∷◌, ◌++◌, slice_get, Some}
 use Rattle.std.specs.Borrow.{Bor}
 use Rattle.std.specs.List.{Contains}
 use Rattle.hex.specs.Hex.{encode_lower}
@@ -15,11 +15,11 @@ use Rattle.bay_device.specs.Told.{pdu_in}
 use Rattle.bay_device.specs.declared.event.Event.TheVariants.{Recv}
 use Rattle.bay_report.specs.Lines.{step_text}
 use Rattle.bay_report.specs.Report.{report_text}
-use Rattle.bay_replay.specs.Replay.{IsReport}
 use Rattle.bay_replay.specs.Scenario.{ScenarioParts}
 use Rattle.bay_replay.specs.History.{device_after}
 use Rattle.bay_report_laws.specs.Printed.{PrintedCommand, lines_in, printed_command, printed_send}
 use Rattle.bay_report_laws.specs.Released.{IsPrintedFor}
+use Rattle.bay_report_laws.specs.Reports.{OfEach}
 use Rattle.bay_replay.specs.Runs.{IsRun}
 
 -- A command's line is of what is printed for octets of a client. One of their PDUs asks for the
@@ -62,8 +62,4 @@ AreAnswered parts first text status run =
 
 -- A report has no line of a command, or is the text of a run in which each is answered.
 abbrev pub CommandsAreAnswered : Type 0
-CommandsAreAnswered =
-    (scenario text : List ℕ) (status : ℕ) → IsReport scenario text status
-    → ((line : List ℕ) → Contains (lines_in text) line → printed_command line ≡ None)
-    ⊎ ((parts : ScenarioParts) × ((first : State)
-    × ((run : IsRun parts first text status) × AreAnswered parts first text status run)))
+CommandsAreAnswered = OfEach printed_command AreAnswered

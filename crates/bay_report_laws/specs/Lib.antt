@@ -2,7 +2,8 @@
 --
 -- `Printed`: how a line is read, by its words alone; `ReadBack`: so is each that is printed. `Released`
 -- is the main file: what stands before a command's line; `Answered`: what stands beside it. `Texts`:
--- that scans are within the budget; `Meant`: that they tell what the program means.
+-- that scans are within the budget; `Meant`: that they tell what the program means; `Reports`: what
+-- is so of each report.
 
 -- What public clauses cite of the crates below.
 pub use Rattle.bay_device.specs.Fresh
@@ -16,4 +17,5 @@ pub mod Meant
 pub mod Printed
 pub mod ReadBack
 pub mod Released
+pub mod Reports
 pub mod Texts

@@ -1,6 +1,5 @@
 -- What a scan's line tells of the switches is what the text of the program means.
-use Rattle.std.specs.Prelude.{ℕ, ◌≡◌, ◌+◌, ◌⊎◌, List, [], ◌∷◌, ◌++◌, map, None, Some}
-use Rattle.std.specs.List.{Contains}
+use Rattle.std.specs.Prelude.{ℕ, ◌≡◌, ◌+◌, List, [], ◌∷◌, ◌++◌, map, Some}
 use Rattle.bay_config.specs.declared.bay.Source.{Source}
 use Rattle.bay_config.specs.declared.bay.SwitchPoint.TheVariants.{EnableOpen, EnableClose}
 use Rattle.bay_nodes.specs.declared.switch.Switch.{Switch}
@@ -16,11 +15,11 @@ use Rattle.bay_device.specs.Meaning.{memory_before}
 use Rattle.bay_device.specs.declared.event.Event.TheVariants.{Scan}
 use Rattle.bay_report.specs.Report.{report_text}
 use Rattle.bay_replay.specs.History.{device_after}
-use Rattle.bay_replay.specs.Replay.{IsReport}
 use Rattle.bay_replay.specs.Runs.{IsRun}
 use Rattle.bay_replay.specs.Scenario.{ScenarioParts}
 use Rattle.bay_report_laws.specs.Printed.{PrintedScan, PrintedSwitch, lines_in, printed_scan}
 use Rattle.bay_report_laws.specs.Released.{IsPrintedFor}
+use Rattle.bay_report_laws.specs.Reports.{OfEach}
 
 -- Switch by switch, in their order, a line tells each by its id, with the values that outputs give
 -- its EnaOpn and its EnaCls; one that the program does not name is FALSE.
@@ -61,8 +60,4 @@ AreMeant parts first text status run =
 
 -- A report has no line of a scan, or is the text of a run in which each tells what the text means.
 abbrev pub ScansAreMeant : Type 0
-ScansAreMeant =
-    (scenario text : List ℕ) (status : ℕ) → IsReport scenario text status
-    → ((line : List ℕ) → Contains (lines_in text) line → printed_scan line ≡ None)
-    ⊎ ((parts : ScenarioParts) × ((first : State)
-    × ((run : IsRun parts first text status) × AreMeant parts first text status run)))
+ScansAreMeant = OfEach printed_scan AreMeant

@@ -1,13 +1,15 @@
 -- What is printed is read back.
 use Rattle.std.specs.Prelude.{ℕ, ◌≡◌, ◌+◌, ◌<◌, ◌^◌, Bool, true, List, [], ◌∷◌, ◌++◌, Some}
+use Rattle.hex.specs.Hex.{encode_lower}
 use Rattle.bay_config.specs.Key.{is_identifier}
 use Rattle.bay_nodes.specs.declared.switch.Switch.{Switch}
 use Rattle.bay_device.specs.Device.{State}
 use Rattle.bay_device.specs.LookUps.{may_close, may_open}
+use Rattle.bay_device.specs.declared.event.Sent.{Sent}
 use Rattle.bay_device.specs.declared.report.Report.{Report}
-use Rattle.bay_report.specs.Lines.{command_line, scan_text}
+use Rattle.bay_report.specs.Lines.{command_line, scan_text, send_text}
 use Rattle.bay_report.specs.Report.{report_text}
-use Rattle.bay_report_laws.specs.Printed.{PrintedSwitch, printed_budget, printed_command, printed_scan}
+use Rattle.bay_report_laws.specs.Printed.{PrintedSwitch, printed_budget, printed_command, printed_scan, printed_send}
 
 -- Each switch has an id as a bay file has it.
 abbrev pub HaveIds : List Switch → Type 0
@@ -25,7 +27,7 @@ switches_told s k (switch ∷ switches) =
 abbrev pub IsEnded : List ℕ → List ℕ → Type 0
 IsEnded text line = text ≡ line ++ 10 ∷ []
 
--- The line of a load, of a scan and of a command is read back.
+-- The line of a load, of a scan, of a command and of sent octets is read back.
 abbrev pub ReadsBudgets : Type 0
 ReadsBudgets =
     (report : Report) → report.budget < 2 ^ 64
@@ -44,3 +46,9 @@ ReadsCommands =
     (now : ℕ) (id : List ℕ) (on : Bool) → now < 2 ^ 64 → is_identifier 16 id ≡ true
     → (line : List ℕ) × IsEnded (command_line now id on) line
     × (printed_command line ≡ Some (record { moment = now; id = id; on = on }))
+
+abbrev pub ReadsSends : Type 0
+ReadsSends =
+    (now : ℕ) (sent : Sent)
+    → (line : List ℕ) × IsEnded (send_text now sent) line
+    × (printed_send line ≡ Some (encode_lower sent.octets))

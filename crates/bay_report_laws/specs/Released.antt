@@ -1,14 +1,14 @@
 -- What stands before a command's line in the text of a report.
-use Rattle.std.specs.Prelude.{ℕ, ◌≡◌, ◌+◌, ◌≤◌, ◌⊎◌, true, All, List, ◌∷◌, ◌++◌, None, Some, if◌then◌else◌}
+use Rattle.std.specs.Prelude.{ℕ, ◌≡◌, ◌+◌, ◌≤◌, true, All, List, ◌∷◌, ◌++◌, Some, if◌then◌else◌}
 use Rattle.std.specs.List.{Contains}
 use Rattle.bay_device.specs.Device.{State}
 use Rattle.bay_device.specs.Fresh.{IsSameProcess, Past}
 use Rattle.bay_device.specs.declared.event.Event.TheVariants.{Scan}
 use Rattle.bay_report.specs.Lines.{step_text}
 use Rattle.bay_report.specs.Report.{report_text}
-use Rattle.bay_replay.specs.Replay.{IsReport}
 use Rattle.bay_replay.specs.Scenario.{ScenarioParts}
 use Rattle.bay_report_laws.specs.Printed.{PrintedCommand, PrintedScan, PrintedSwitch, ended, lines_in, printed_command, printed_scan}
+use Rattle.bay_report_laws.specs.Reports.{OfEach}
 use Rattle.bay_replay.specs.Runs.{IsRun, printed_of}
 
 -- A line, which stands behind these lines of a text that begins so, is one of what is printed for an
@@ -62,8 +62,4 @@ AreReleased parts first text status run =
 
 -- A report has no line of a command, or is the text of a run in which each is released.
 abbrev pub CommandsAreReleased : Type 0
-CommandsAreReleased =
-    (scenario text : List ℕ) (status : ℕ) → IsReport scenario text status
-    → ((line : List ℕ) → Contains (lines_in text) line → printed_command line ≡ None)
-    ⊎ ((parts : ScenarioParts) × ((first : State)
-    × ((run : IsRun parts first text status) × AreReleased parts first text status run)))
+CommandsAreReleased = OfEach printed_command AreReleased

@@ -1,17 +1,18 @@
 // Laws of a report. Each function does nothing, and its contract is the law.
 ghost use Rattle.bay_report_laws.specs.Answered.{CommandsAreAnswered};
 ghost use Rattle.bay_report_laws.specs.Meant.{ScansAreMeant};
-ghost use Rattle.bay_report_laws.specs.ReadBack.{ReadsBudgets, ReadsCommands, ReadsScans};
+ghost use Rattle.bay_report_laws.specs.ReadBack.{ReadsBudgets, ReadsCommands, ReadsScans, ReadsSends};
 ghost use Rattle.bay_report_laws.specs.Released.{CommandsAreReleased};
 ghost use Rattle.bay_report_laws.specs.Texts.{ScansAreWithinBudget};
 
-/// The line of a load, of a scan and of a command is read back: by a definition that cuts a line into
-/// words and knows nothing of how it is printed. Numbers are below 2 ^ 64, and ids are as a bay file
-/// has them.
+/// The line of a load, of a scan, of a command and of sent octets is read back: by a definition that
+/// cuts a line into words and knows nothing of how it is printed. Numbers are below 2 ^ 64, and ids
+/// are as a bay file has them.
 pub fn what_is_printed_is_read_back()
     ensures budgets { ReadsBudgets }
     ensures scans { ReadsScans }
     ensures commands { ReadsCommands }
+    ensures sends { ReadsSends }
 {}
 
 /// In each text that a replay may print, each line of a scan tells of at most as many steps as the
