@@ -1,8 +1,10 @@
-pub mod AgeLemmas
 pub mod BeginLemmas
+pub mod FrontLemmas
 pub mod HistoryLemmas
 pub mod LateLemmas
+pub mod OnceLemmas
 pub mod OrderLemmas
+pub mod SameLemmas
 pub mod ScanLemmas
 pub mod SentLemmas
 pub mod TurnLemmas

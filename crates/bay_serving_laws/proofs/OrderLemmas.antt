@@ -1,7 +1,7 @@
 -- Behind each command of a turn stand octets that asked for it, an answer, and a scan.
 use Rattle.std.proofs.Common.{◌≡◌, ◌<◌, ◌≤◌, ◌+◌, ◌-◌, ◌&&◌, nat_lt, Bool, true, false, cond, if◌then◌else◌, ℕ, List, [], ◌∷◌, ◌++◌, Option, Some, None, Result, Ok, Err, IfOk, inl, inr, refl, ap, sym, subst, ◌∙◌, append_assoc, arith}
 use Rattle.std.specs.List.{Contains}
-use Rattle.std.proofs.lemmas.List.Elements.{All-contains, Contains-append_cases}
+use Rattle.std.proofs.lemmas.List.Elements.{All-contains, Contains-append_cases, Contains-append_right}
 use Rattle.bay_connection.specs.Talk.{Talk, indications}
 use Rattle.bay_services.specs.Accepted.{accepted_in}
 use Rattle.bay_services.specs.Entries.{operates_in}
@@ -21,9 +21,9 @@ use Rattle.bay_device.specs.declared.fault.StepFault.{StepFault}
 use Rattle.bay_device.specs.declared.fault.StepFault.TheVariants.{MomentTooLarge}
 use Rattle.bay_device.proofs.CommandLemmas.{step-commanded}
 use Rattle.bay_device.proofs.OperateLemmas.{step-operates}
-use Rattle.bay_serve.specs.Turns.{Held, turn_calls}
+use Rattle.bay_serve.specs.Turns.{Held}
 use Rattle.bay_serve_laws.specs.Events.{ChosenEvent, HasNoOctets, commands_in, commands_of, done_at, turn_events}
-use Rattle.bay_serve_laws.specs.Flows.{IsTidy, answer_to, brought_by, end_to, given_of, received_of, sent_to}
+use Rattle.bay_serve_laws.specs.Flows.{IsTidy, answer_to, end_to, sent_to}
 use Rattle.bay_serve_laws.proofs.DoneLemmas.{IsBoth, done-append}
 use Rattle.bay_serve_laws.proofs.GivenLemmas.{turn-brings}
 use Rattle.bay_serve_laws.proofs.LineLemmas.{process-quiet}
@@ -31,12 +31,14 @@ use Rattle.bay_serve_laws.proofs.MoveLemmas.{sent-append}
 use Rattle.bay_serve_laws.proofs.PartLemmas.{Part-turn}
 use Rattle.bay_serve_laws.proofs.TurnFlows.{loses-nothing}
 use Rattle.bay_serve_laws.proofs.UpLemmas.{number-of}
-use Rattle.std.proofs.lemmas.Bool.{and_parts, eq-eqb}
+use Rattle.std.proofs.lemmas.Bool.{and_parts}
 use Rattle.std.proofs.lemmas.Bool.Decides.{nat_tests}
 use Rattle.bay_serving_laws.specs.Orders.{AreOrdered, IsHeard, IsOrdered, StandIn}
 use Rattle.bay_serving_laws.specs.Service.{AreTurns, DoneTurn, IsTurn, held_behind, past_behind}
-use Rattle.bay_serving_laws.proofs.HistoryLemmas.{Stands, stands-events}
+use Rattle.bay_serving_laws.proofs.FrontLemmas.{OfAssociations, before-octets, same-events}
+use Rattle.bay_serving_laws.proofs.HistoryLemmas.{Stands, aged, stands-events}
 use Rattle.bay_serving_laws.proofs.LateLemmas.{late-tidy}
+use Rattle.bay_serving_laws.proofs.OnceLemmas.{received-once}
 use Rattle.bay_serving_laws.proofs.ScanLemmas.{released-by}
 use Rattle.bay_serving_laws.proofs.SentLemmas.{Mapped, mapped, sent-to, stands-in}
 
@@ -121,22 +123,6 @@ wider octets before all after stands = (
     grouped : (v w x y z : List ℕ) → v ++ ((w ++ x ++ y) ++ z) ≡ (v ++ w) ++ x ++ (y ++ z)
     grouped v w x y z = simp append_assoc
 
-received-there : (a : ℕ) (front : List ChosenEvent) (e : ChosenEvent) (back : List ChosenEvent)
-    (octets : List ℕ) → brought_by a e.1 ≡ octets
-    → StandIn octets (received_of a (front ++ e ∷ back))
-received-there a [] e back octets is =
-    ([], received_of a back, ap (λ l. l ++ received_of a back) is)
-received-there a (x ∷ front) e back octets is =
-    let later = received-there a front e back octets is in (
-      brought_by a x.1 ++ later.0,
-      later.1,
-      ap (λ l. brought_by a x.1 ++ l) later.2
-          ∙ grouped (brought_by a x.1) later.0 octets later.1,
-    )
-  where
-    grouped : (w x y z : List ℕ) → w ++ (x ++ y ++ z) ≡ (w ++ x) ++ y ++ z
-    grouped w x y z = simp append_assoc
-
 answer-stands : (a : ℕ) (step : Step) (sent : Sent) → Contains step.sent sent
     → sent.association ≡ a → StandIn sent.octets (answer_to a (Ok step))
 answer-stands a step sent has to =
@@ -208,7 +194,8 @@ stays-tidy h t is tidy = by-time (nat_lt last_moment t.now) refl
 -- ---- a command
 
 module _ (first : State) (h : Held) (t : DoneTurn) (past : List Past) (command : Command)
-    (is : IsTurn h t) (tidy : IsTidy h) (front : List ChosenEvent) (choice : Option ℕ)
+    (is : IsTurn h t) (tidy : IsTidy h) (at : Stands first past h.device) (front : List ChosenEvent)
+    (choice : Option ℕ)
     (back : List ChosenEvent)
     (stands : Stands first (past_behind t.now front h.device past)
     (done_at t.now front h.device).after) (step : Step)
@@ -227,11 +214,10 @@ module _ (first : State) (h : Held) (t : DoneTurn) (past : List Past) (command :
   asked (Recv a octets) split answered replied allowed =
       by-talk (talk_at (place_of a) mid.connections) refl replied
     where
-      events : List ChosenEvent
-      events = turn_events t.now t.line t.script h
-
-      given : given_of a (turn_calls t.now t.line t.script h) ≡ received_of a events
-      given = turn-brings a t.now t.line t.script h (process-quiet t.line is.of_process)
+      before : OfAssociations front
+      before =
+          before-octets t.now t.line t.script h front choice a octets back is.all_read
+          is.all_offered is.of_process split
 
       heard : IsHeard h t
       heard = record {
@@ -241,9 +227,12 @@ module _ (first : State) (h : Held) (t : DoneTurn) (past : List Past) (command :
         octets = octets;
         back = back;
         is = split;
-        given = subst (StandIn octets.now) (sym (given ∙ ap (received_of a) split))
-            (received-there a front (choice, Recv a octets) back octets.now
-            (ap (λ b. cond b octets.now []) (eq-eqb a a refl)));
+        first = before;
+        given = turn-brings a t.now t.line t.script h (process-quiet t.line is.of_process)
+            ∙ received-once t.now t.line t.script h choice a octets is.all_read is.all_offered
+            is.of_process (subst (λ es. Contains es (choice, Recv a octets)) (sym split)
+            (Contains-append_right front ((choice, Recv a octets) ∷ back) (choice, Recv a octets)
+            (0, omega arith, refl)));
         step = step;
         answered = answered;
       }
@@ -285,8 +274,9 @@ module _ (first : State) (h : Held) (t : DoneTurn) (past : List Past) (command :
             accepts = subst (λ p. Contains (operates_in (accepted_in t.now a r.pdu (bay_of first)
                 p)) command) (sym m.is) r.accepts;
             allowed = allowed;
-            released = released-by (past_behind t.now front h.device past) mid t.now
-                first.scan_max_age_ms command stands.tracks stands.aged allowed;
+            released = released-by past h.device mid t.now first.scan_max_age_ms command at.tracks
+                (same-events t.now front h.device before)
+                (aged first (past_behind t.now front h.device past) mid stands) allowed;
           }
   asked (Close a) split answered replied allowed = absurd (none-among _ command replied has)
   asked (Contact k position) split answered replied allowed =
@@ -318,7 +308,7 @@ ordered first h t past command is tidy at has =
     let commanded : AreCommanded t.now mid f.step =
     subst (λ r. IfOk r (AreCommanded t.now mid)) f.answered
     (step-commanded t.now f.event.1 mid o.answer o.after steps) in
-    asked first h t past command is tidy f.front f.event.0 f.back f.stands f.step f.has f.event.1
+    asked first h t past command is tidy at f.front f.event.0 f.back f.stands f.step f.has f.event.1
     f.split f.answered operates.replied
     (All-contains (IsReleasedAt t.now mid) f.step.commands command commanded.released f.has)
 

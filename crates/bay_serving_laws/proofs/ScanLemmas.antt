@@ -26,7 +26,7 @@ use Rattle.bay_device.specs.declared.event.Event.TheVariants.{Open, Recv, Close,
 use Rattle.bay_device.specs.declared.fault.StepFault.TheVariants.{MomentTooLarge, TimeWentBack}
 use Rattle.bay_device.proofs.CommandLemmas.{Notes}
 use Rattle.bay_serving_laws.specs.Orders.{IsReleasedBy}
-use Rattle.bay_serving_laws.proofs.AgeLemmas.{Same, same-event}
+use Rattle.bay_serving_laws.proofs.SameLemmas.{Same, same-event}
 
 process-same : (s t : State) → t.rows ≡ s.rows → t.input_values ≡ s.input_values
     → IsSameProcess s t
@@ -251,15 +251,19 @@ recent now age (Some m) stale e =
     fresh-not true e = absurd cc
     fresh-not false e = refl
 
--- A switch that may be operated is released by that scan.
-pub released-by : (past : List Past) (s : State) (now age : ℕ) (command : Command)
-    → Tracks past s → s.scan_max_age_ms ≡ age → IsReleasedAt now s command
-    → IsReleasedBy now age past command
-released-by past s now age command tracks aged released =
+-- A switch that may be operated, on a device that has changed only for its clients since, is
+-- released by that scan.
+pub released-by : (past : List Past) (old s : State) (now age : ℕ) (command : Command)
+    → Tracks past old → Same old s → s.scan_max_age_ms ≡ age → IsReleasedAt now s command
+    → IsReleasedBy now age past s command
+released-by past old s now age command tracks same aged released =
     let r = recent now s.scan_max_age_ms s.last_scan s.is_stale released.fresh in
-    let w : Since r.at past s = tracks.since_scan r.at r.is r.fresh in
+    let w : Since r.at past old =
+    tracks.since_scan r.at (sym (ap (λ (n : Notes). n.last_scan) same.notes) ∙ r.is)
+    (sym (ap (λ (n : Notes). n.is_stale) same.notes) ∙ r.fresh) in
     let at : w.scan.now ≡ r.at = w.at in
     let within : now ≤ r.at + s.scan_max_age_ms = r.within in
+    let rows : s.rows ≡ w.scan.after.rows = same.rows ∙ w.rows in
     record {
       scan = record {
         since = w.since;
@@ -273,5 +277,7 @@ released-by past s now age command tracks aged released =
       };
       enabled =
           ap (λ rows. is_truth true (leaf_of (releasing command.switch command.on) rows))
-          (sym w.rows) ∙ released.enabled;
+          (sym rows) ∙ released.enabled;
+      unchanged = process-same w.scan.after s rows
+          (ap (λ (n : Notes). n.inputs) same.notes ∙ w.inputs);
     }

@@ -11,6 +11,7 @@ pub use Rattle.bay_device.specs.Meaning
 pub use Rattle.bay_device.specs.Operates
 pub use Rattle.bay_device.specs.Steps
 pub use Rattle.bay_device.specs.Told
+pub use Rattle.bay_replay.specs.History
 pub use Rattle.bay_report.specs.Load
 pub use Rattle.bay_serve.specs.Calls
 pub use Rattle.bay_serve.specs.Turns

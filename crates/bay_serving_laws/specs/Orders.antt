@@ -1,6 +1,6 @@
 -- What stands behind each command that a turn tells: who asked for it, what was answered, and what
 -- released it.
-use Rattle.std.specs.Prelude.{ℕ, ◌≡◌, ◌+◌, true, List, [], ◌∷◌, ◌++◌, Option, Some, Ok}
+use Rattle.std.specs.Prelude.{ℕ, ◌≡◌, ◌+◌, true, All, List, [], ◌∷◌, ◌++◌, Option, Some, Ok}
 use Rattle.std.specs.Borrow.{Bor}
 use Rattle.std.specs.List.{Contains}
 use Rattle.bay_connection.specs.Talk.{Talk, Terms, indications, tells}
@@ -12,10 +12,11 @@ use Rattle.bay_services.specs.declared.answer.Command.{Command}
 use Rattle.bay_tree.specs.Rows.{leaf_of}
 use Rattle.bay_device.specs.Commands.{IsReleasedAt}
 use Rattle.bay_device.specs.Device.{State, bay_of}
-use Rattle.bay_device.specs.Fresh.{HasScan, Past}
+use Rattle.bay_device.specs.Fresh.{HasScan, IsSameProcess, Past}
 use Rattle.bay_device.specs.Outcomes.{outcome, place_of}
 use Rattle.bay_device.specs.Told.{pdu_in, talk_at}
-use Rattle.bay_device.specs.declared.event.Event.TheVariants.{Recv}
+use Rattle.bay_device.specs.declared.event.Event.{Event}
+use Rattle.bay_device.specs.declared.event.Event.TheVariants.{Open, Recv, Close, Contact, Input, Measure, Scan}
 use Rattle.bay_device.specs.declared.event.Sent.{Sent}
 use Rattle.bay_device.specs.declared.event.Step.{Step}
 use Rattle.bay_serve.specs.Turns.{Held, turn_calls}
@@ -23,12 +24,24 @@ use Rattle.bay_serve_laws.specs.Events.{ChosenEvent, done_at, turn_events}
 use Rattle.bay_serve_laws.specs.Flows.{FlowsAt, given_of, sent_to}
 use Rattle.bay_serving_laws.specs.Service.{DoneTurn, held_behind, past_behind}
 
--- Among these events is such a scan, and it left the interlocking value of the command TRUE (EnaCls
--- for on, EnaOpn for off).
-pub record IsReleasedBy (now age : ℕ) (past : List Past) (command : Command) : Type 0 where
+-- Among these events is such a scan; it left the interlocking value of the command TRUE (EnaCls for
+-- on, EnaOpn for off), and on this device the process still tells what it told after it.
+pub record IsReleasedBy (now age : ℕ) (past : List Past) (s : State) (command : Command)
+    : Type 0 where
   pub scan : HasScan now age past
   pub enabled : is_truth true
       (leaf_of (releasing command.switch command.on) scan.scan.after.rows) ≡ true
+  pub unchanged : IsSameProcess scan.scan.after s
+
+-- an event of an association
+abbrev pub OfAssociation : Event → Type 0
+OfAssociation (Open a) = Unit {0}
+OfAssociation (Recv a octets) = Unit {0}
+OfAssociation (Close a) = Unit {0}
+OfAssociation (Contact k position) = ⊥
+OfAssociation (Input k value) = ⊥
+OfAssociation (Measure k field value) = ⊥
+OfAssociation Scan = ⊥
 
 -- Some octets stand among others.
 abbrev pub StandIn : List ℕ → List ℕ → Type 0
@@ -39,8 +52,9 @@ abbrev pub sent_in : ℕ → DoneTurn → Held → List ℕ
 sent_in a t h =
     sent_to a (done_at t.now (turn_events t.now t.line t.script h) h.device).answers
 
--- In a turn octets of an association were heard, behind some of its events; they stand among those
--- that the link gave of the association in the turn, and this is the device's answer to them.
+-- In a turn octets of an association were heard, behind some of its events, each of which is one of
+-- an association. They stand among those that the link gave of the association in the turn, and
+-- this is the device's answer to them.
 pub record IsHeard (h : Held) (t : DoneTurn) : Type 0 where
   pub front : List ChosenEvent
   pub choice : Option ℕ
@@ -48,7 +62,8 @@ pub record IsHeard (h : Held) (t : DoneTurn) : Type 0 where
   pub octets : Bor (List ℕ)
   pub back : List ChosenEvent
   pub is : turn_events t.now t.line t.script h ≡ front ++ (choice, Recv association octets) ∷ back
-  pub given : StandIn octets.now (given_of association (turn_calls t.now t.line t.script h))
+  pub first : All (λ (e : ChosenEvent). OfAssociation e.1) front
+  pub given : given_of association (turn_calls t.now t.line t.script h) ≡ octets.now
   pub step : Step
   pub answered : (outcome choice t.now (Recv association octets)
       (done_at t.now front h.device).after).answer ≡ Ok step
@@ -56,8 +71,8 @@ pub record IsHeard (h : Held) (t : DoneTurn) : Type 0 where
 -- Octets that were heard come to a command: one of their PDUs asks for this operate, and octets
 -- that are sent to the association in the turn have a success as its result, read as the response
 -- to that PDU. What the link takes of the association in the turn, and then what its queue holds,
--- is what the queue held, and then all that is sent to it. A scan among the events before released
--- the command, on the device that the octets came to.
+-- is what the queue held, and then all that is sent to it. A scan of an earlier turn released the
+-- command.
 pub record IsOrdered (first : State) (h : Held) (t : DoneTurn) (past : List Past)
     (command : Command) : Type 0 where
   pub heard : IsHeard h t
@@ -77,8 +92,8 @@ pub record IsOrdered (first : State) (h : Held) (t : DoneTurn) (past : List Past
   pub accepts : Contains (operates_in (accepted_in t.now heard.association pdu (bay_of first)
       (pdu_in sent.octets))) command
   pub allowed : IsReleasedAt t.now (done_at t.now heard.front h.device).after command
-  pub released : IsReleasedBy t.now first.scan_max_age_ms
-      (past_behind t.now heard.front h.device past) command
+  pub released : IsReleasedBy t.now first.scan_max_age_ms past
+      (done_at t.now heard.front h.device).after command
 
 -- So is each command that each of the turns tells.
 abbrev pub AreOrdered : State → Held → List Past → List DoneTurn → Type 0

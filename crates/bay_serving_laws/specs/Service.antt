@@ -1,23 +1,20 @@
 -- The turns of a service, and all that happens to its device in them.
-use Rattle.std.specs.Prelude.{ℕ, ◌≡◌, ◌≤◌, zero, suc, List, [], ◌∷◌, ◌++◌, length, replicate, Option, Result, Ok, Err}
+use Rattle.std.specs.Prelude.{ℕ, ◌≡◌, ◌≤◌, zero, suc, List, [], ◌∷◌, length, replicate, Option, Result, Ok, Err}
 use mathlib.Core.Logic.{inl, inr}
 use Rattle.bay_control.specs.Backing.{AreBacked}
 use Rattle.il_check.specs.Program.{Checked}
 use Rattle.bay_device.specs.Commands.{CommandedAt}
 use Rattle.bay_device.specs.Device.{State, bay_of}
-use Rattle.bay_device.specs.Fresh.{Came, IsFresh, Past}
-use Rattle.bay_device.specs.Meaning.{MeansAt, Runs}
+use Rattle.bay_device.specs.Fresh.{Came, Past}
+use Rattle.bay_device.specs.Meaning.{HaltsAt, MeansAt, Runs}
 use Rattle.bay_device.specs.Operates.{AllOperate}
 use Rattle.bay_device.specs.Outcomes.{outcome}
-use Rattle.bay_device.specs.Steps.{EachStep}
 use Rattle.bay_device.specs.Told.{told_all}
-use Rattle.bay_device.specs.declared.event.Event.{Event}
-use Rattle.bay_device.specs.declared.event.Step.{Step}
-use Rattle.bay_device.specs.declared.fault.StepFault.{StepFault}
 use Rattle.bay_io.specs.Calls.{WriteCall}
 use Rattle.bay_io.specs.Watched.{Writing}
 use Rattle.bay_io.specs.declared.outbox.WriteFault.{WriteFault}
 use Rattle.bay_trace.specs.Trace.{NamedData}
+use Rattle.bay_replay.specs.History.{AllFresh, EachPast, answers_of, events_of}
 use Rattle.bay_serve.specs.Calls.{Call}
 use Rattle.bay_serve.specs.Served.{line_in}
 use Rattle.bay_serve.specs.Turns.{Held, Script, after_turn, moment_at}
@@ -115,20 +112,6 @@ past_of (t ∷ ts) h past =
     past_of ts (held_behind t h)
     (past_behind t.now (turn_events t.now t.line t.script h) h.device past)
 
--- the events in their order, and their answers
-abbrev pub events_of : List Past → List (ℕ × Event)
-events_of [] = []
-events_of (p ∷ past) = events_of past ++ (p.now, p.event) ∷ []
-
-abbrev pub answers_of : List Past → List (Result Step StepFault)
-answers_of [] = []
-answers_of (p ∷ past) = answers_of past ++ p.answer ∷ []
-
--- Behind each command stands such a scan among the events before it.
-abbrev pub AllFresh : ℕ → List Past → Type 0
-AllFresh age [] = Unit {0}
-AllFresh age (p ∷ past) = IsFresh p.now age past p.answer × AllFresh age past
-
 -- ---- one run
 
 -- All that has happened to a device since load, which led from the first to the last.
@@ -136,7 +119,7 @@ pub record IsOneRun (first : State) (past : List Past) (last : State) : Type 0 w
   pub came : Came past last
   -- Each command is one that the interlocking releases, on a fresh scan, while no switch is
   -- operating, and something is sent with it;
-  pub commanded : EachStep CommandedAt (events_of past) first (answers_of past) last
+  pub commanded : EachPast CommandedAt first past
   -- behind it stands a scan of these events, not too old, since which the process has not changed;
   pub fresh : AllFresh first.scan_max_age_ms past
   -- and the commands are the operates that are accepted in what the octets of the events and of the
@@ -144,9 +127,10 @@ pub record IsOneRun (first : State) (past : List Past) (last : State) : Type 0 w
   pub operated : AllOperate (bay_of first) first.connections (events_of past) (answers_of past)
   pub backed : AreBacked first.controls.controls
       (told_all (bay_of first) first.connections (events_of past) (answers_of past))
-  -- Each scan of a device that runs a program leaves what the program means.
-  pub means : (c : Checked) → Runs c first
-      → EachStep (MeansAt c) (events_of past) first (answers_of past) last
+  -- Each scan of a device that runs a program halts without a trap, within the budget, and leaves
+  -- what the program means.
+  pub halts : (c : Checked) → Runs c first → EachPast HaltsAt first past
+  pub means : (c : Checked) → Runs c first → EachPast (MeansAt c) first past
 
 -- Turns were done on a server, and what happened in them since load is one run of its device.
 pub record IsService (first : Held) (turns : List DoneTurn) : Type 0 where

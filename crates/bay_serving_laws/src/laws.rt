@@ -36,10 +36,12 @@ pub fn all_turns_are_one_run<L: Link, H: Host<L>, W: Sink>(_link: &L, _host: &H,
 {}
 
 /// Each command that a turn reports, so each line `ms command id on` (or `off`) that is printed for
-/// it, is an operate that a client asked for: in octets that the link gave of its association in
-/// this turn. Its success stands in octets that were sent to this association in the turn, and thus
-/// were taken by the link, or put into the association's queue. A scan before them, not too old,
-/// left the interlocking value TRUE, and since then the process has not changed.
+/// it, is an operate that a client asked for, in the octets that the link gave of its association
+/// in this turn. Its success stands in octets that the device sent to this association in the turn:
+/// what the link takes of the association in the turn, and then what its queue holds, is what the
+/// queue held before, and then all that the device sent to it. A scan of an earlier turn, not too
+/// old, left the switch's interlocking value TRUE, and since then the process has not changed: in
+/// the turn itself only events of associations come before the octets.
 pub fn each_command_is_asked_for<L: Link, H: Host<L>, W: Sink>(_link: &L, _host: &H, _sink: &W)
     ensures { (turns : ℕ) (lines : List (ℕ × List ℕ)) (before : Serving L H) (old new : Writing W)
         (host : H) (answer : Result ℕ WriteFault)

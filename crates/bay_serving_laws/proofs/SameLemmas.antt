@@ -1,18 +1,16 @@
 -- What the events of associations leave as it is: the values of the process, and what the device
--- notes of its scans. No event changes how old a scan may be.
-use Rattle.std.proofs.Common.{◌≡◌, ℕ, ℤ, Bool, true, false, cond, nat_lt, List, [], ◌∷◌, slice_get, Option, Some, None, refl, ap}
-use Rattle.bay_config.specs.declared.bay.MeterField.{MeterField}
+-- notes of its scans.
+use Rattle.std.proofs.Common.{◌≡◌, ℕ, Bool, true, false, cond, nat_lt, List, [], ◌∷◌, Option, Some, None, refl}
 use Rattle.bay_connection.specs.Talk.{Indication, Talk, indications, left_by}
-use Rattle.bay_nodes.specs.declared.switch.Switch.{Switch}
-use Rattle.bay_tree.specs.declared.leaf.Dbpos.{Dbpos}
 use Rattle.bay_device.specs.Device.{State, device_at}
 use Rattle.bay_device.specs.Hearing.{AllHeard, after_indications}
-use Rattle.bay_device.specs.Outcomes.{Outcome, close_outcome, connection_at, contact_outcome, event_outcome, first_talk, input_outcome, last_moment, measure_outcome, nothing_done, octets_outcome, open_outcome, outcome, place_of, recv_after, recv_outcome, refusal_of, with_connection, without_owner}
+use Rattle.bay_device.specs.Outcomes.{Outcome, close_outcome, connection_at, event_outcome, first_talk, last_moment, nothing_done, octets_outcome, open_outcome, outcome, place_of, recv_after, recv_outcome, refusal_of, with_connection, without_owner}
 use Rattle.bay_device.specs.declared.event.Event.{Event}
 use Rattle.bay_device.specs.declared.event.Event.TheVariants.{Open, Recv, Close, Contact, Input, Measure, Scan}
 use Rattle.bay_device.specs.declared.event.Why.{Why}
 use Rattle.bay_device.specs.declared.fault.StepFault.TheVariants.{MomentTooLarge, TimeWentBack}
-use Rattle.bay_device.proofs.CommandLemmas.{Makes, Notes, begins, makes-heard, notes_of}
+use Rattle.bay_device.proofs.CommandLemmas.{Makes, begins, makes-heard, notes_of}
+use Rattle.bay_serving_laws.specs.Orders.{OfAssociation}
 
 -- the values in the tree, the inputs and what is noted of scans are the same
 pub record Same (s t : State) : Type 0 where
@@ -30,16 +28,6 @@ same-recv a left s t None same = same-with s (place_of a) (Some left) t same
 same-recv a left s t (Some why) same =
     same-with s (place_of a) None (without_owner a t)
     (record { notes = same.notes; rows = same.rows })
-
--- an event of an association
-abbrev pub OfAssociation : Event → Type 0
-OfAssociation (Open a) = Unit {0}
-OfAssociation (Recv a octets) = Unit {0}
-OfAssociation (Close a) = Unit {0}
-OfAssociation (Contact k position) = ⊥
-OfAssociation (Input k value) = ⊥
-OfAssociation (Measure k field value) = ⊥
-OfAssociation Scan = ⊥
 
 module _ (now : ℕ) (s : State) where
   same-none : Same s s
@@ -100,42 +88,3 @@ module _ (now : ℕ) (s : State) where
   same-outcome choice event of =
       if-refused (Same s) (nat_lt last_moment now) (nat_lt now s.moment)
       (event_outcome choice now event s) same-none (same-event choice event of)
-
-  -- ---- how old a scan may be
-
-  abbrev IsAged : State → Type 0
-  IsAged t = t.scan_max_age_ms ≡ s.scan_max_age_ms
-
-  aged : (t : State) → Same s t → IsAged t
-  aged t same = ap (λ (n : Notes). n.age) same.notes
-
-  aged-contact : (k : ℕ) (position : Dbpos) (o : Option Switch)
-      → IsAged (contact_outcome now k position s o).after
-  aged-contact k position None = refl
-  aged-contact k position (Some switch) = refl
-
-  aged-input : (k : ℕ) (value : Bool) (o : Option Bool)
-      → IsAged (input_outcome now k value s o).after
-  aged-input k value None = refl
-  aged-input k value (Some before) = refl
-
-  aged-measure : (k : ℕ) (field : MeterField) (value : ℤ) (o : Option (List ℕ))
-      → IsAged (measure_outcome now k field value s o).after
-  aged-measure k field value None = refl
-  aged-measure k field value (Some id) = refl
-
-  aged-event : (choice : Option ℕ) (event : Event)
-      → IsAged (event_outcome choice now event s).after
-  aged-event choice (Open a) = aged _ (same-event choice (Open a) tt)
-  aged-event choice (Recv a octets) = aged _ (same-event choice (Recv a octets) tt)
-  aged-event choice (Close a) = aged _ (same-event choice (Close a) tt)
-  aged-event choice (Contact k position) = aged-contact k position (slice_get s.switches k)
-  aged-event choice (Input k value) = aged-input k value (slice_get s.input_values k)
-  aged-event choice (Measure k field value) = aged-measure k field value (slice_get s.meters k)
-  aged-event choice Scan = refl
-
-  pub aged-outcome : (choice : Option ℕ) (event : Event)
-      → IsAged (outcome choice now event s).after
-  aged-outcome choice event =
-      if-refused IsAged (nat_lt last_moment now) (nat_lt now s.moment)
-      (event_outcome choice now event s) refl (aged-event choice event)
