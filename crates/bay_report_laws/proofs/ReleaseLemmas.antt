@@ -92,8 +92,14 @@ scan-alone e t = simp append-nil
 
 -- the answer of a scan
 abbrev scan_answer : Option Sent → ℕ → Result Step StepFault
-scan_answer ended steps =
-    Ok (record { ended = ended; sent = []; commands = []; closed = None; scan = Some steps })
+scan_answer ended steps = Ok (record {
+  ended = ended;
+  sent = [];
+  commands = [];
+  decisions = [];
+  closed = None;
+  scan = Some steps;
+})
 
 -- What is printed for a scan is what tells of an end, and its line.
 record ScanLines (q : Past) (steps : ℕ) (own : List (List ℕ)) : Type 0 where
