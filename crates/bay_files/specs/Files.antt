@@ -2,6 +2,7 @@
 use Rattle.std.specs.Prelude.{◌≡◌, ℕ, zero, suc, ◌+◌, Bool, true, false, List, [], Option, None, Some, Result, Ok, Err, ◌⊎◌}
 use Rattle.bay_files.specs.declared.files.FileFault.{FileFault}
 use Rattle.bay_files.specs.declared.files.FileFault.TheVariants.{Failed}
+use Rattle.bay_files.specs.declared.files.Unread.{Unread}
 use Rattle.bay_io.specs.declared.input.ReadFault.{ReadFault}
 
 -- what a read of a name gave, and what a try, with its number, to write octets to a name led to
@@ -16,27 +17,36 @@ pub record FilesData : Type 0 where
   pub bay : List ℕ
   pub program : List ℕ
 
--- two files were read, in this order: what they hold, or why the first that could not be read could
--- not
-abbrev pub ReadsBoth : {F : Type 0} → FileReads F → F → List ℕ
-    → List ℕ → Result FilesData ReadFault → Type 0
-ReadsBoth reads files bay program (Ok both) =
-    reads files bay (Ok both.bay) × reads files program (Ok both.program)
-ReadsBoth reads files bay program (Err fault) =
-    reads files bay (Err fault)
-    ⊎ ((octets : List ℕ) × reads files bay (Ok octets) × reads files program (Err fault))
+-- the name of a file that could not be read, and why
+pub record UnreadData : Type 0 where
+  pub name : List ℕ
+  pub fault : ReadFault
 
--- the file of this name could not be read, which is the one or the other
-abbrev pub FailsNamed : {F : Type 0} → FileReads F → F → List ℕ → List ℕ → List ℕ → ReadFault
-    → Type 0
-FailsNamed reads files bay program name fault =
-    ((name ≡ bay) ⊎ (name ≡ program)) × reads files name (Err fault)
+-- the same, as the code hands it out
+abbrev pub unread_view : Unread → UnreadData
+unread_view unread = record { name = unread.name.now; fault = unread.fault }
+
+-- a file was read: what it holds, or that it could not be read
+abbrev pub ReadsFile : {F : Type 0} → FileReads F → F → List ℕ → Result (List ℕ) UnreadData → Type 0
+ReadsFile reads files name (Ok octets) = reads files name (Ok octets)
+ReadsFile reads files name (Err unread) =
+    (unread.name ≡ name) × reads files name (Err unread.fault)
 
 -- a file was read that may have been named; without a name there is nothing in it
-abbrev pub ReadsNamed : {F : Type 0} → FileReads F → F
-    → Option (List ℕ) → Result (List ℕ) ReadFault → Type 0
+abbrev pub ReadsNamed : {F : Type 0} → FileReads F → F → Option (List ℕ)
+    → Result (List ℕ) UnreadData → Type 0
 ReadsNamed reads files None read = read ≡ Ok []
-ReadsNamed reads files (Some name) read = reads files name read
+ReadsNamed reads files (Some name) read = ReadsFile reads files name read
+
+-- two files were read, in this order: what they hold, or the first that could not be read
+abbrev pub ReadsBoth : {F : Type 0} → FileReads F → F → List ℕ → List ℕ
+    → Result FilesData UnreadData → Type 0
+ReadsBoth reads files bay program (Ok both) =
+    ReadsFile reads files bay (Ok both.bay) × ReadsFile reads files program (Ok both.program)
+ReadsBoth reads files bay program (Err unread) =
+    ReadsFile reads files bay (Err unread)
+    ⊎ ((octets : List ℕ) × ReadsFile reads files bay (Ok octets)
+    × ReadsFile reads files program (Err unread))
 
 -- what follows a try: the file was written; the name beside is taken, and the next is tried;
 -- or it could not be written

@@ -1,7 +1,7 @@
 // The files that a command reads and writes, by their names.
-ghost use Rattle.std.specs.Prelude.{◌≡◌, ℕ, List, Bool, Option, None, Some, Result, Ok, Err, IfOk, IfErr, OnOk};
+ghost use Rattle.std.specs.Prelude.{◌≡◌, ℕ, List, Bool, Option, None, Some, option_map, Result, Ok, Err, IfOk, IfErr, OnOk};
 ghost use Rattle.bay_io.specs.declared.input.ReadFault.{ReadFault};
-ghost use Rattle.bay_files.specs.Files.{FailsNamed, ReadsBoth, WritesWhole};
+ghost use Rattle.bay_files.specs.Files.{ReadsBoth, ReadsFile, ReadsNamed, WritesWhole, unread_view};
 ghost use Rattle.bay_files.specs.declared.files.FileFault.{FileFault};
 
 use bay_io::input::{ReadFault, read_all};
@@ -97,13 +97,31 @@ pub fn read_file<'a, F: FileSystem>(
     files: &F,
     name: &'a str,
 ) -> Result<Vec<u8>, Unread<'a>>
-    ensures ok { IfOk result (λ octets. F.reads files.now name.entry.now (Ok octets.items)) }
-    ensures err { IfErr result (λ unread. F.reads files.now name.entry.now (Err unread.fault)) }
-    ensures named { IfErr result (λ unread. unread.name.now ≡ name.entry.now) }
+    ensures ok { IfOk result (λ octets. ReadsFile F.reads files.now name.entry.now
+        (Ok octets.items)) }
+    ensures err { IfErr result (λ unread. ReadsFile F.reads files.now name.entry.now
+        (Err (unread_view unread))) }
 {
     match files.read(alloc, name) {
         Ok(octets) => Ok(octets),
         Err(fault) => Err(Unread { name, fault }),
+    }
+}
+
+/// Reads the file with a name, or nothing without a name.
+pub fn read_named<'a, F: FileSystem>(
+    alloc: Global,
+    files: &F,
+    name: Option<&'a str>,
+) -> Result<Vec<u8>, Unread<'a>>
+    ensures ok { IfOk result (λ octets. ReadsNamed F.reads files.now (option_map (λ n. n.now) name.entry)
+        (Ok octets.items)) }
+    ensures err { IfErr result (λ unread. ReadsNamed F.reads files.now (option_map (λ n. n.now) name.entry)
+        (Err (unread_view unread))) }
+{
+    match name {
+        Some(name) => read_file(alloc, files, name),
+        None => Ok(Vec::new(alloc)),
     }
 }
 
@@ -119,37 +137,12 @@ pub fn read_files<'a, F: FileSystem>(
         (λ both. ReadsBoth F.reads files.now bay.entry.now program.entry.now
         (Ok (record { bay = both.bay.items; program = both.program.items }))) }
     ensures err { IfErr result
-        (λ unread. ReadsBoth F.reads files.now bay.entry.now program.entry.now (Err unread.fault)) }
-    ensures named { IfErr result
-        (λ unread. FailsNamed F.reads files.now bay.entry.now program.entry.now unread.name.now
-        unread.fault) }
+        (λ unread. ReadsBoth F.reads files.now bay.entry.now program.entry.now
+        (Err (unread_view unread))) }
 {
-    match read_file(alloc, files, bay) {
-        Ok(bay) => match read_file(alloc, files, program) {
-            Ok(program) => Ok(BothFiles { bay, program }),
-            Err(unread) => Err(unread),
-        },
-        Err(unread) => Err(unread),
-    }
-}
-
-/// Reads the two files of a command: the bay file first, then the program.
-pub fn read_both<F: FileSystem>(
-    alloc: Global,
-    files: &F,
-    bay: &str,
-    program: &str,
-) -> Result<BothFiles, ReadFault>
-    ensures ok { IfOk result
-        (λ both. ReadsBoth F.reads files.now bay.now program.now
-        (Ok (record { bay = both.bay.items; program = both.program.items }))) }
-    ensures err { IfErr result
-        (λ fault. ReadsBoth F.reads files.now bay.now program.now (Err fault)) }
-{
-    match read_files(alloc, files, bay, program) {
-        Ok(both) => Ok(both),
-        Err(unread) => Err(unread.fault),
-    }
+    let bay = read_file(alloc, files, bay)?;
+    let program = read_file(alloc, files, program)?;
+    Ok(BothFiles { bay, program })
 }
 
 /// The files of the system that the program runs on.
