@@ -1,6 +1,6 @@
 -- Lemmas on what is printed.
 use Rattle.bay_io.specs.Calls.{WriteCall, some_call, write_failed}
-use Rattle.std.proofs.Common.{◌≡◌, ℕ, zero, suc, ◌+◌, ◌<◌, ◌≤◌, ◌==◌, Bool, true, false, List, [], ◌∷◌, ◌++◌, length, drop, get_or, cond, nat_lt, ◌||◌, Option, None, Some, Result, Ok, Err, is_err, IfOk, slice_get, subst, refl, ap, sym, ◌∙◌, arith, add-one, append_assoc, MatchBool}
+use Rattle.std.proofs.Common.{◌≡◌, ℕ, zero, suc, ◌+◌, ◌<◌, ◌≤◌, ◌==◌, Bool, true, false, List, [], ◌∷◌, ◌++◌, length, drop, get_or, cond, nat_lt, ◌||◌, Option, None, Some, Result, Ok, Err, is_err, IsErr, IfOk, slice_get, subst, refl, ap, sym, ◌∙◌, arith, add-one, append_assoc, MatchBool}
 use Rattle.std.proofs.Math.Seq.{drop-cons}
 use Rattle.std.proofs.lemmas.Bool.Decides.{nat_tests}
 use Rattle.std.proofs.lemmas.Option.{get_or_from_slice_get, slice_get_past}
@@ -14,7 +14,8 @@ use Rattle.bay_io.specs.Watched.{Writing}
 use Rattle.bay_io.specs.declared.outbox.WriteFault.{WriteFault}
 use Rattle.bay_nodes.specs.declared.switch.Switch.{Switch}
 use Rattle.bay_report.specs.Lines.{command_text, commands_text, send_text, sends_text, switch_part, switches_text}
-use Rattle.bay_report.specs.Report.{Printed, Prints}
+use Rattle.bay_report.specs.LogLines.{IsTold, LogsSome, PrintsLogs}
+use Rattle.bay_report.specs.Report.{IsLast, Printed, Prints}
 use Rattle.bay_services.specs.declared.answer.Command.{Command}
 
 within : (ss : List Switch) (j : ℕ) → j < length ss → (x : Switch) × (slice_get ss j ≡ Some x)
@@ -185,6 +186,53 @@ Prints-weaker contents asks May Might old new r wider p =
       asked = p.asked;
       same_logs = p.same_logs;
     }
+
+-- ---- with a line for the log
+
+module _ {W : Type 0} {contents : W → Option (List ℕ)} {asks : W → WriteCall → W → Type 0}
+    {May : Option (List ℕ) → List ℕ → ℕ → Type 0} {old new : Writing W} where
+  -- where none goes with the text nothing is logged
+  pub Prints-alone : (r : Result ℕ WriteFault) → Prints contents asks (May None) old new r
+      → PrintsLogs contents asks May old new r
+  Prints-alone (Ok status) p = record { line = None; between = new; printed = p; logged = refl }
+  Prints-alone (Err fault) p = record { line = None; between = new; printed = p; logged = refl }
+
+  pub PrintsLogs-weaker : (Might : Option (List ℕ) → List ℕ → ℕ → Type 0) (r : Result ℕ WriteFault)
+      → ((line : Option (List ℕ)) (text : List ℕ) (status : ℕ) → May line text status
+      → Might line text status) → PrintsLogs contents asks May old new r
+      → PrintsLogs contents asks Might old new r
+  PrintsLogs-weaker Might r wider p = record {
+    line = p.line;
+    between = p.between;
+    printed = Prints-weaker contents asks (May p.line) (Might p.line) old p.between r (wider p.line)
+        p.printed;
+    logged = p.logged;
+  }
+
+module _ {W : Type 0} {contents : W → Option (List ℕ)} {asks : W → WriteCall → W → Type 0}
+    {last : List ℕ} {status : ℕ} {old between : Writing W} where
+  -- a text goes with its line
+  pub with-line : {r : Result ℕ WriteFault} (line : Option (List ℕ))
+      → Prints contents asks (IsLast last status) old between r
+      → Prints contents asks (IsTold line last status line) old between r
+  with-line {r} line p = Prints-weaker contents asks (IsLast last status)
+      (IsTold line last status line) old between r (λ text answered told. (refl, told)) p
+
+  -- a text was printed, and its line was logged
+  pub PrintsLogs-told : {new : Writing W} (line : Option (List ℕ)) (answered : ℕ)
+      → Prints contents asks (IsLast last status) old between (Ok answered)
+      → LogsSome contents asks between line new
+      → PrintsLogs contents asks (IsTold line last status) old new (Ok answered)
+  PrintsLogs-told line answered p logged =
+      record { line = line; between = between; printed = with-line line p; logged = logged }
+
+  -- it could not be printed
+  pub PrintsLogs-cut : (line : Option (List ℕ)) (fault : WriteFault) (r : Result ℕ WriteFault)
+      → IsErr r → Prints contents asks (IsLast last status) old between (Err fault)
+      → PrintsLogs contents asks (IsTold line last status) old between r
+  PrintsLogs-cut line fault (Ok answered) is p = absurd cc
+  PrintsLogs-cut line fault (Err f) is p =
+      record { line = line; between = between; printed = with-line line p; logged = refl }
 
 -- a fault is answered where a write or a flush failed
 pub Prints-fault : {W : Type 0} {contents : W → Option (List ℕ)} {asks : W → WriteCall → W → Type 0}

@@ -1,6 +1,6 @@
 -- The device that the octets of a bay file and of a program or an image load to, or why they are
 -- refused.
-use Rattle.std.specs.Prelude.{◌≡◌, ℕ, List, Result, Ok, Err, if◌then◌else◌}
+use Rattle.std.specs.Prelude.{◌≡◌, ◌⊎◌, ℕ, List, Result, Ok, Err, if◌then◌else◌}
 use Rattle.std.specs.Str.{is_utf8}
 use Rattle.bay_config.specs.Bay.{bay_of}
 use Rattle.bay_config.specs.declared.bay.Bay.{Bay}
@@ -15,6 +15,7 @@ use Rattle.il_image.specs.Images.{Image as Code}
 use Rattle.bay_device.specs.Device.{State}
 use Rattle.bay_device.specs.Load.{IsCompiled, of_bay, Loads}
 use Rattle.bay_device.specs.declared.fault.LoadFault.{LoadFault}
+use Rattle.bay_device.specs.declared.fault.LoadFault.TheVariants.{OutOfMemory}
 use Rattle.bay_report.specs.declared.load.Form.{Form}
 use Rattle.bay_report.specs.declared.load.Form.TheVariants.{Logic, Image}
 
@@ -34,6 +35,10 @@ load_of bay logic = of_bay (file_of bay) (text_of logic)
 abbrev pub LoadsTo : List ℕ → Form → List ℕ → Result State LoadFault → Type 0
 LoadsTo bay Logic program loaded = load_of bay program ≡ loaded
 LoadsTo bay Image program loaded = Loads (file_of bay) (image_spelled program) loaded
+
+-- the same; or there is no memory for it
+abbrev pub MayLoadTo : List ℕ → Form → List ℕ → Result State LoadFault → Type 0
+MayLoadTo bay form program loaded = LoadsTo bay form program loaded ⊎ (loaded ≡ Err OutOfMemory)
 
 -- the image that the octets of a program or an image come to on a bay
 abbrev pub IsImageOf : Form → List ℕ → Bay → Code → Type 0

@@ -1,5 +1,5 @@
--- What is logged of a fault.
-use Rattle.std.specs.Prelude.{◌≡◌, ℕ, ◌==◌, List, [], ◌++◌, codes, Option, None, Some, Result, if◌then◌else◌}
+-- What is logged of a fault, and printed before it.
+use Rattle.std.specs.Prelude.{◌≡◌, ℕ, ◌==◌, List, [], ◌++◌, codes, Option, None, Some, Result, MatchResult, if◌then◌else◌}
 use Rattle.std.specs.Fmt.{decimal}
 use Rattle.std.specs.declared.io.ErrorKind.{ErrorKind}
 use Rattle.std.specs.declared.io.ErrorKind.TheVariants as kind
@@ -11,7 +11,8 @@ use Rattle.bay_io.specs.Watched.{Writing}
 use Rattle.bay_io.specs.declared.input.ReadFault.{ReadFault}
 use Rattle.bay_io.specs.declared.input.ReadFault.TheVariants as unread
 use Rattle.bay_io.specs.declared.outbox.WriteFault.{WriteFault}
-use Rattle.bay_report.specs.Report.{Prints, Refuses, UnreadReport}
+use Rattle.bay_lines.specs.Shown.{shown_text}
+use Rattle.bay_report.specs.Report.{IsLast, Prints, refusal_of}
 
 -- a line is logged, or none
 abbrev pub LogsSome : {W : Type 0} → (W → Option (List ℕ)) → (W → WriteCall → W → Type 0)
@@ -19,13 +20,20 @@ abbrev pub LogsSome : {W : Type 0} → (W → Option (List ℕ)) → (W → Writ
 LogsSome contents asks old None new = new ≡ old
 LogsSome contents asks old (Some line) new = Logs contents asks old line new
 
--- a line is logged, or none, and then a text is printed
-pub record LogsPrints {W : Type 0} (contents : W → Option (List ℕ)) (asks : W → WriteCall → W → Type 0)
-    (line : Option (List ℕ)) (May : List ℕ → ℕ → Type 0) (old new : Writing W)
-    (result : Result ℕ WriteFault) : Type 0 where
+-- A text is printed, and then the line that goes with it is logged, or none. Where it could not be
+-- printed nothing is logged.
+pub record PrintsLogs {W : Type 0} (contents : W → Option (List ℕ))
+    (asks : W → WriteCall → W → Type 0) (May : Option (List ℕ) → List ℕ → ℕ → Type 0)
+    (old new : Writing W) (result : Result ℕ WriteFault) : Type 0 where
+  pub line : Option (List ℕ)
   pub between : Writing W
-  pub logged : LogsSome contents asks old line between
-  pub printed : Prints contents asks May between new result
+  pub printed : Prints contents asks (May line) old between result
+  pub logged : MatchResult result (λ status. LogsSome contents asks between line new)
+      (λ fault. new ≡ between)
+
+-- this line, or none, with this text and this status alone
+abbrev pub IsTold : Option (List ℕ) → List ℕ → ℕ → Option (List ℕ) → List ℕ → ℕ → Type 0
+IsTold logged last answered line text status = (line ≡ logged) × IsLast last answered text status
 
 -- ---- files
 
@@ -47,13 +55,15 @@ unread_line name (unread.Failed kind) =
     Some (codes "bayctl: fault 121: " ++ (name ++ (codes ": " ++ (kind_words kind ++ codes "\n"))))
 unread_line name unread.OutOfMemory = None
 
--- A file that can't be read, of those that have such a name: that is logged by its name, and printed.
-pub record TellsUnread {W : Type 0} (contents : W → Option (List ℕ)) (asks : W → WriteCall → W → Type 0)
-    (IsName : List ℕ → Type 0) (fault : ReadFault) (old new : Writing W)
-    (result : Result ℕ WriteFault) : Type 0 where
-  pub name : List ℕ
-  pub is : IsName name
-  pub told : LogsPrints contents asks (unread_line name fault) (UnreadReport fault) old new result
+-- what is printed for it
+abbrev pub unread_text : ReadFault → List ℕ
+unread_text unread.TooLong = codes "fault 121\n"
+unread_text (unread.Failed kind) = codes "fault 121\n"
+unread_text unread.OutOfMemory = codes "fault memory\n"
+
+-- the line, the text and the status of a file that can't be read, by its name
+abbrev pub UnreadReport : List ℕ → ReadFault → Option (List ℕ) → List ℕ → ℕ → Type 0
+UnreadReport name fault = IsTold (unread_line name fault) (unread_text fault) 3
 
 -- ---- loads
 
@@ -106,6 +116,18 @@ refused_line (Refused code line) =
     ++ ((if line == 0 then [] else codes " line " ++ decimal line)
     ++ (codes ": " ++ (fault_words code ++ codes "\n")))))
 refused_line OutOfMemory = None
+
+-- the line, the text and the status of a refused load
+abbrev pub Refuses : LoadFault → Option (List ℕ) → List ℕ → ℕ → Type 0
+Refuses fault = IsTold (refused_line fault) (refusal_of fault) 1
+
+-- ---- traces
+
+-- the line of a line of a trace that can't be read, by its number
+abbrev pub unreadable_line : ℕ → List ℕ → List ℕ
+unreadable_line k line =
+    codes "bayctl: fault 120 line " ++ (decimal k
+    ++ (codes ": " ++ (shown_text line ++ codes "\n")))
 
 -- ---- writing
 

@@ -5,8 +5,6 @@ use Rattle.bay_device.specs.declared.fault.LoadFault.{LoadFault}
 use Rattle.bay_device.specs.declared.report.Report.{Report}
 use Rattle.bay_io.specs.Sent.{SendsPart}
 use Rattle.bay_io.specs.Watched.{Writing}
-use Rattle.bay_io.specs.declared.input.ReadFault.TheVariants as unread
-use Rattle.bay_io.specs.declared.input.ReadFault.{ReadFault}
 use Rattle.bay_io.specs.declared.outbox.WriteFault.{WriteFault}
 use Rattle.std.specs.Fmt.{decimal}
 use Rattle.std.specs.Io.KnownBytes.{Appends}
@@ -29,10 +27,6 @@ abbrev pub report_text : Report → List ℕ
 report_text report =
     codes "instructions=" ++ decimal report.instructions ++ codes " depth="
     ++ decimal report.depth ++ codes " budget=" ++ (decimal report.budget ++ codes "\n")
-
--- the text and the status of a refused load
-abbrev pub Refuses : LoadFault → List ℕ → ℕ → Type 0
-Refuses fault text status = (text ≡ refusal_of fault) × (status ≡ 1)
 
 -- the writer took what was pending and a whole text of those that may be printed
 pub record Reports (May : List ℕ → ℕ → Type 0) (pending : List ℕ) (old new : Option (List ℕ))
@@ -71,9 +65,3 @@ pub record Prints {W : Type 0} (contents : W → Option (List ℕ)) (asks : W �
   pub printed : Printed contents May old new result
   pub asked : Asked (Unlogged asks) write_failed old.inner old.has_failed new.inner new.has_failed
   pub same_logs : new.logs ≡ old.logs
-
--- the text and the status where a file can't be read
-abbrev pub UnreadReport : ReadFault → List ℕ → ℕ → Type 0
-UnreadReport unread.TooLong text status = IsLast (codes "fault 121\n") 3 text status
-UnreadReport (unread.Failed kind) text status = IsLast (codes "fault 121\n") 3 text status
-UnreadReport unread.OutOfMemory text status = IsLast (codes "fault memory\n") 3 text status

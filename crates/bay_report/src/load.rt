@@ -7,7 +7,7 @@ ghost use Rattle.il_image.specs.Decoding.{image_spelled};
 ghost use Rattle.bay_device.specs.Entries.{IsIdle};
 ghost use Rattle.bay_device.specs.Load.{IsCompiled, IsLoaded, of_bay, Loads};
 ghost use Rattle.bay_device.specs.declared.fault.LoadFault.TheVariants.{OutOfMemory};
-ghost use Rattle.bay_report.specs.Load.{file_of, text_of, load_of, IsImageOf, LoadsTo};
+ghost use Rattle.bay_report.specs.Load.{file_of, text_of, load_of, IsImageOf, LoadsTo, MayLoadTo};
 ghost use Rattle.il_text.specs.declared.fault.TextFault.TheVariants.{BadToken};
 
 use bay_config::fault::BayFault;
@@ -102,8 +102,7 @@ pub fn load_program(
     program: &[u8],
 ) -> Result<Device, LoadFault>
     ensures ok { IfOk result (λ device. LoadsTo bay.now form program.now (Ok device)) }
-    ensures refused { IfErr result
-        (λ e. e ≢ OutOfMemory → LoadsTo bay.now form program.now (Err e)) }
+    ensures refused { IfErr result (λ e. MayLoadTo bay.now form program.now (Err e)) }
     // It is the device of the bay as which the file reads, and of the program's image.
     ensures loaded { IfOk result (IsLoaded (file_of bay.now) (IsImageOf form program.now)) }
     // Nothing is selected, and no association is open; each switch that can be operated takes some

@@ -1,16 +1,17 @@
 // What is logged of a fault: one line, in the form `bayctl: FAULT: WHAT`.
-ghost use Rattle.std.specs.Prelude.{◌≡◌, None, Some};
+ghost use Rattle.std.specs.Prelude.{◌≡◌, None, Some, codes};
+ghost use Rattle.bay_io.specs.Calls.{parts_text};
 ghost use Rattle.bay_io.specs.Sent.{Logs};
-ghost use Rattle.bay_report.specs.LogLines.{LogsPrints, LogsSome, refused_line, unread_line, unwritten_line};
+ghost use Rattle.bay_report.specs.LogLines.{IsTold, LogsSome, PrintsLogs, Refuses, UnreadReport, refused_line, unreadable_line, unwritten_line};
 ghost use Rattle.bay_report.specs.LogLines as spec;
-ghost use Rattle.bay_report.specs.Report.{Refuses, UnreadReport};
 
-use crate::output::{write_refusal, write_unread};
+use crate::output::{FAULT, NO_MEMORY, write_refusal, write_text};
 use bay_device::fault::LoadFault;
 use bay_io::calls::{Part, Sink};
 use bay_io::input::ReadFault;
 use bay_io::outbox::WriteFault;
 use bay_io::writer::WatchedWriter;
+use bay_lines::shown::Shown;
 use std::io::ErrorKind;
 
 /// Returns why the system can't read, in words.
@@ -74,27 +75,6 @@ fn fault_words(code: u8) -> &'static [u8]
     }
 }
 
-/// Logs why a file can't be read.
-fn log_unread<W: Sink>(writer: &mut WatchedWriter<W>, name: &str, fault: &ReadFault)
-    ensures { LogsSome W.contents W.does writer.old (unread_line name.now fault.now) writer.new }
-{
-    let what = Part::Text(name.as_bytes());
-    match fault {
-        ReadFault::OutOfMemory => {}
-        ReadFault::TooLong => {
-            let why = Part::Text(b": it is longer than 16,777,216 bytes\n");
-            writer.log(&[Part::Text(b"bayctl: fault 121: "), what, why]);
-        }
-        ReadFault::Failed(kind) => writer.log(&[
-            Part::Text(b"bayctl: fault 121: "),
-            what,
-            Part::Text(b": "),
-            Part::Text(kind_words(*kind)),
-            Part::Text(b"\n"),
-        ]),
-    }
-}
-
 /// Logs why a load is refused.
 fn log_refusal<W: Sink>(writer: &mut WatchedWriter<W>, fault: LoadFault)
     ensures { LogsSome W.contents W.does writer.old (refused_line fault) writer.new }
@@ -135,27 +115,76 @@ pub fn log_unwritten<W: Sink>(writer: &mut WatchedWriter<W>, name: &str)
     writer.log(&[Part::Text(b"bayctl: fault 122: "), what, why]);
 }
 
-/// Logs why a file can't be read, and writes that it can't.
+/// Logs a line of a trace that can't be read, by its number.
+pub fn log_unreadable<W: Sink>(writer: &mut WatchedWriter<W>, number: usize, line: &[u8])
+    ensures { Logs W.contents W.does writer.old (unreadable_line number line.now) writer.new }
+{
+    let line = Shown::new(line);
+    writer.log(&[
+        Part::Text(b"bayctl: fault 120 line "),
+        Part::Number(number as u64),
+        Part::Text(b": "),
+        Part::Text(line.as_slice()),
+        Part::Text(b"\n"),
+    ]);
+}
+
+/// Writes a text as the whole output, and then logs the line of these parts.
+pub fn tell_text<W: Sink>(
+    writer: &mut WatchedWriter<W>,
+    text: &[u8],
+    status: u8,
+    parts: &[Part<'_>],
+) -> Result<u8, WriteFault>
+    ensures { PrintsLogs W.contents W.does (IsTold (Some (parts_text parts.now)) text.now status)
+        writer.old writer.new result }
+{
+    let status = write_text(writer, text, status)?;
+    writer.log(parts);
+    Ok(status)
+}
+
+/// Writes that memory has run out.
+pub fn tell_memory<W: Sink>(writer: &mut WatchedWriter<W>) -> Result<u8, WriteFault>
+    ensures { PrintsLogs W.contents W.does (IsTold None (codes "fault memory\n") 3) writer.old
+        writer.new result }
+{
+    write_text(writer, NO_MEMORY, FAULT)
+}
+
+/// Writes that a file can't be read, and then logs why.
 pub fn tell_unread<W: Sink>(
     writer: &mut WatchedWriter<W>,
     name: &str,
     fault: ReadFault,
 ) -> Result<u8, WriteFault>
-    ensures { LogsPrints W.contents W.does (unread_line name.now fault) (UnreadReport fault)
-        writer.old writer.new result }
+    ensures { PrintsLogs W.contents W.does (UnreadReport name.now fault) writer.old writer.new
+        result }
 {
-    log_unread(writer, name, &fault);
-    write_unread(fault, writer)
+    let start = Part::Text(b"bayctl: fault 121: ");
+    let what = Part::Text(name.as_bytes());
+    match fault {
+        ReadFault::OutOfMemory => tell_memory(writer),
+        ReadFault::TooLong => {
+            let why = Part::Text(b": it is longer than 16,777,216 bytes\n");
+            tell_text(writer, b"fault 121\n", FAULT, &[start, what, why])
+        }
+        ReadFault::Failed(kind) => {
+            let why = Part::Text(kind_words(kind));
+            let parts = [start, what, Part::Text(b": "), why, Part::Text(b"\n")];
+            tell_text(writer, b"fault 121\n", FAULT, &parts)
+        }
+    }
 }
 
-/// Logs why a load is refused, and writes the line of the refusal.
+/// Writes the line of a refused load, and then logs why it is refused.
 pub fn tell_refusal<W: Sink>(
     writer: &mut WatchedWriter<W>,
     fault: LoadFault,
 ) -> Result<u8, WriteFault>
-    ensures { LogsPrints W.contents W.does (refused_line fault) (Refuses fault) writer.old writer.new
-        result }
+    ensures { PrintsLogs W.contents W.does (Refuses fault) writer.old writer.new result }
 {
+    let status = write_refusal(writer, fault)?;
     log_refusal(writer, fault);
-    write_refusal(writer, fault)
+    Ok(status)
 }

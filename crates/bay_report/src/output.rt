@@ -1,13 +1,12 @@
 // What is written at once, and the status that it stands for.
 ghost use Rattle.std.specs.Prelude.{◌≡◌, IfOk};
 ghost use Rattle.bay_io.specs.Sent.{Finishes};
-ghost use Rattle.bay_report.specs.Report.{IsLast, Prints, Refuses, UnreadReport, report_text};
+ghost use Rattle.bay_report.specs.Report.{IsLast, Prints, refusal_of, report_text};
 
 use crate::report::{put_load_refusal, put_report};
 use bay_device::fault::LoadFault;
 use bay_device::report::Report;
 use bay_io::calls::Sink;
-use bay_io::input::ReadFault;
 use bay_io::outbox::WriteFault;
 use bay_io::writer::WatchedWriter;
 
@@ -46,11 +45,11 @@ pub fn write_text<W: Sink>(
 }
 
 /// Writes the line of a refused load.
-pub fn write_refusal<W: Sink>(
+pub(crate) fn write_refusal<W: Sink>(
     writer: &mut WatchedWriter<W>,
     fault: LoadFault,
 ) -> Result<u8, WriteFault>
-    ensures { Prints W.contents W.does (Refuses fault) writer.old writer.new result }
+    ensures { Prints W.contents W.does (IsLast (refusal_of fault) 1) writer.old writer.new result }
 {
     put_load_refusal(writer, fault);
     finish(writer, REFUSED)
@@ -66,18 +65,4 @@ pub fn write_report<W: Sink>(
 {
     put_report(writer, report);
     finish(writer, CLEAN)
-}
-
-/// Writes why a file could not be read.
-pub fn write_unread<W: Sink>(
-    fault: ReadFault,
-    writer: &mut WatchedWriter<W>,
-) -> Result<u8, WriteFault>
-    ensures { Prints W.contents W.does (UnreadReport fault) writer.old writer.new result }
-{
-    match fault {
-        ReadFault::OutOfMemory => write_text(writer, NO_MEMORY, FAULT),
-        ReadFault::TooLong => write_text(writer, b"fault 121\n", FAULT),
-        ReadFault::Failed(_) => write_text(writer, b"fault 121\n", FAULT),
-    }
 }
