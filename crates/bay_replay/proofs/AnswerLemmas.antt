@@ -1,17 +1,22 @@
 -- What is done at a line of the trace.
 use Rattle.bay_io.specs.Calls.{WriteCall}
-use Rattle.std.proofs.Common.{◌≡◌, ℕ, ◌<◌, nat_lt, Bool, true, false, cond, List, Option, None, arith, refl, ap, subst, ◌∙◌}
+use Rattle.std.proofs.Common.{◌≡◌, ℕ, ◌<◌, nat_lt, Bool, true, false, cond, List, Option, None, Some, option_map, is_none, if◌then◌else◌, Result, Ok, Err, IsErr, arith, refl, sym, ap, subst, ◌∙◌}
 use Rattle.std.proofs.lemmas.Bool.Decides.{nat_tests}
 use Rattle.bay_device.specs.Device.{State}
 use Rattle.bay_device.specs.Outcomes.{Outcome, outcome}
 use Rattle.bay_device.specs.declared.event.Event.{Event}
-use Rattle.bay_io.specs.Sent.{Puts}
+use Rattle.bay_io.specs.Sent.{Finishes, Puts}
 use Rattle.bay_io.specs.Watched.{Writing}
-use Rattle.bay_replay.specs.Answering.{Does}
+use Rattle.bay_io.specs.declared.outbox.WriteFault.{WriteFault}
+use Rattle.bay_replay.specs.Answering.{Does, FinishesLogs}
 use Rattle.bay_replay.specs.LineAnswers.{Replaying, event_answer, memory_answer, named_answer, unread}
+use Rattle.bay_replay.specs.Replay.{last_log}
 use Rattle.bay_report.specs.Lines.{step_text}
+use Rattle.bay_report.specs.LogLines.{unreadable_line}
 use Rattle.bay_trace.specs.Placing.{anywhere, count_of, placed_event}
-use Rattle.bay_trace.specs.Trace.{NamedData}
+use Rattle.bay_trace.specs.Trace.{NamedData, trace_line_of}
+use Rattle.bay_trace.specs.TraceView.{line_view}
+use Rattle.bay_trace.specs.declared.trace.TraceLine.{TraceLine}
 use Rattle.bay_trace.proofs.PlacingLemmas.{same-anywhere}
 
 -- what an event comes to is told by what is taken for it
@@ -43,3 +48,22 @@ memory-said now event r lt = by_test (nat_lt r.room (count_of event)) refl
         ap (λ v. cond v (memory_answer r)
         (event_answer None now (placed_event r.device event) (count_of event) r)) is
     by_test false is = absurd (grind (arith, nat_tests))
+
+-- ---- the last line of a trace
+
+-- it is logged where it can't be read
+pub last-log : (k : ℕ) (line : List ℕ) (read : Option TraceLine)
+    → option_map line_view read ≡ trace_line_of line
+    → last_log k line ≡ (if is_none read then Some (unreadable_line k line) else None)
+last-log k line None e = rw (sym e) refl
+last-log k line (Some read) e = rw (sym e) refl
+
+-- what is behind it could not be flushed
+pub FinishesLogs-cut : {W : Type 0} {contents : W → Option (List ℕ)}
+    {asks : W → WriteCall → W → Type 0} {status : ℕ} {line : Option (List ℕ)} {old new : Writing W}
+    (fault : WriteFault) (r : Result ℕ WriteFault) → IsErr r
+    → Finishes {X = ℕ} {E = WriteFault} contents asks old new (Err fault)
+    → FinishesLogs contents asks status line old new r
+FinishesLogs-cut fault (Ok answered) is f = absurd cc
+FinishesLogs-cut {new = new} fault (Err e) is f =
+    record { between = new; finishes = f; status_is = tt; logged = refl }

@@ -4,17 +4,16 @@ use Rattle.bay_io.specs.Calls.{ReadCall}
 use Rattle.bay_io.specs.Input.{FailsAs, IsEnded, failed_of, octets_of}
 use Rattle.bay_io.specs.declared.input.ReadFault.{ReadFault}
 use Rattle.bay_io.specs.declared.input.ReadFault.TheVariants.{TooLong, Failed, OutOfMemory}
-use Rattle.bay_replay.specs.Replay.{IsReplay, IsReport}
+use Rattle.bay_replay.specs.Replay.{IsReplay, IsReport, UnreadInput}
 use Rattle.bay_replay.specs.Scenario.{scenario_limit}
 use Rattle.bay_report.proofs.ReportLemmas.{chosen, other}
-use Rattle.bay_report.specs.Report.{UnreadReport}
 
 -- the report of what was read
 pub read-replay : (input : Option (List ℕ)) (scenario : List ℕ) (failed : Bool) → failed ≡ false
     → IfSome input (λ octets. scenario ≡ octets) → length scenario ≤ scenario_limit
-    → (text : List ℕ) (status : ℕ) → IsReport scenario text status
-    → IsReplay input failed text status
-read-replay input scenario failed off is within text status told =
+    → (log : Option (List ℕ)) (text : List ℕ) (status : ℕ) → IsReport scenario log text status
+    → IsReplay input failed log text status
+read-replay input scenario failed off is within log text status told =
     other _ failed off (inl (scenario, is, within, inl told))
 
 -- why it can't be read
@@ -22,16 +21,16 @@ pub unread-replay : (input : Option (List ℕ)) (fault : ReadFault) (failed : Bo
     → failed ≡ failed_of {A = List ℕ} (Err fault)
     → (fault ≡ TooLong → IfSome input (λ octets. scenario_limit < length octets))
     → (fault ≡ OutOfMemory → IfSome input (λ octets. length octets ≤ scenario_limit))
-    → (text : List ℕ) (status : ℕ) → UnreadReport fault text status
-    → IsReplay input failed text status
-unread-replay input TooLong failed off over few text status told =
-    other _ failed off (inr ((told.0, told.1), over refl))
-unread-replay input (Failed kind) failed on over few text status told =
-    chosen _ failed on (told.0, told.1)
-unread-replay None OutOfMemory failed off over few text status told =
-    other _ failed off (inl ([], tt, omega arith, inr (told.0, told.1)))
-unread-replay (Some octets) OutOfMemory failed off over few text status told =
-    other _ failed off (inl (octets, refl, few refl, inr (told.0, told.1)))
+    → (log : Option (List ℕ)) (text : List ℕ) (status : ℕ) → UnreadInput fault log text status
+    → IsReplay input failed log text status
+unread-replay input TooLong failed off over few log text status told =
+    other _ failed off (inr (told, over refl))
+unread-replay input (Failed kind) failed on over few log text status told =
+    chosen _ failed on (kind, told)
+unread-replay None OutOfMemory failed off over few log text status told =
+    other _ failed off (inl ([], tt, omega arith, inr told))
+unread-replay (Some octets) OutOfMemory failed off over few log text status told =
+    other _ failed off (inl (octets, refl, few refl, inr told))
 
 -- what reads gave that came to a fault
 pub gave-too-much : (fault : ReadFault) (calls : List ReadCall) → FailsAs scenario_limit calls fault

@@ -1,5 +1,5 @@
 -- A report is a run.
-use Rattle.std.proofs.Common.{ℕ, List, [], ◌++◌, length, Result, Ok, inl, inr, ap, subst, ◌∙◌}
+use Rattle.std.proofs.Common.{ℕ, List, [], ◌++◌, length, Option, Result, Ok, inl, inr, ap, subst, ◌∙◌}
 use Rattle.std.proofs.lemmas.List.Elements.{All-nil}
 use Rattle.bay_device.specs.Commands.{CommandedAt}
 use Rattle.bay_device.specs.Device.{State, bay_of}
@@ -52,11 +52,12 @@ module _ (bay logic : List ℕ) (first : State)
             (device_after first past) idle.unselected tells;
       }
 
-  pub run-of : (trace text : List ℕ) (status : ℕ) → DeviceReport first (lines_of trace) text status
+  pub run-of : (trace : List ℕ) (log : Option (List ℕ)) (text : List ℕ) (status : ℕ)
+      → DeviceReport first (lines_of trace) log text status
       → IsRun (record { bay = bay; logic = logic; trace = trace }) first text status
-  run-of trace text status told =
+  run-of trace log text status told =
       let e =
-      goes first [] (lines_of trace) [] 0 told.2.0 status tt (All-nil IsBlank) told.2.2 in
+      goes log first [] (lines_of trace) [] 0 told.2.0 status tt (All-nil IsBlank) told.2.2 in
       record {
         loaded = loaded;
         past = e.whole;
@@ -77,10 +78,10 @@ module _ (bay logic : List ℕ) (first : State)
       }
 
 -- What is printed for parts that load is of a run.
-pub of-run : (parts : ScenarioParts) (text : List ℕ) (status : ℕ) → LoadsReport parts text status
-    → IsOfRun parts text status
-of-run parts text status (inl told) first loads =
+pub of-run : (parts : ScenarioParts) (log : Option (List ℕ)) (text : List ℕ) (status : ℕ)
+    → LoadsReport parts log text status → IsOfRun parts log text status
+of-run parts log text status (inl told) first loads =
     inr (run-of parts.bay parts.logic first (loaded-from parts.bay parts.logic first loads)
-    parts.trace text status
-    (subst (λ loaded. LoadReport loaded parts.trace text status) loads told))
-of-run parts text status (inr refused) first loads = inl refused
+    parts.trace log text status
+    (subst (λ loaded. LoadReport loaded parts.trace log text status) loads told))
+of-run parts log text status (inr refused) first loads = inl refused

@@ -11,7 +11,8 @@ use Rattle.bay_trace.specs.Placing.{count_of, placed_event}
 use Rattle.bay_trace.specs.Trace.{LineData, NamedData, at_moment, blank, trace_line_of}
 use Rattle.bay_report.specs.Lines.{step_text}
 use Rattle.bay_replay.specs.LineAnswers.{Choice, LineAnswer, Replaying, event_answer, heard, line_answer, memory_answer, named_answer, unread}
-use Rattle.bay_replay.specs.Replay.{TraceReport}
+use Rattle.bay_report.specs.LogLines.{IsTold}
+use Rattle.bay_replay.specs.Replay.{TraceReport, last_log}
 use Rattle.bay_replay.specs.History.{EachPast, device_after}
 use Rattle.bay_replay.specs.Runs.{AreOfLines, EndsAs, IsBlank, printed_of}
 
@@ -60,26 +61,26 @@ abbrev at : State → List Past → ℕ → Replaying
 at first past room = record { device = device_after first past; room = room }
 
 -- what follows a line
-abbrev Later : State → List (List ℕ) → List (List ℕ) → Type 0
-Later first done lines =
+abbrev Later : Option (List ℕ) → State → List (List ℕ) → List (List ℕ) → Type 0
+Later log first done lines =
     (past : List Past) (room : ℕ) (text : List ℕ) (status : ℕ) → EachPast Steps first past
     → AreOfLines first past done
-    → TraceReport (at first past room) (length done + 1) lines text status
+    → TraceReport (at first past room) (length done + 1) lines log text status
     → Ends first past done lines text status
 
 -- what a line's answer comes to
-abbrev Told : (LineAnswer) → ℕ → List (List ℕ) → List ℕ → ℕ → Type 0
-Told answer k lines text status =
-    MatchBool answer.is_last ((text ≡ answer.text) × (status ≡ 3))
+abbrev Told : List ℕ → LineAnswer → ℕ → List (List ℕ) → Option (List ℕ) → List ℕ → ℕ → Type 0
+Told line answer k lines log text status =
+    MatchBool answer.is_last (IsTold (last_log k line) answer.text 3 log text status)
     ((rest : List ℕ) × (text ≡ answer.text ++ rest)
-    × TraceReport answer.after (k + 1) lines rest status)
+    × TraceReport answer.after (k + 1) lines log rest status)
 
 count-more : (done : List (List ℕ)) (line : List ℕ)
     → length done + 1 + 1 ≡ length (done ++ line ∷ []) + 1
 count-more done line = omega (arith, length-append done (line ∷ []))
 
-module _ (first : State) (done : List (List ℕ)) (line : List ℕ) (lines : List (List ℕ))
-    (later : Later first (done ++ line ∷ []) lines) (past : List Past)
+module _ (log : Option (List ℕ)) (first : State) (done : List (List ℕ)) (line : List ℕ)
+    (lines : List (List ℕ)) (later : Later log first (done ++ line ∷ []) lines) (past : List Past)
     (steps : EachPast Steps first past) (of : AreOfLines first past done) (room : ℕ) where
   -- the trace ends at the line
   stops : (text : List ℕ) (status : ℕ) → EndsAs (length done) (line ∷ lines) text status
@@ -112,12 +113,12 @@ module _ (first : State) (done : List (List ℕ)) (line : List ℕ) (lines : Lis
   }
 
   goes-blank : (text rest : List ℕ) (status : ℕ) → IsBlank line → text ≡ rest
-      → TraceReport (at first past room) (length done + 1 + 1) lines rest status
+      → TraceReport (at first past room) (length done + 1 + 1) lines log rest status
       → Ends first past done (line ∷ lines) text status
   goes-blank text rest status is same told =
       subst (λ t. Ends first past done (line ∷ lines) t status) (sym same)
       (on rest status (later past room rest status steps (blank-more first past done line is of)
-      (subst (λ k. TraceReport (at first past room) k lines rest status) (count-more done line)
+      (subst (λ k. TraceReport (at first past room) k lines log rest status) (count-more done line)
       told)))
 
   module _ (m : ℕ) (named : NamedData) (reads : trace_line_of line ≡ Some (at_moment m named))
@@ -133,8 +134,8 @@ module _ (first : State) (done : List (List ℕ)) (line : List ℕ) (lines : Lis
           { now = m; event = event; answer = (done_by choice).answer; after = (done_by choice).after }
 
       goes-event : (choice : Option ℕ) (text : List ℕ) (status : ℕ)
-          → Told (event_answer choice m event (count_of named) (at first past room)) (length done + 1)
-          lines text status
+          → Told line (event_answer choice m event (count_of named) (at first past room))
+          (length done + 1) lines log text status
           → Ends first past done (line ∷ lines) text status
       goes-event choice text status told =
           let p = new choice in
@@ -155,7 +156,7 @@ module _ (first : State) (done : List (List ℕ)) (line : List ℕ) (lines : Lis
             },
             of,
           )
-          (subst (λ k. TraceReport (at first (p ∷ past) (max room (count_of named))) k lines rest
+          (subst (λ k. TraceReport (at first (p ∷ past) (max room (count_of named))) k lines log rest
           status) (count-more done line) told.2) in
           on text status (record {
             whole = e.whole;
@@ -171,18 +172,18 @@ module _ (first : State) (done : List (List ℕ)) (line : List ℕ) (lines : Lis
           })
 
       goes-room : (b : Bool) (text : List ℕ) (status : ℕ)
-          → Told (cond b (memory_answer (at first past room))
+          → Told line (cond b (memory_answer (at first past room))
           (event_answer None m event (count_of named) (at first past room))) (length done + 1) lines
-          text status
+          log text status
           → Ends first past done (line ∷ lines) text status
       goes-room true text status told =
-          subst (λ t. Ends first past done (line ∷ lines) t status) (sym told.0)
-          (stops (codes "fault memory\n") status (inr refl, told.1))
+          subst (λ t. Ends first past done (line ∷ lines) t status) (sym told.1.0)
+          (stops (codes "fault memory\n") status (inr refl, told.1.1))
       goes-room false text status told = goes-event None text status told
 
       goes-named : (choice : Choice) (text : List ℕ) (status : ℕ)
-          → Told (named_answer choice m named (at first past room)) (length done + 1) lines text
-          status
+          → Told line (named_answer choice m named (at first past room)) (length done + 1) lines log
+          text status
           → Ends first past done (line ∷ lines) text status
       goes-named unread text status told =
           goes-room (nat_lt room (count_of named)) text status told
@@ -190,17 +191,19 @@ module _ (first : State) (done : List (List ℕ)) (line : List ℕ) (lines : Lis
 
   goes-line : (choice : Choice) (d : Option LineData) (text : List ℕ) (status : ℕ)
       → trace_line_of line ≡ d
-      → Told (line_answer choice (length done + 1) d (at first past room)) (length done + 1) lines
-      text status
+      → Told line (line_answer choice (length done + 1) d (at first past room)) (length done + 1)
+      lines log text status
       → Ends first past done (line ∷ lines) text status
-  goes-line choice None text status is told = stops text status (inl (is, told.0), told.1)
+  goes-line choice None text status is told =
+      stops text status (inl (is, told.1.0), told.1.1)
   goes-line choice (Some blank) text status is told =
       goes-blank text told.0 status is told.1 told.2
   goes-line choice (Some (at_moment m named)) text status is told =
       goes-named m named is choice text status told
 
-pub goes : (first : State) (done lines : List (List ℕ)) → Later first done lines
-goes first done [] past room text status steps of told = record {
+pub goes : (log : Option (List ℕ)) (first : State) (done lines : List (List ℕ))
+    → Later log first done lines
+goes log first done [] past room text status steps of told = record {
   whole = past;
   steps = steps;
   all = done;
@@ -208,9 +211,9 @@ goes first done [] past room text status steps of told = record {
   split = refl;
   events = of;
   ending = [];
-  ends = (refl, told.1);
-  printed = ap (λ t. printed_of past ++ t) told.0;
+  ends = (refl, told.1.1);
+  printed = ap (λ t. printed_of past ++ t) told.1.0;
 }
-goes first done (line ∷ lines) past room text status steps of told =
-    goes-line first done line lines (goes first (done ++ line ∷ []) lines) past steps of room
+goes log first done (line ∷ lines) past room text status steps of told =
+    goes-line log first done line lines (goes log first (done ++ line ∷ []) lines) past steps of room
     told.0 (trace_line_of line) text status refl told.1

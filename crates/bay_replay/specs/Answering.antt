@@ -1,13 +1,15 @@
 -- How a line of the trace is answered: with which choice, and by which steps.
 use Rattle.bay_io.specs.Calls.{WriteCall}
-use Rattle.std.specs.Prelude.{◌≡◌, ℕ, Bool, false, List, Option}
+use Rattle.std.specs.Prelude.{◌≡◌, ℕ, Bool, false, List, Option, Result, IfOk, MatchResult}
 use Rattle.bay_device.specs.Device.{State}
 use Rattle.bay_device.specs.Outcomes.{outcome}
 use Rattle.bay_device.specs.declared.event.Event.{Event}
-use Rattle.bay_io.specs.Sent.{Puts}
+use Rattle.bay_io.specs.Sent.{Finishes, Puts}
 use Rattle.bay_io.specs.Watched.{Writing}
+use Rattle.bay_io.specs.declared.outbox.WriteFault.{WriteFault}
 use Rattle.bay_replay.specs.LineAnswers.{Choice, LineAnswer, Replaying}
 use Rattle.bay_report.specs.Lines.{step_text}
+use Rattle.bay_report.specs.LogLines.{LogsSome}
 
 -- an event was done, and what is printed for it was put into the writer
 pub record Does {W : Type 0} (contents : W → Option (List ℕ)) (asks : W → WriteCall → W → Type 0)
@@ -29,3 +31,14 @@ pub record Answers {W : Type 0} (contents : W → Option (List ℕ)) (asks : W �
   pub text : Puts contents asks old (said choice).text new
   pub last : is_last ≡ (said choice).is_last
   pub left_is : is_last ≡ false → after ≡ (said choice).after
+
+-- a writer was flushed, with this status, and then a line was logged, or none; after a failure
+-- nothing was
+pub record FinishesLogs {W : Type 0} (contents : W → Option (List ℕ))
+    (asks : W → WriteCall → W → Type 0) (status : ℕ) (line : Option (List ℕ)) (old new : Writing W)
+    (result : Result ℕ WriteFault) : Type 0 where
+  pub between : Writing W
+  pub finishes : Finishes contents asks old between result
+  pub status_is : IfOk result (λ answered. answered ≡ status)
+  pub logged : MatchResult result (λ answered. LogsSome contents asks between line new)
+      (λ fault. new ≡ between)

@@ -1,6 +1,6 @@
--- What is printed for a scenario, and with which status.
+-- What is printed for a scenario, with which status, and which line is logged then, if any.
 use Rattle.bay_io.specs.Calls.{AskedFew, ReadCall, WriteCall, read_failed, some_call, write_failed}
-use Rattle.std.specs.Prelude.{◌≡◌, ℕ, ◌+◌, ◌≤◌, ◌<◌, Bool, false, List, ◌∷◌, ◌++◌, length, codes, Option, None, Some, IfSome, Result, Ok, Err, is_err, ◌⊎◌, MatchBool, []}
+use Rattle.std.specs.Prelude.{◌≡◌, ℕ, ◌+◌, ◌≤◌, ◌<◌, Bool, false, List, ◌∷◌, ◌++◌, length, codes, Option, None, Some, is_none, IfSome, Result, Ok, Err, is_err, ◌⊎◌, MatchBool, if◌then◌else◌, []}
 use Rattle.bay_device.specs.Device.{State}
 use Rattle.bay_device.specs.Report.{IsReport as IsReportOf}
 use Rattle.bay_device.specs.declared.report.Report.{Report}
@@ -11,68 +11,88 @@ use Rattle.bay_replay.specs.Scenario.{ScenarioParts, scenario_of, scenario_limit
 use Rattle.bay_report.specs.TextLines.{lines_of}
 use Rattle.bay_io.specs.Input.{IsEnded, octets_of}
 use Rattle.bay_io.specs.Watched.{Reading, Writing}
+use Rattle.bay_io.specs.declared.input.ReadFault.{ReadFault}
+use Rattle.bay_io.specs.declared.input.ReadFault.TheVariants as unread
 use Rattle.bay_io.specs.declared.outbox.WriteFault.{WriteFault}
+use Rattle.std.specs.declared.io.ErrorKind.{ErrorKind}
 use Rattle.bay_trace.specs.Trace.{trace_line_of}
 use Rattle.bay_device.specs.declared.fault.LoadFault.{LoadFault}
 use Rattle.bay_device.specs.declared.fault.LoadFault.TheVariants.{OutOfMemory}
-use Rattle.bay_report.specs.Report.{Prints, Refuses, report_text}
+use Rattle.bay_report.specs.LogLines.{IsTold, PrintsLogs, Refuses, UnreadReport, unreadable_line}
+use Rattle.bay_report.specs.Report.{report_text}
 
-abbrev pub ran_out : List ℕ → ℕ → Type 0
-ran_out text status = (text ≡ codes "fault memory\n") × (status ≡ 3)
+-- what a trace's last line is logged as, which is line k: one that can't be read is
+abbrev pub last_log : ℕ → List ℕ → Option (List ℕ)
+last_log k line = if is_none (trace_line_of line) then Some (unreadable_line k line) else None
 
--- the text and the status for the lines of a trace, from line k on: for each line there is a choice
--- with which its answer is printed, one after the other up to a line that can't be read, or for
--- which there is no memory
-abbrev pub TraceReport : Replaying → ℕ → List (List ℕ) → List ℕ → ℕ → Type 0
-TraceReport r k [] text status = (text ≡ []) × (status ≡ 0)
-TraceReport r k (line ∷ lines) text status =
+-- the line for the log, the text and the status for the lines of a trace, from line k on: for each
+-- line there is a choice with which its answer is printed, one after the other up to a line that
+-- can't be read, or for which there is no memory
+abbrev pub TraceReport : Replaying → ℕ → List (List ℕ) → Option (List ℕ) → List ℕ → ℕ → Type 0
+TraceReport r k [] log text status = IsTold None [] 0 log text status
+TraceReport r k (line ∷ lines) log text status =
     (choice : Choice) × (let answer = line_answer choice k (trace_line_of line) r in
-    MatchBool answer.is_last ((text ≡ answer.text) × (status ≡ 3))
+    MatchBool answer.is_last (IsTold (last_log k line) answer.text 3 log text status)
     ((rest : List ℕ) × (text ≡ answer.text ++ rest)
-    × TraceReport answer.after (k + 1) lines rest status))
+    × TraceReport answer.after (k + 1) lines log rest status))
 
--- the text and the status of a device and its trace: the line of its load, and behind it what its
--- lines are answered; there is no room for octets at first
-abbrev pub DeviceReport : State → List (List ℕ) → List ℕ → ℕ → Type 0
-DeviceReport s lines text status =
+-- the same for a device and its trace: the line of its load is printed, and behind it what its lines
+-- are answered; there is no room for octets at first
+abbrev pub DeviceReport : State → List (List ℕ) → Option (List ℕ) → List ℕ → ℕ → Type 0
+DeviceReport s lines log text status =
     (report : Report) × IsReportOf s.machine.image report
     × ((rest : List ℕ) × (text ≡ report_text report ++ rest)
-    × TraceReport (record { device = s; room = 0 }) 1 lines rest status)
+    × TraceReport (record { device = s; room = 0 }) 1 lines log rest status)
 
--- the text and the status after a load
-abbrev pub LoadReport : Result State LoadFault → List ℕ → List ℕ → ℕ → Type 0
-LoadReport (Err fault) trace text status = Refuses fault text status
-LoadReport (Ok device) trace text status = DeviceReport device (lines_of trace) text status
+-- after a load
+abbrev pub LoadReport : Result State LoadFault → List ℕ → Option (List ℕ) → List ℕ → ℕ → Type 0
+LoadReport (Err fault) trace log text status = Refuses fault log text status
+LoadReport (Ok device) trace log text status = DeviceReport device (lines_of trace) log text status
 
--- the text and the status of a bay file, a program and a trace; their load may want memory
-abbrev pub LoadsReport : ScenarioParts → List ℕ → ℕ → Type 0
-LoadsReport parts text status = LoadReport (load_of parts.bay parts.logic) parts.trace text status
-    ⊎ Refuses OutOfMemory text status
+-- of a bay file, a program and a trace; their load may want memory
+abbrev pub LoadsReport : ScenarioParts → Option (List ℕ) → List ℕ → ℕ → Type 0
+LoadsReport parts log text status =
+    LoadReport (load_of parts.bay parts.logic) parts.trace log text status
+    ⊎ Refuses OutOfMemory log text status
 
--- The text and the status of a scenario's parts. What these are is said once more by what happens to
--- the device: they are those of a run of it, of which all holds that is proved of a run.
-abbrev pub PartsReport : Option ScenarioParts → List ℕ → ℕ → Type 0
-PartsReport None text status = (text ≡ codes "fault 120 line 0\n") × (status ≡ 3)
-PartsReport (Some parts) text status = LoadsReport parts text status × IsOfRun parts text status
+-- of parts of a scenario, said once more by what happens to the device: where they load, what is
+-- told is of a run of it, of which all holds that is proved of a run
+abbrev pub RunReport : ScenarioParts → Option (List ℕ) → List ℕ → ℕ → Type 0
+RunReport parts log text status =
+    LoadsReport parts log text status × IsOfRun parts log text status
 
--- the text and the status of a scenario
-abbrev pub IsReport : List ℕ → List ℕ → ℕ → Type 0
-IsReport scenario text status = PartsReport (scenario_of scenario) text status
+-- of a scenario's parts
+abbrev pub PartsReport : Option ScenarioParts → Option (List ℕ) → List ℕ → ℕ → Type 0
+PartsReport None =
+    IsTold (Some (codes "bayctl: fault 120 line 0: a line %% is missing
+"))
+    (codes "fault 120 line 0
+") 3
+PartsReport (Some parts) = RunReport parts
 
--- the text and the status for what a reader had, of which no read failed: the report of it, or that
--- memory ran out; a fault where there was too much
-abbrev pub ReadReport : Option (List ℕ) → List ℕ → ℕ → Type 0
-ReadReport input text status =
+-- of a scenario
+abbrev pub IsReport : List ℕ → Option (List ℕ) → List ℕ → ℕ → Type 0
+IsReport scenario = PartsReport (scenario_of scenario)
+
+-- of an input that can't be read
+abbrev pub UnreadInput : ReadFault → Option (List ℕ) → List ℕ → ℕ → Type 0
+UnreadInput = UnreadReport (codes "standard input")
+
+-- of what a reader had, of which no read failed: the report of it, or that memory ran out; a fault
+-- where there was too much
+abbrev pub ReadReport : Option (List ℕ) → Option (List ℕ) → List ℕ → ℕ → Type 0
+ReadReport input log text status =
     ((scenario : List ℕ) × IfSome input (λ octets. scenario ≡ octets)
-    × (length scenario ≤ scenario_limit) × (IsReport scenario text status ⊎ ran_out text status))
-    ⊎ (((text ≡ codes "fault 121\n") × (status ≡ 3))
+    × (length scenario ≤ scenario_limit)
+    × (IsReport scenario log text status ⊎ UnreadInput unread.OutOfMemory log text status))
+    ⊎ (UnreadInput unread.TooLong log text status
     × IfSome input (λ octets. scenario_limit < length octets))
 
--- the text and the status for what a reader had; a fault exactly where a read failed
-abbrev pub IsReplay : Option (List ℕ) → Bool → List ℕ → ℕ → Type 0
-IsReplay input has_failed text status =
-    MatchBool has_failed ((text ≡ codes "fault 121\n") × (status ≡ 3))
-    (ReadReport input text status)
+-- of what a reader had; a fault exactly where a read failed
+abbrev pub IsReplay : Option (List ℕ) → Bool → Option (List ℕ) → List ℕ → ℕ → Type 0
+IsReplay input has_failed log text status =
+    MatchBool has_failed ((kind : ErrorKind) × UnreadInput (unread.Failed kind) log text status)
+    (ReadReport input log text status)
 
 -- What a reader gave was replayed to a writer: a scenario is what at most 16,777,217 reads gave, in
 -- their order, up to the end. That the reader failed is told exactly where one of these reads
@@ -84,7 +104,7 @@ pub record ReplaysReads {R W : Type 0} (does : R → ReadCall → R → Type 0)
       new.has_failed
   pub ended : new.has_failed ≡ false → IsEnded reads.asked.calls
       ⊎ (scenario_limit < length (octets_of reads.asked.calls))
-  pub prints : Prints contents asks
+  pub prints : PrintsLogs contents asks
       (IsReplay (Some (octets_of reads.asked.calls)) new.has_failed) before after result
 
 -- So it was from a source to a sink, which are not used before. A fault is answered exactly where a
@@ -103,4 +123,4 @@ pub record Replays {R W : Type 0} (does : R → ReadCall → R → Type 0)
         logs = false;
         pending = [];
       }) last result
-  pub fault : is_err result ≡ some_call write_failed replays.prints.asked.calls
+  pub fault : is_err result ≡ some_call write_failed replays.prints.printed.asked.calls

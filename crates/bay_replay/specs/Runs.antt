@@ -1,5 +1,5 @@
 -- A report is a run of a device.
-use Rattle.std.specs.Prelude.{ℕ, ◌≡◌, ◌+◌, List, [], ◌∷◌, ◌++◌, All, length, codes, None, Some, Ok, ◌⊎◌}
+use Rattle.std.specs.Prelude.{ℕ, ◌≡◌, ◌+◌, List, [], ◌∷◌, ◌++◌, All, length, codes, Option, None, Some, Ok, ◌⊎◌}
 use Rattle.bay_control.specs.Backing.{AreBacked}
 use Rattle.il_check.specs.Program.{Checked}
 use Rattle.bay_device.specs.Commands.{CommandedAt}
@@ -17,7 +17,8 @@ use Rattle.bay_trace.specs.Placing.{placed_event}
 use Rattle.bay_trace.specs.Trace.{NamedData, at_moment, blank, trace_line_of}
 use Rattle.bay_report.specs.Lines.{step_text, unreadable_text}
 use Rattle.bay_report.specs.Load.{file_of, load_of, text_of}
-use Rattle.bay_report.specs.Report.{Refuses, report_text}
+use Rattle.bay_report.specs.LogLines.{Refuses}
+use Rattle.bay_report.specs.Report.{report_text}
 use Rattle.bay_report.specs.TextLines.{lines_of}
 use Rattle.bay_replay.specs.History.{AllFresh, EachPast, answers_of, device_after, events_of}
 use Rattle.bay_replay.specs.Scenario.{ScenarioParts}
@@ -107,7 +108,7 @@ pub record IsRun (parts : ScenarioParts) (first : State) (text : List ℕ) (stat
 
 -- Where the parts of a scenario load to a device, the text and the status are those of a run of it,
 -- or say that there was no memory for its load.
-abbrev pub IsOfRun : ScenarioParts → List ℕ → ℕ → Type 0
-IsOfRun parts text status =
+abbrev pub IsOfRun : ScenarioParts → Option (List ℕ) → List ℕ → ℕ → Type 0
+IsOfRun parts log text status =
     (first : State) → load_of parts.bay parts.logic ≡ Ok first
-    → Refuses OutOfMemory text status ⊎ IsRun parts first text status
+    → Refuses OutOfMemory log text status ⊎ IsRun parts first text status

@@ -1,7 +1,8 @@
 // Reads a scenario, replays it, and writes its report.
 ghost use Rattle.std.specs.Prelude.{◌+◌, ◌≤◌, length};
-ghost use Rattle.bay_replay.specs.Replay.{DeviceReport, LoadsReport, IsReport, IsReplay, Replays, ReplaysReads};
-ghost use Rattle.bay_report.specs.Report.{Prints};
+ghost use Rattle.bay_replay.specs.Answering.{FinishesLogs};
+ghost use Rattle.bay_replay.specs.Replay.{DeviceReport, LoadsReport, IsReport, IsReplay, Replays, ReplaysReads, last_log};
+ghost use Rattle.bay_report.specs.LogLines.{PrintsLogs};
 ghost use Rattle.bay_replay.specs.Scenario.{scenario_limit};
 ghost use Rattle.bay_report.specs.TextLines.{lines_of};
 ghost use Rattle.bay_replay.specs.ScenarioView.{scenario_view};
@@ -9,20 +10,39 @@ ghost use Rattle.bay_replay.specs.ScenarioView.{scenario_view};
 use crate::answer::answer_line;
 use crate::scenario::{Scenario, cut_scenario};
 use bay_device::device::Device;
-use bay_io::calls::{Sink, Source};
+use bay_io::calls::{Part, Sink, Source};
 use bay_io::input::read_all;
 pub use bay_io::outbox::WriteFault;
 use bay_io::reader::WatchedReader;
 use bay_io::writer::WatchedWriter;
 use bay_report::load::load_octets;
-use bay_report::output::{CLEAN, FAULT, finish, write_refusal, write_text, write_unread};
+use bay_report::log::{log_unreadable, tell_refusal, tell_text, tell_unread};
+use bay_report::output::{CLEAN, FAULT, finish};
 use bay_report::report::put_report;
 use bay_report::text_lines::cut_line;
 use bay_trace::octets::LineOctets;
+use bay_trace::trace::read_trace_line;
 use std::alloc::Global;
 
 /// The maximum number of octets in a scenario.
 const SCENARIO_LIMIT: usize = 16_777_216;
+
+/// Flushes what was written up to the last line, whose number is given, and logs the line if it can't
+/// be read.
+fn end_at<W: Sink>(
+    writer: &mut WatchedWriter<W>,
+    number: usize,
+    line: &[u8],
+) -> Result<u8, WriteFault>
+    ensures { FinishesLogs W.contents W.does 3 (last_log number line.now) writer.old writer.new
+        result }
+{
+    let status = finish(writer, FAULT)?;
+    if read_trace_line(line).is_none() {
+        log_unreadable(writer, number, line);
+    }
+    Ok(status)
+}
 
 /// Writes the line of a device's load and replays a trace on it line by line, writing the report as
 /// it goes.
@@ -33,7 +53,7 @@ fn replay_device<W: Sink>(
     writer: &mut WatchedWriter<W>,
 ) -> Result<u8, WriteFault>
     requires { length trace.now ≤ scenario_limit }
-    ensures { Prints W.contents W.does (DeviceReport device.old (lines_of trace.now)) writer.old
+    ensures { PrintsLogs W.contents W.does (DeviceReport device.old (lines_of trace.now)) writer.old
         writer.new
         result }
 {
@@ -44,7 +64,7 @@ fn replay_device<W: Sink>(
     while !rest.is_empty() {
         let (line, after) = cut_line(rest);
         if answer_line(writer, device, &mut octets, number, line) {
-            return finish(writer, FAULT);
+            return end_at(writer, number, line);
         }
         if writer.has_failed() {
             return Err(WriteFault);
@@ -62,13 +82,13 @@ fn replay_parts<W: Sink>(
     writer: &mut WatchedWriter<W>,
 ) -> Result<u8, WriteFault>
     requires { length scenario.trace.now ≤ scenario_limit }
-    ensures { Prints W.contents W.does (LoadsReport (scenario_view scenario.entry)) writer.old
+    ensures { PrintsLogs W.contents W.does (LoadsReport (scenario_view scenario.entry)) writer.old
         writer.new
         result }
 {
     match load_octets(alloc, scenario.bay, scenario.logic) {
         Ok(mut device) => replay_device(alloc, &mut device, scenario.trace, writer),
-        Err(fault) => write_refusal(writer, fault),
+        Err(fault) => tell_refusal(writer, fault),
     }
 }
 
@@ -79,18 +99,23 @@ fn replay_scenario<W: Sink>(
     writer: &mut WatchedWriter<W>,
 ) -> Result<u8, WriteFault>
     requires { length text.now ≤ scenario_limit }
-    ensures { Prints W.contents W.does (IsReport text.now) writer.old writer.new result }
+    ensures { PrintsLogs W.contents W.does (IsReport text.now) writer.old writer.new result }
 {
     match cut_scenario(text) {
         Some(scenario) => replay_parts(alloc, scenario, writer),
-        None => write_text(writer, b"fault 120 line 0\n", FAULT),
+        None => tell_text(
+            writer,
+            b"fault 120 line 0\n",
+            FAULT,
+            &[Part::Text(b"bayctl: fault 120 line 0: a line %% is missing\n")],
+        ),
     }
 }
 
 /// Reads a scenario from a reader, and writes its report to a writer. Returns the exit status: 0, 1
 /// if the load is refused, or 3 for a fault.
 ///
-/// A scenario of more than 16,777,216 octets is a fault, and so is a failed read. A reader or a
+/// A scenario of more than 16,777,216 octets is a fault, and so is a failed read. A fault is logged. A reader or a
 /// writer that has already failed is not called.
 pub fn replay_watched<R: Source, W: Sink>(
     alloc: Global,
@@ -98,8 +123,9 @@ pub fn replay_watched<R: Source, W: Sink>(
     writer: &mut WatchedWriter<W>,
 ) -> Result<u8, WriteFault>
     // What was written and flushed is a whole text of the report, and the status is the report's;
-    // or a write or a flush has failed, and a front of such a text was written.
-    ensures printed { Prints W.contents W.does
+    // or a write or a flush has failed, and a front of such a text was written. Behind a whole text
+    // the line that goes with it is logged, if there is one.
+    ensures printed { PrintsLogs W.contents W.does
         (IsReplay (R.remaining reader.old.inner) reader.new.has_failed) writer.old writer.new
         result }
     ensures reads { reader.new.reads ≤ reader.old.reads + scenario_limit + 1 }
@@ -109,7 +135,7 @@ pub fn replay_watched<R: Source, W: Sink>(
 {
     match read_all(alloc, reader, SCENARIO_LIMIT) {
         Ok(input) => replay_scenario(alloc, input.as_slice(), writer),
-        Err(fault) => write_unread(fault, writer),
+        Err(fault) => tell_unread(writer, "standard input", fault),
     }
 }
 

@@ -222,13 +222,13 @@ module _ {A : Type 0} (read : List ℕ → Option A)
     abbrev OfReport : List ℕ → List ℕ → ℕ → Type 0
     OfReport scenario text status = HasNone read text ⊎ IsOf Are scenario text status
 
-    by-load : (scenario : List ℕ) (parts : ScenarioParts) (text : List ℕ) (status : ℕ)
-        (loaded : Result State LoadFault) → scenario_of scenario ≡ Some parts
-        → load_of parts.bay parts.logic ≡ loaded → LoadReport loaded parts.trace text status
+    by-load : (scenario : List ℕ) (parts : ScenarioParts) (log : Option (List ℕ))
+        (text : List ℕ) (status : ℕ) (loaded : Result State LoadFault) → scenario_of scenario ≡ Some parts
+        → load_of parts.bay parts.logic ≡ loaded → LoadReport loaded parts.trace log text status
         → OfReport scenario text status
-    by-load scenario parts text status (Ok first) cut is told =
+    by-load scenario parts log text status (Ok first) cut is told =
         let run : IsRun parts first text status =
-        run-of parts.bay parts.logic first (loaded-from parts.bay parts.logic first is) parts.trace
+        run-of parts.bay parts.logic first (loaded-from parts.bay parts.logic first is) parts.trace log
         text status told in
         inr (record {
           parts = parts;
@@ -237,22 +237,23 @@ module _ {A : Type 0} (read : List ℕ → Option A)
           run = run;
           are = run-are parts first text status run;
         })
-    by-load scenario parts text status (Err fault) cut is told =
-        inl (none-read text (subst (AreLines IsOther) (sym told.0) (refused-lines fault)))
+    by-load scenario parts log text status (Err fault) cut is told =
+        inl (none-read text (subst (AreLines IsOther) (sym told.1.0) (refused-lines fault)))
 
-    by-parts : (scenario : List ℕ) (o : Option ScenarioParts) (text : List ℕ) (status : ℕ)
-        → scenario_of scenario ≡ o → PartsReport o text status → OfReport scenario text status
-    by-parts scenario None text status cut told =
-        inl (none-read text (subst (AreLines IsOther) (sym told.0) no-parts-lines))
-    by-parts scenario (Some parts) text status cut (inl told, run) =
-        by-load scenario parts text status (load_of parts.bay parts.logic) cut refl told
-    by-parts scenario (Some parts) text status cut (inr refused, run) =
+    by-parts : (scenario : List ℕ) (o : Option ScenarioParts) (log : Option (List ℕ))
+        (text : List ℕ) (status : ℕ)
+        → scenario_of scenario ≡ o → PartsReport o log text status → OfReport scenario text status
+    by-parts scenario None log text status cut told =
+        inl (none-read text (subst (AreLines IsOther) (sym told.1.0) no-parts-lines))
+    by-parts scenario (Some parts) log text status cut (inl told, run) =
+        by-load scenario parts log text status (load_of parts.bay parts.logic) cut refl told
+    by-parts scenario (Some parts) log text status cut (inr refused, run) =
         inl (none-read text
-        (subst (AreLines IsOther) (sym refused.0) (refused-lines OutOfMemory)))
+        (subst (AreLines IsOther) (sym refused.1.0) (refused-lines OutOfMemory)))
 
     pub of-each : OfEach read Are
-    of-each scenario text status told =
-        by-parts scenario (scenario_of scenario) text status refl told
+    of-each scenario log text status told =
+        by-parts scenario (scenario_of scenario) log text status refl told
 
 -- ---- the line of a command
 

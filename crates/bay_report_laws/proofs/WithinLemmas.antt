@@ -240,24 +240,26 @@ run-within parts first text status run line scan at is =
       each-line whole (none-within b [] refl) line at scan is,
     )
 
-by-load : (parts : ScenarioParts) (text : List ℕ) (status : ℕ) (loaded : Result State LoadFault)
-    → load_of parts.bay parts.logic ≡ loaded → LoadReport loaded parts.trace text status
+by-load : (parts : ScenarioParts) (log : Option (List ℕ)) (text : List ℕ) (status : ℕ)
+    (loaded : Result State LoadFault) → load_of parts.bay parts.logic ≡ loaded → LoadReport loaded parts.trace log text status
     → AreWithinBudget text
-by-load parts text status (Ok first) is told =
+by-load parts log text status (Ok first) is told =
     run-within parts first text status
-    (run-of parts.bay parts.logic first (loaded-from parts.bay parts.logic first is) parts.trace
+    (run-of parts.bay parts.logic first (loaded-from parts.bay parts.logic first is) parts.trace log
     text status told)
-by-load parts text status (Err fault) is told =
-    no-scans text (subst (AreLines IsOther) (sym told.0) (refused-lines fault))
+by-load parts log text status (Err fault) is told =
+    no-scans text (subst (AreLines IsOther) (sym told.1.0) (refused-lines fault))
 
-by-parts : (o : Option ScenarioParts) (text : List ℕ) (status : ℕ) → PartsReport o text status
+by-parts : (o : Option ScenarioParts) (log : Option (List ℕ)) (text : List ℕ) (status : ℕ)
+    → PartsReport o log text status
     → AreWithinBudget text
-by-parts None text status told =
-    no-scans text (subst (AreLines IsOther) (sym told.0) no-parts-lines)
-by-parts (Some parts) text status (inl told, run) =
-    by-load parts text status (load_of parts.bay parts.logic) refl told
-by-parts (Some parts) text status (inr refused, run) =
-    no-scans text (subst (AreLines IsOther) (sym refused.0) (refused-lines OutOfMemory))
+by-parts None log text status told =
+    no-scans text (subst (AreLines IsOther) (sym told.1.0) no-parts-lines)
+by-parts (Some parts) log text status (inl told, run) =
+    by-load parts log text status (load_of parts.bay parts.logic) refl told
+by-parts (Some parts) log text status (inr refused, run) =
+    no-scans text (subst (AreLines IsOther) (sym refused.1.0) (refused-lines OutOfMemory))
 
 pub scans-are-within : ScansAreWithinBudget
-scans-are-within scenario text status told = by-parts (scenario_of scenario) text status told
+scans-are-within scenario log text status told =
+    by-parts (scenario_of scenario) log text status told

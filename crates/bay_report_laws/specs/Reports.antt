@@ -25,5 +25,6 @@ abbrev pub OfEach : {A : Type 0} → (List ℕ → Option A)
     → ((parts : ScenarioParts) (first : State) (text : List ℕ) (status : ℕ)
     → IsRun parts first text status → Type 0) → Type 0
 OfEach read Are =
-    (scenario text : List ℕ) (status : ℕ) → IsReport scenario text status
+    (scenario : List ℕ) (log : Option (List ℕ)) (text : List ℕ) (status : ℕ)
+    → IsReport scenario log text status
     → HasNone read text ⊎ IsOf Are scenario text status

@@ -1,5 +1,5 @@
 -- What is read off the text of a report.
-use Rattle.std.specs.Prelude.{ℕ, ◌≡◌, ◌≤◌, List, [], ◌∷◌, Some}
+use Rattle.std.specs.Prelude.{ℕ, ◌≡◌, ◌≤◌, List, [], ◌∷◌, Option, Some}
 use Rattle.std.specs.List.{Contains}
 use Rattle.bay_replay.specs.Replay.{IsReport}
 use Rattle.bay_report_laws.specs.Printed.{PrintedScan, lines_in, printed_budget, printed_scan}
@@ -19,4 +19,5 @@ AreWithinBudget text =
 -- So it is of each report.
 abbrev pub ScansAreWithinBudget : Type 0
 ScansAreWithinBudget =
-    (scenario text : List ℕ) (status : ℕ) → IsReport scenario text status → AreWithinBudget text
+    (scenario : List ℕ) (log : Option (List ℕ)) (text : List ℕ) (status : ℕ)
+    → IsReport scenario log text status → AreWithinBudget text

@@ -1,10 +1,10 @@
-use Rattle.std.proofs.Common.{◌≡◌, ◌∙◌, sym, ap, length, arith}
+use Rattle.std.proofs.Common.{◌≡◌, ◌∙◌, sym, ap, length, None, arith}
 use Rattle.std.proofs.lemmas.Bool.Decides.{nat_tests}
 use Rattle.bay_io.proofs.SentLemmas.{Puts-nil}
 use Rattle.bay_report.specs.TextLines.{lines_of}
 use Rattle.bay_report.proofs.PieceLemmas.{lines-cut}
-use Rattle.bay_report.proofs.ReportLemmas.{nil-from-length}
-use Rattle.bay_replay.proofs.ProgressLemmas.{Progress-cut, Progress-fault, Progress-last, Progress-start, Progress-step, no-lines}
+use Rattle.bay_report.proofs.ReportLemmas.{Prints-alone, nil-from-length}
+use Rattle.bay_replay.proofs.ProgressLemmas.{Progress-cut, Progress-fault, Progress-last, Progress-logged, Progress-start, Progress-step, no-lines}
 use Rattle.bay_replay.proofs.replay.replay_device.Goals as goal
 
 pub loop-rest-init : goal.loop-rest-init
@@ -19,10 +19,9 @@ pub returns-then-answer_line : goal.returns-then-answer_line
 returns-then-answer_line g c =
     let said = c.answer_line.ensures in
     let cut = lines-cut _ _ _ c.cut_line.ensures.cuts in
-    Progress-last c.loop-rest.invariant.progress c.finish.new.writer 3 c.finish.result
+    Progress-logged c.loop-rest.invariant.progress _ 3 c.end_at.result
     (Progress-fault c.loop-rest.invariant.progress said.choice _ _ cut
-    (sym said.last ∙ c.if-answer_line.true)) said.text c.finish.ensures.finishes
-    c.finish.ensures.status
+    (sym said.last ∙ c.if-answer_line.true)) said.text c.end_at.ensures
 
 pub returns-then-has_failed : goal.returns-then-has_failed
 returns-then-has_failed g c =
@@ -46,6 +45,7 @@ loop-rest-preserved g c =
 pub returns : goal.returns
 returns g c =
     let zero : length c.loop-rest.rest.now ≡ 0 = grind (arith, nat_tests) in
-    Progress-last c.loop-rest.invariant.progress c.finish-2.new.writer 0 c.finish-2.result
+    Prints-alone c.finish.result
+    (Progress-last c.loop-rest.invariant.progress c.finish.new.writer None 0 c.finish.result
     (no-lines _ _ _ (ap lines_of (nil-from-length c.loop-rest.rest.now zero))) (Puts-nil _)
-    c.finish-2.ensures.finishes c.finish-2.ensures.status
+    c.finish.ensures.finishes c.finish.ensures.status)

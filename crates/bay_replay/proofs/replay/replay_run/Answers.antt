@@ -9,5 +9,5 @@ returns g c =
       end = c.replay_watched.new.reader;
       last = c.replay_watched.new.writer;
       replays = given;
-      fault = Prints-fault _ _ _ given.prints refl;
+      fault = Prints-fault _ _ _ given.prints.printed refl;
     }

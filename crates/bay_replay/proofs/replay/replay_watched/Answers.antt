@@ -1,17 +1,15 @@
 use Rattle.std.proofs.Common.{Some, Err, ap, inl, arith}
 use Rattle.bay_io.specs.Input.{octets_of}
-use Rattle.bay_replay.specs.Replay.{IsReplay, IsReport}
+use Rattle.bay_replay.specs.Replay.{IsReplay}
 use Rattle.bay_replay.proofs.ReadLemmas.{gave-few, gave-too-much, read-replay, unread-ended, unread-replay}
-use Rattle.bay_report.proofs.ReportLemmas.{Prints-weaker}
-use Rattle.bay_report.specs.Report.{UnreadReport}
+use Rattle.bay_report.proofs.ReportLemmas.{PrintsLogs-weaker}
 use Rattle.bay_replay.proofs.replay.replay_watched.Goals as goal
 
 pub returns-in-Ok-clause-printed : goal.returns-in-Ok-clause-printed
 returns-in-Ok-clause-printed g c =
     let failed = c.read_all.new.reader.has_failed in
     let input = g.R.Source.remaining c.args.reader.now.inner in
-    Prints-weaker g.W.Sink.contents g.W.Sink.does (IsReport c.in-Ok.input.items)
-    (IsReplay input failed) c.args.writer.now c.replay_scenario.new.writer c.replay_scenario.result
+    PrintsLogs-weaker (IsReplay input failed) c.replay_scenario.result
     (read-replay input c.in-Ok.input.items failed c.in-Ok.ensures.failed c.in-Ok.ensures.ok
     (omega (arith, c.in-Ok.ensures.within, c.in-Ok.input.ok)))
     (rw c.as_slice.ensures.value at c.replay_scenario.ensures)
@@ -24,9 +22,7 @@ returns-in-Ok-clause-given g c =
     record {
       reads = r.asked;
       ended = λ off. inl r.gave.1;
-      prints = Prints-weaker g.W.Sink.contents g.W.Sink.does (IsReport c.in-Ok.input.items)
-          (IsReplay input failed) c.args.writer.now c.replay_scenario.new.writer
-          c.replay_scenario.result
+      prints = PrintsLogs-weaker (IsReplay input failed) c.replay_scenario.result
           (read-replay input c.in-Ok.input.items failed c.in-Ok.ensures.failed r.gave.0
           (omega (arith, c.in-Ok.ensures.within, c.in-Ok.input.ok)))
           (rw c.as_slice.ensures.value at c.replay_scenario.ensures);
@@ -37,11 +33,10 @@ returns-in-Err-clause-printed g c =
     let fault = c.in-Err.fault in
     let failed = c.read_all.new.reader.has_failed in
     let input = g.R.Source.remaining c.args.reader.now.inner in
-    Prints-weaker g.W.Sink.contents g.W.Sink.does (UnreadReport fault) (IsReplay input failed)
-    c.args.writer.now c.write_unread.new.writer c.write_unread.result
+    PrintsLogs-weaker (IsReplay input failed) c.tell_unread.result
     (unread-replay input fault failed c.in-Err.ensures.failed
     (λ e. c.in-Err.ensures.too_long (ap Err e)) (λ e. c.in-Err.ensures.memory (ap Err e)))
-    c.write_unread.ensures
+    c.tell_unread.ensures
 
 pub returns-in-Err-clause-given : goal.returns-in-Err-clause-given
 returns-in-Err-clause-given g c =
@@ -53,10 +48,8 @@ returns-in-Err-clause-given g c =
     record {
       reads = r.asked;
       ended = unread-ended fault calls failed c.in-Err.ensures.failed r.gave;
-      prints = Prints-weaker g.W.Sink.contents g.W.Sink.does (UnreadReport fault)
-          (IsReplay input failed) c.args.writer.now c.write_unread.new.writer
-          c.write_unread.result
+      prints = PrintsLogs-weaker (IsReplay input failed) c.tell_unread.result
           (unread-replay input fault failed c.in-Err.ensures.failed
           (gave-too-much fault calls r.gave) (gave-few fault calls r.gave))
-          c.write_unread.ensures;
+          c.tell_unread.ensures;
     }
