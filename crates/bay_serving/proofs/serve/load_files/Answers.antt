@@ -1,0 +1,34 @@
+use Rattle.std.proofs.Common.{inr}
+use Rattle.std.proofs.lemmas.Result.{err_from_is_err_and}
+use Rattle.bay_files.specs.Files.{FilesData}
+use Rattle.bay_serving.proofs.serve.load_files.Goals as goal
+
+pub returns-in_err-trace-clause-err : goal.returns-in_err-trace-clause-err
+returns-in_err-trace-clause-err g c =
+    let p = err_from_is_err_and c.from_residual-in_err-trace.result
+    c.from_residual-in_err-trace.ensures.1 in
+    let both : FilesData =
+    record { bay = c.in_ok-both.both.bay.items; program = c.in_ok-both.both.program.items } in
+    rw (p.1, p.2) (inr (both, c.in_ok-both.ensures.ok, c.in_err-trace.ensures.err))
+
+pub returns-in_err-device-clause-err : goal.returns-in_err-device-clause-err
+returns-in_err-device-clause-err g c =
+    let p = err_from_is_err_and c.from_residual-in_err-device.result
+    c.from_residual-in_err-device.ensures.1 in
+    let both : FilesData =
+    record { bay = c.in_ok-both.both.bay.items; program = c.in_ok-both.both.program.items } in
+    let refused = rw (c.as_slice.ensures.value, c.as_slice-2.ensures.value) at
+    c.in_err-device.ensures.refused in
+    rw (p.1, p.2) (
+      both,
+      c.in_ok-both.ensures.ok,
+      (c.in_ok-trace.trace.items, c.in_ok-trace.ensures.ok, refused),
+    )
+
+pub returns-clause-ok : goal.returns-clause-ok
+returns-clause-ok g c =
+    let both : FilesData =
+    record { bay = c.in_ok-both.both.bay.items; program = c.in_ok-both.both.program.items } in
+    let loads = rw (c.as_slice.ensures.value, c.as_slice-2.ensures.value) at
+    c.in_ok-device.ensures.ok in
+    (both, c.in_ok-both.ensures.ok, c.in_ok-trace.ensures.ok, loads)
