@@ -1,5 +1,5 @@
 -- The lines of an audit.
-use Rattle.std.specs.Prelude.{ℕ, ◌-◌, ◌==◌, ℤ, pos, negsuc, Bool, true, false, ◌&&◌, ◌||◌, List, [], ◌∷◌, ◌++◌, codes, Option, None, Some, slice_get, length, map, flat_map, if◌then◌else◌}
+use Rattle.std.specs.Prelude.{ℕ, ◌-◌, ◌==◌, ℤ, pos, negsuc, Bool, true, false, ◌&&◌, ◌||◌, List, [], ◌++◌, codes, Option, None, Some, slice_get, length, flat_map, if◌then◌else◌}
 use Rattle.std.specs.Ordering.{int_eq}
 use Rattle.std.specs.Fmt.{decimal, signed_decimal}
 use Rattle.bay_audit.specs.declared.answer.Answer.{Answer}
@@ -21,6 +21,7 @@ use Rattle.bay_config.specs.declared.bay.SwitchPoint.TheVariants.{Position, Open
 use Rattle.bay_nodes.specs.declared.switch.Switch.{Switch}
 use Rattle.bay_rules.specs.Code.{code_of, line_of}
 use Rattle.bay_rules.specs.declared.fault.RuleFault.{RuleFault}
+use Rattle.bay_rules.specs.declared.fault.RuleFault.TheVariants.{BadWord, BadLine, UnknownName, BadValue, TooMany, OutOfMemory}
 use Rattle.bay_rules.specs.declared.rule.Rule.{Rule}
 use Rattle.il_image.specs.declared.image.ImagePoint.{ImagePoint}
 use Rattle.bay_tree.specs.declared.leaf.Dbpos.TheVariants.{Intermediate, Off, On, Bad}
@@ -202,3 +203,24 @@ numbered_text (Some code) line = refused_text code line
 
 abbrev pub refusal_text : RuleFault → List ℕ
 refusal_text fault = numbered_text (code_of fault) (line_of fault)
+
+-- ---- the log
+
+-- what a fault of rules means
+abbrev pub fault_words : RuleFault → List ℕ
+fault_words (BadWord line) = codes "a word or a sign that no rule has"
+fault_words (BadLine line) = codes "a line is no rule"
+fault_words (UnknownName line) = codes "a name is unknown"
+fault_words (BadValue line) = codes "a position, a value or a time that what is named can't have"
+fault_words (TooMany line) = codes "too many rules, or too many parentheses within each other"
+fault_words OutOfMemory = codes "out of memory"
+
+-- the line of rules that are refused
+abbrev pub numbered_log : Option ℕ → ℕ → List ℕ → Option (List ℕ)
+numbered_log None line words = None
+numbered_log (Some code) line words =
+    Some (codes "bayctl: rules refused " ++ (decimal code
+    ++ (codes " line " ++ (decimal line ++ (codes ": " ++ (words ++ codes "\n"))))))
+
+abbrev pub refused_log : RuleFault → Option (List ℕ)
+refused_log fault = numbered_log (code_of fault) (line_of fault) (fault_words fault)

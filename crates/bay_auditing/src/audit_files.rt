@@ -1,12 +1,12 @@
 // Files are read and loaded, and rules are answered.
-ghost use Rattle.std.specs.Prelude.{◌≡◌, ◌++◌, Ok, true, is_ok, IfOk};
+ghost use Rattle.std.specs.Prelude.{◌≡◌, ◌++◌, None, Ok, true, is_ok, IfOk};
 ghost use Rattle.bay_report.specs.Load.{file_of};
-ghost use Rattle.bay_report.specs.Report.{IsLast, Prints, report_text};
-ghost use Rattle.bay_auditing.specs.Auditing.{Answers, Audits, AuditsOctets, AuditsRead, DeviceReport, SaysFor, SaysOf};
-ghost use Rattle.bay_auditing.specs.Text.{refusal_text};
+ghost use Rattle.bay_report.specs.LogLines.{IsTold, LogsSome, PrintsLogs};
+ghost use Rattle.bay_report.specs.Report.{report_text};
+ghost use Rattle.bay_auditing.specs.Auditing.{Answers, AuditReport, Audits, AuditsRead, DeviceReport, SaysFor, SaysOf, SaysRefused, log_in};
 
 use crate::kept::names_of;
-use crate::text::{are_passed, put_answers, put_refused, put_releases};
+use crate::text::{are_passed, fault_words, put_answers, put_refused, put_releases};
 use bay_audit::audit::audit;
 use bay_config::bay::Bay;
 use bay_config::fault::BayFault;
@@ -14,7 +14,7 @@ use bay_config::read::read_bay;
 use bay_device::device::Device;
 use bay_device::report::Report;
 use bay_files::files::{BothFiles, FileSystem, read_file, read_files};
-use bay_io::calls::Sink;
+use bay_io::calls::{Part, Sink};
 use bay_io::outbox::WriteFault;
 use bay_io::writer::WatchedWriter;
 use bay_report::load::{Form, load_program};
@@ -33,11 +33,12 @@ const PASSES: u32 = 10_000;
 /// The exit status where a rule is broken, open, or takes too many passes.
 const UNPROVED: u8 = 4;
 
-/// The lines behind a load's line, and the exit status.
+/// The lines behind a load's line, the exit status, and why rules are refused, if they are.
 #[derive(Drop)]
 struct Said {
     text: Vec<u8>,
     status: u8,
+    refused: Option<RuleFault>,
 }
 
 /// Returns the lines of the answers to rules.
@@ -49,8 +50,9 @@ fn answers_said(
     program: &[u8],
     rules: &[Rule],
 ) -> Result<Said, AllocError>
-    ensures { IfOk result
+    ensures answers { IfOk result
         (λ said. Answers bay.now verified.now rules.now said.text.items said.status) }
+    ensures taken { IfOk result (λ said. said.refused ≡ None) }
 {
     let names = names_of(alloc, verified.image().points(), form, program)?;
     let found = audit(alloc, bay, verified, rules, PASSES)?;
@@ -59,13 +61,17 @@ fn answers_said(
     put_answers(&mut text, bay, &names, rules, answers)?;
     put_releases(&mut text, bay, &names, found.releases.as_slice())?;
     let status = if are_passed(answers) { CLEAN } else { UNPROVED };
-    Ok(Said { text, status })
+    Ok(Said {
+        text,
+        status,
+        refused: None,
+    })
 }
 
 /// Returns the line of rules that are refused.
 fn refusal_said(alloc: Global, fault: RuleFault) -> Result<Said, AllocError>
     ensures { IfOk result
-        (λ said. (said.text.items ≡ refusal_text fault) × (said.status ≡ 1)) }
+        (λ said. SaysRefused fault said.refused said.text.items said.status) }
 {
     let mut text = Vec::new(alloc);
     if let Some(code) = fault.code() {
@@ -74,6 +80,7 @@ fn refusal_said(alloc: Global, fault: RuleFault) -> Result<Said, AllocError>
     Ok(Said {
         text,
         status: REFUSED,
+        refused: Some(fault),
     })
 }
 
@@ -86,8 +93,8 @@ fn rules_said(
     program: &[u8],
     rules: &[u8],
 ) -> Result<Said, AllocError>
-    ensures { IfOk result (λ said. SaysFor (Ok bay.now) rules.now verified.now said.text.items
-        said.status) }
+    ensures { IfOk result (λ said. SaysFor (Ok bay.now) rules.now verified.now
+        (log_in said.refused) said.text.items said.status) }
 {
     match read_rules(alloc, bay, rules) {
         Ok(rules) => answers_said(alloc, bay, verified, form, program, rules.as_slice()),
@@ -121,26 +128,52 @@ fn device_said(
 ) -> Result<Said, AllocError>
     requires { is_ok (file_of both.now.bay.items) ≡ true }
     ensures { IfOk result (λ said. SaysFor (file_of both.now.bay.items) rules.now
-        device.now.machine.image said.text.items said.status) }
+        device.now.machine.image (log_in said.refused) said.text.items said.status) }
 {
     let bay = bay_again(alloc, both.bay.as_slice())?;
     let program = both.program.as_slice();
     rules_said(alloc, &bay, device.verified(), form, program, rules)
 }
 
-/// Writes the line of a load and the text behind it.
+/// Logs why rules are refused, if they are.
+fn log_refused<W: Sink>(writer: &mut WatchedWriter<W>, refused: Option<RuleFault>)
+    ensures { LogsSome W.contents W.does writer.old (log_in refused) writer.new }
+{
+    let Some(fault) = refused else {
+        return;
+    };
+    let Some(code) = fault.code() else {
+        return;
+    };
+    writer.log(&[
+        Part::Text(b"bayctl: rules refused "),
+        Part::Number(u64::from(code)),
+        Part::Text(b" line "),
+        Part::Number(fault.line() as u64),
+        Part::Text(b": "),
+        Part::Text(fault_words(fault)),
+        Part::Text(b"\n"),
+    ]);
+}
+
+/// Writes the line of a load and the text behind it, and then logs why rules are refused, if they
+/// are.
 fn write_said<W: Sink>(
     writer: &mut WatchedWriter<W>,
     report: Report,
     text: &[u8],
     status: u8,
+    refused: Option<RuleFault>,
 ) -> Result<u8, WriteFault>
-    ensures { Prints W.contents W.does (IsLast (report_text report ++ text.now) status) writer.old
-        writer.new result }
+    ensures { PrintsLogs W.contents W.does
+        (IsTold (log_in refused) (report_text report ++ text.now) status) writer.old writer.new
+        result }
 {
     put_report(writer, report);
     writer.put(text);
-    finish(writer, status)
+    let status = finish(writer, status)?;
+    log_refused(writer, refused);
+    Ok(status)
 }
 
 /// Writes the line of a device's load, and the answers to a text of rules.
@@ -153,14 +186,20 @@ fn audit_device<W: Sink>(
     writer: &mut WatchedWriter<W>,
 ) -> Result<u8, WriteFault>
     requires { is_ok (file_of both.now.bay.items) ≡ true }
-    ensures { Prints W.contents W.does
+    ensures { PrintsLogs W.contents W.does
         (DeviceReport (file_of both.now.bay.items) rules.now device.now) writer.old writer.new
         result }
 {
     let report = device.report();
     match device_said(alloc, both, form, rules, device) {
-        Ok(said) => write_said(writer, report, said.text.as_slice(), said.status),
-        Err(AllocError) => write_said(writer, report, NO_MEMORY, FAULT),
+        Ok(said) => write_said(
+            writer,
+            report,
+            said.text.as_slice(),
+            said.status,
+            said.refused,
+        ),
+        Err(AllocError) => write_said(writer, report, NO_MEMORY, FAULT, None),
     }
 }
 
@@ -172,8 +211,9 @@ fn audit_octets<W: Sink>(
     rules: &[u8],
     writer: &mut WatchedWriter<W>,
 ) -> Result<u8, WriteFault>
-    ensures { AuditsOctets W.contents W.does both.now.bay.items form both.now.program.items
-        rules.now writer.old writer.new result }
+    ensures { PrintsLogs W.contents W.does
+        (AuditReport both.now.bay.items form both.now.program.items rules.now) writer.old
+        writer.new result }
 {
     match load_program(alloc, both.bay.as_slice(), form, both.program.as_slice()) {
         Ok(device) => audit_device(alloc, both, form, rules, &device, writer),

@@ -8,6 +8,7 @@ use crate::kept::Names;
 use bay_audit::answer::{Answer, Kept, Release, Told, ToldCase};
 use bay_audit::case::Case;
 use bay_config::bay::{Bay, MeterField, Point, Source, SwitchPoint};
+use bay_rules::fault::RuleFault;
 use bay_rules::rule::Rule;
 use bay_tree::leaf::Dbpos;
 use itoa::Buffer;
@@ -437,6 +438,22 @@ pub fn put_refused(text: &mut Vec<u8>, code: u8, line: usize) -> Result<(), Allo
     text.extend_from_slice(b" line ")?;
     put_number(text, line as u64)?;
     text.extend_from_slice(b"\n")
+}
+
+/// Returns what a fault of rules means.
+pub fn fault_words(fault: RuleFault) -> &'static [u8]
+    ensures { result.now ≡ spec.fault_words fault }
+{
+    match fault {
+        RuleFault::BadWord { .. } => b"a word or a sign that no rule has",
+        RuleFault::BadLine { .. } => b"a line is no rule",
+        RuleFault::UnknownName { .. } => b"a name is unknown",
+        RuleFault::BadValue { .. } => {
+            b"a position, a value or a time that what is named can't have"
+        }
+        RuleFault::TooMany { .. } => b"too many rules, or too many parentheses within each other",
+        RuleFault::OutOfMemory => b"out of memory",
+    }
 }
 
 /// Whether an answer leaves its rule unbroken: it holds, or has a time and was not asked.

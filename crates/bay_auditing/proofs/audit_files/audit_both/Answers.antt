@@ -1,4 +1,5 @@
 use Rattle.std.proofs.Common.{Ok, Err}
+use Rattle.bay_files.specs.Files.{unread_view}
 use Rattle.bay_auditing.proofs.audit_files.audit_both.Goals as goal
 
 pub returns-in-Ok : goal.returns-in-Ok
@@ -10,11 +11,7 @@ returns-in-Ok g c = (
 
 pub returns-in-Err : goal.returns-in-Err
 returns-in-Err g c = (
-  Err c.in-Err.unread.fault,
+  Err (unread_view c.in-Err.unread),
   c.in-Err.ensures.err,
-  record {
-    name = c.in-Err.unread.name.now;
-    is = c.in-Err.ensures.named;
-    told = c.tell_unread.ensures;
-  },
+  c.tell_unread.ensures,
 )

@@ -1,4 +1,4 @@
-use Rattle.std.proofs.Common.{rules, ◌≡◌, ◌∙◌, ◌++◌, ◌≤◌, length, drop, sym, ap, zip, [], append-nil}
+use Rattle.std.proofs.Common.{rules, ◌≡◌, ◌∙◌, ◌++◌, drop, sym, ap, zip, [], append-nil}
 use Rattle.std.proofs.lemmas.List.{drop_all}
 use Rattle.bay_auditing.specs.Text.{answers_text}
 use Rattle.bay_auditing.proofs.TextLemmas.{zip-nil}
