@@ -1,31 +1,30 @@
 -- What is printed and logged for a load alone.
-use Rattle.std.specs.Prelude.{◌≡◌, ℕ, List, Option, Result, Ok, Err, ◌⊎◌}
+use Rattle.std.specs.Prelude.{ℕ, List, Option, Result, Ok, Err}
 use Rattle.bay_device.specs.Device.{State}
 use Rattle.bay_device.specs.Report.{IsReport as IsReportOf}
 use Rattle.bay_device.specs.declared.report.Report.{Report}
 use Rattle.bay_device.specs.declared.fault.LoadFault.{LoadFault}
-use Rattle.bay_device.specs.declared.fault.LoadFault.TheVariants.{OutOfMemory}
 use Rattle.bay_io.specs.Calls.{WriteCall}
 use Rattle.bay_io.specs.Watched.{Writing}
 use Rattle.bay_io.specs.declared.outbox.WriteFault.{WriteFault}
-use Rattle.bay_report.specs.Load.{LoadsTo}
-use Rattle.bay_report.specs.LogLines.{LogsPrints, refused_line}
+use Rattle.bay_report.specs.Load.{MayLoadTo}
+use Rattle.bay_report.specs.LogLines.{PrintsLogs, Refuses}
 use Rattle.bay_report.specs.declared.load.Form.{Form}
-use Rattle.bay_report.specs.Report.{IsLast, Prints, Refuses, report_text}
+use Rattle.bay_report.specs.Report.{IsLast, Prints, report_text}
 
--- of a device the line of its load is printed; why a load is refused is logged and printed
+-- of a device the line of its load is printed; that a load is refused is printed, and why is logged
 abbrev pub TellsLoad : {W : Type 0} → (W → Option (List ℕ)) → (W → WriteCall → W → Type 0)
     → Result State LoadFault → Writing W → Writing W → Result ℕ WriteFault → Type 0
 TellsLoad contents asks (Ok s) old new answer =
     (report : Report) × IsReportOf s.machine.image report
     × Prints contents asks (IsLast (report_text report) 0) old new answer
 TellsLoad contents asks (Err fault) old new answer =
-    LogsPrints contents asks (refused_line fault) (Refuses fault) old new answer
+    PrintsLogs contents asks (Refuses fault) old new answer
 
 -- a bay file and a program or an image are loaded, and that is told; their load may want memory
 pub record ChecksOctets {W : Type 0} (contents : W → Option (List ℕ))
     (asks : W → WriteCall → W → Type 0) (bay : List ℕ) (form : Form) (program : List ℕ)
     (old new : Writing W) (answer : Result ℕ WriteFault) : Type 0 where
   pub loaded : Result State LoadFault
-  pub loads : LoadsTo bay form program loaded ⊎ (loaded ≡ Err OutOfMemory)
+  pub loads : MayLoadTo bay form program loaded
   pub tells : TellsLoad contents asks loaded old new answer

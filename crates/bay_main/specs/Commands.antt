@@ -9,9 +9,8 @@ use Rattle.bay_device.specs.declared.report.Report.{Report}
 use Rattle.bay_device.specs.declared.fault.LoadFault.{LoadFault}
 use Rattle.bay_device.specs.declared.fault.LoadFault.TheVariants.{OutOfMemory as wants_memory}
 use Rattle.bay_io.specs.Watched.{Reading, Writing}
-use Rattle.bay_io.specs.declared.input.ReadFault.{ReadFault}
 use Rattle.bay_io.specs.declared.outbox.WriteFault.{WriteFault}
-use Rattle.bay_files.specs.Files.{FailsNamed, FileReads, FileWrites, FilesData, ReadsBoth, WritesWhole}
+use Rattle.bay_files.specs.Files.{FileReads, FileWrites, FilesData, ReadsBoth, UnreadData, WritesWhole}
 use Rattle.bay_files.specs.declared.files.FileFault.{FileFault}
 use Rattle.bay_files.specs.declared.files.FileFault.TheVariants as unwritten
 use Rattle.bay_report.specs.declared.load.Form.{Form}
@@ -27,22 +26,20 @@ use Rattle.bay_main.specs.declared.ending.Ended.TheVariants.{Status, WriteFailed
 use Rattle.bay_report.specs.Load.{load_of}
 use Rattle.bay_main.specs.Check.{ChecksOctets}
 use Rattle.bay_io.specs.Sent.{Logs}
-use Rattle.bay_report.specs.LogLines.{LogsPrints, LogsSome, TellsUnread, refused_line, unwritten_line}
-use Rattle.bay_report.specs.Report.{IsLast, Prints, Refuses, UnreadReport, report_text}
+use Rattle.bay_report.specs.LogLines.{LogsSome, PrintsLogs, Refuses, UnreadReport, unwritten_line}
+use Rattle.bay_report.specs.Report.{IsLast, Prints, report_text}
 use Rattle.bay_replay.specs.Replay.{IsReplay}
 use Rattle.bay_auditing.specs.Auditing.{Audits}
 use Rattle.bay_serving.specs.Serve.{ServesFiles}
 use Rattle.bay_serving.specs.Host.{HostCall}
 use Rattle.bay_serve.specs.Calls.{Call}
 
--- what was read is checked
-abbrev pub ChecksRead : {F W : Type 0} → FileReads F → (W → Option (List ℕ))
-    → (W → WriteCall → W → Type 0) → Form → List ℕ → List ℕ → F → Result FilesData ReadFault
-    → Writing W → Writing W → Result ℕ WriteFault → Type 0
-ChecksRead reads contents asks form bay program files (Err fault) old new answer =
-    TellsUnread contents asks (λ name. FailsNamed reads files bay program name fault) fault old new
-    answer
-ChecksRead reads contents asks form bay program files (Ok both) old new answer =
+-- what was read is checked; or that it can't be read is told
+abbrev pub ChecksRead : {W : Type 0} → (W → Option (List ℕ)) → (W → WriteCall → W → Type 0) → Form
+    → Result FilesData UnreadData → Writing W → Writing W → Result ℕ WriteFault → Type 0
+ChecksRead contents asks form (Err unread) old new answer =
+    PrintsLogs contents asks (UnreadReport unread.name unread.fault) old new answer
+ChecksRead contents asks form (Ok both) old new answer =
     ChecksOctets contents asks both.bay form both.program old new answer
 
 -- a check of a bay file and of a program or an image, by their names: both are read, and what they
@@ -51,9 +48,9 @@ pub record Checks {F W : Type 0} (reads : FileReads F)
     (contents : W → Option (List ℕ)) (asks : W → WriteCall → W → Type 0) (form : Form)
     (bay program : List ℕ) (files : F)
     (old new : Writing W) (answer : Result ℕ WriteFault) : Type 0 where
-  pub read : Result FilesData ReadFault
+  pub read : Result FilesData UnreadData
   pub is_read : ReadsBoth reads files bay program read
-  pub checks : ChecksRead reads contents asks form bay program files read old new answer
+  pub checks : ChecksRead contents asks form read old new answer
 
 -- that a file can't be written is logged, and answered
 abbrev pub Unwritten : {W : Type 0} → (W → Option (List ℕ)) → (W → WriteCall → W → Type 0)
@@ -105,14 +102,13 @@ pub record CompilesDevice {F W : Type 0} (writes : FileWrites F) (contents : W �
   pub printed : Prints contents asks (IsLast (report_text report) 0) old middle told
   pub goes_on : GoesOn writes contents asks out s before after middle new told answer
 
--- what was loaded is compiled; why a load is refused is logged and printed, and no file is touched
+-- what was loaded is compiled; that a load is refused is told, and no file is touched
 abbrev pub CompilesLoaded : {F W : Type 0} → FileWrites F
     → (W → Option (List ℕ)) → (W → WriteCall → W → Type 0) → List ℕ → Result State LoadFault → F → F
     → Writing W → Writing W
     → Result ℕ WriteFault → Type 0
 CompilesLoaded writes contents asks out (Err fault) before after old new answer =
-    LogsPrints contents asks (refused_line fault) (Refuses fault) old new answer
-    × (after ≡ before)
+    PrintsLogs contents asks (Refuses fault) old new answer × (after ≡ before)
 CompilesLoaded writes contents asks out (Ok s) before after old new answer =
     CompilesDevice writes contents asks out s before after old new answer
 
@@ -127,15 +123,13 @@ CompilesOctets writes contents asks out both before after old new answer =
     × CompilesLoaded writes contents asks out loaded before after old new answer
 
 -- the same of what could be read. Where it can't be, that is told, and no file is touched
-abbrev pub CompilesRead : {F W : Type 0} → FileReads F → FileWrites F
-    → (W → Option (List ℕ)) → (W → WriteCall → W → Type 0) → List ℕ → List ℕ → List ℕ
-    → Result FilesData ReadFault → F
-    → F → Writing W → Writing W
-    → Result ℕ WriteFault → Type 0
-CompilesRead reads writes contents asks bay logic out (Err fault) before after old new answer =
-    TellsUnread contents asks (λ name. FailsNamed reads before bay logic name fault) fault old new
-    answer × (after ≡ before)
-CompilesRead reads writes contents asks bay logic out (Ok both) before after old new answer =
+abbrev pub CompilesRead : {F W : Type 0} → FileWrites F → (W → Option (List ℕ))
+    → (W → WriteCall → W → Type 0) → List ℕ → Result FilesData UnreadData → F → F → Writing W
+    → Writing W → Result ℕ WriteFault → Type 0
+CompilesRead writes contents asks out (Err unread) before after old new answer =
+    PrintsLogs contents asks (UnreadReport unread.name unread.fault) old new answer
+    × (after ≡ before)
+CompilesRead writes contents asks out (Ok both) before after old new answer =
     CompilesOctets writes contents asks out both before after old new answer
 
 -- a compilation of a bay file and a program to a file, by their names: both are read, loaded and
@@ -150,8 +144,8 @@ Compiles reads writes same contents asks bay logic out before after old new answ
     ((same before out bay true ⊎ same before out logic true) × (after ≡ before)
     × Unwritten contents asks out old new answer)
     ⊎ (same before out bay false × same before out logic false
-    × ((read : Result FilesData ReadFault) × ReadsBoth reads before bay logic read
-    × CompilesRead reads writes contents asks bay logic out read before after old new answer))
+    × ((read : Result FilesData UnreadData) × ReadsBoth reads before bay logic read
+    × CompilesRead writes contents asks out read before after old new answer))
 
 -- how a command ends by what it answers
 abbrev pub Ends : Result ℕ WriteFault → Ended → Type 0
@@ -212,8 +206,8 @@ module _ {F L H R W : Type 0} (reads : FileReads F)
       new.writer answer × (new.files ≡ old.files) × (new.host ≡ old.host)
       × (new.reader ≡ old.reader)
   DoesTask Replay old new answer =
-      Prints contents asks (IsReplay (remaining old.reader.inner) new.reader.has_failed) old.writer
-      new.writer answer × (new.files ≡ old.files) × (new.host ≡ old.host)
+      PrintsLogs contents asks (IsReplay (remaining old.reader.inner) new.reader.has_failed)
+      old.writer new.writer answer × (new.files ≡ old.files) × (new.host ≡ old.host)
   DoesTask (Serve bay program port turns trace process tells) old new answer =
       ServesFiles step acts contents asks reads old.files
       (record { bay = bay; form = form_of program; program = name_of program; trace = trace })

@@ -1,5 +1,4 @@
-use Rattle.std.proofs.Common.{Ok, Err, inl, refl}
-use Rattle.bay_main.proofs.CheckLemmas.{refused-loads}
+use Rattle.std.proofs.Common.{Ok, Err, inl}
 use Rattle.bay_main.proofs.check.check_run.Goals as goal
 
 pub returns-in-Ok : goal.returns-in-Ok
@@ -12,8 +11,6 @@ returns-in-Ok g c = record {
 pub returns-in-Err : goal.returns-in-Err
 returns-in-Err g c = record {
   loaded = Err c.in-Err.fault;
-  loads =
-      refused-loads c.args.bay.now c.args.form c.args.program.now c.in-Err.fault
-      (Err c.in-Err.fault) refl c.in-Err.ensures.refused;
+  loads = c.in-Err.ensures.refused;
   tells = c.tell_refusal.ensures;
 }

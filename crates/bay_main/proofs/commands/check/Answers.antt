@@ -1,5 +1,5 @@
 use Rattle.std.proofs.Common.{Ok, Err}
-use Rattle.bay_files.specs.Files.{FilesData}
+use Rattle.bay_files.specs.Files.{FilesData, unread_view}
 use Rattle.bay_main.proofs.commands.check.Goals as goal
 
 pub returns-in-Ok : goal.returns-in-Ok
@@ -14,11 +14,7 @@ returns-in-Ok g c =
 
 pub returns-in-Err : goal.returns-in-Err
 returns-in-Err g c = record {
-  read = Err c.in-Err.unread.fault;
+  read = Err (unread_view c.in-Err.unread);
   is_read = c.in-Err.ensures.err;
-  checks = record {
-    name = c.in-Err.unread.name.now;
-    is = c.in-Err.ensures.named;
-    told = c.tell_unread.ensures;
-  };
+  checks = c.tell_unread.ensures;
 }

@@ -1,5 +1,5 @@
 use Rattle.std.proofs.Common.{Ok, Err, inr, refl}
-use Rattle.bay_files.specs.Files.{FilesData}
+use Rattle.bay_files.specs.Files.{FilesData, unread_view}
 use Rattle.bay_main.proofs.commands.compile.Goals as goal
 
 pub returns-in-Ok : goal.returns-in-Ok
@@ -18,15 +18,8 @@ returns-in-Err g c =
       c.if-is_same.ensures,
       c.if-is_same-2.ensures,
       (
-        Err c.in-Err.unread.fault,
+        Err (unread_view c.in-Err.unread),
         c.in-Err.ensures.err,
-        (
-          record {
-            name = c.in-Err.unread.name.now;
-            is = c.in-Err.ensures.named;
-            told = c.tell_unread.ensures;
-          },
-          refl,
-        ),
+        (c.tell_unread.ensures, refl),
       ),
     )
