@@ -1,4 +1,4 @@
-// What a server logs, over links and hosts in memory.
+// What a server and a replay log, over links and hosts in memory.
 use crate::process::{WORDS, host_of};
 use crate::serve::{ready, served_by};
 use bay_io::calls::{Part, Sink};
@@ -51,7 +51,7 @@ impl Sink for Recorder<'_> {
     }
 }
 
-/// Returns what is logged for words that ask to serve a trace.
+/// Returns what is logged for words that ask to serve or to replay a trace.
 fn logged<L: Link + Drop, H: Host<L>>(
     alloc: Global,
     host: &mut H,
@@ -125,5 +125,59 @@ fn ports_that_cannot_be_had(rt: HostRuntime) -> Result<(), Fail> {
     host.has_process = false;
     let told = logged(rt.alloc(), &mut host, "", WORDS.as_slice());
     assert!(rt; told.as_slice() == b"bayctl: fault 121: port 9: permission denied\n".as_slice());
+    Ok(())
+}
+
+/// A scenario whose trace has a line that can't be read.
+const SCENARIO: &str =
+    "bay = { domain = \"B\", vendor = \"V\", model = \"M\", revision = \"1\", scan_max_age_ms = 0 }
+switch = [{ id = \"Q\", kind = \"breaker\", control = \"status\" }]
+%%
+PROGRAM P
+END_PROGRAM
+%%
+9 contact Q 1
+9 skan\x1b
+";
+
+#[test]
+fn what_cannot_be_read_or_loaded(rt: HostRuntime) -> Result<(), Fail> {
+    let cases = [
+        (
+            "serve --bay none --logic logic --port 7 --turns 4",
+            "",
+            "bayctl: fault 121: none: there is no such file\n",
+        ),
+        (
+            "serve --bay bay --logic logic --port 7 --turns 4 --trace none",
+            "",
+            "bayctl: fault 121: none: there is no such file\n",
+        ),
+        (
+            "serve --bay trace --logic logic --port 7 --turns 4",
+            "x",
+            "bayctl: load refused 50: the text is not a TOML document, or is too long\n",
+        ),
+        (
+            "replay",
+            "x\n%%\ny\n%%\n",
+            "bayctl: load refused 50: the text is not a TOML document, or is too long\n",
+        ),
+        (
+            "replay",
+            "x",
+            "bayctl: fault 120 line 0: a line %% is missing\n",
+        ),
+        (
+            "replay",
+            SCENARIO,
+            "bayctl: fault 120 line 2: 9 skan\\x1b\n",
+        ),
+    ];
+    for (words, trace, wanted) in cases {
+        let words: Vec<&str> = words.split(" ").collect(rt.alloc())?;
+        let told = logged(rt.alloc(), &mut ready(), trace, words.as_slice());
+        assert!(rt; told.as_slice() == wanted.as_bytes());
+    }
     Ok(())
 }

@@ -113,7 +113,8 @@ impl Host<Hasty> for Still {
     }
 }
 
-/// Serves a trace as words ask for it, and returns the exit status.
+/// Serves a trace as words ask for it, and returns the exit status. The trace is the program's input
+/// too.
 pub fn served_by<L: Link + Drop, H: Host<L>, W: Sink>(
     alloc: Global,
     host: &mut H,
@@ -122,7 +123,7 @@ pub fn served_by<L: Link + Drop, H: Host<L>, W: Sink>(
     writer: &mut WatchedWriter<W>,
 ) -> u8 {
     let mut files = Texts { trace };
-    let mut reader = WatchedReader::new(b"".as_slice());
+    let mut reader = WatchedReader::new(trace.as_bytes());
     obey(alloc, words, &mut files, host, &mut reader, writer).status()
 }
 
