@@ -64,10 +64,8 @@ RunReport parts log text status =
 -- of a scenario's parts
 abbrev pub PartsReport : Option ScenarioParts → Option (List ℕ) → List ℕ → ℕ → Type 0
 PartsReport None =
-    IsTold (Some (codes "bayctl: fault 120 line 0: a line %% is missing
-"))
-    (codes "fault 120 line 0
-") 3
+    IsTold (Some (codes "bayctl: fault 120 line 0: a line %% is missing\n"))
+    (codes "fault 120 line 0\n") 3
 PartsReport (Some parts) = RunReport parts
 
 -- of a scenario
