@@ -1,9 +1,15 @@
+<<<<<<< HEAD
 // What a server and a replay log, over links and hosts in memory.
+=======
+// What a server logs, over links and hosts in memory.
+use crate::memory_link::MemoryLink;
+>>>>>>> 25d1383e (bay_tests: who asked for what, in the log)
 use crate::process::{WORDS, host_of};
 use crate::serve::{ready, served_by};
+use crate::session::{CONNECT, REQUEST, octets_of};
 use bay_io::calls::{Part, Sink};
 use bay_io::writer::WatchedWriter;
-use bay_main::host::Host;
+use bay_main::host::{BindFault, Host};
 use bay_serve::link::Link;
 use std::alloc::Global;
 use std::cell::RefCell;
@@ -80,6 +86,70 @@ fn clients_and_refused_lines(rt: HostRuntime) -> Result<(), Fail> {
 2000 refused 113: 9 contact X 1
 2000 association 1 closed 0: its client ended it
 5000 all turns are served
+"
+        .as_slice();
+    assert!(rt; told.as_slice() == wanted);
+    Ok(())
+}
+
+// A read of CSWI1$CO$Pos$SBO.
+const SELECT: &str =
+    "0300003d02f080010001006130302e020103a029a027020102a422a120a01e301ca01aa1181a04424159311a10435357493124434f24506f732453424f";
+
+// ON to CSWI1$CO$Pos$Oper, with orCat 2, orIdent OPERATOR and ctlNum 7.
+const CLOSE: &str =
+    "0300006602f0800100010061593057020103a052a050020103a54ba01f301da01ba1191a04424159311a11435357493124434f24506f73244f706572a028a2268301ffa20d85010289084f50455241544f528601079108000000000000002a83010084020600";
+
+// OFF to CSWI2$CO$Pos$Oper, with orCat -3, no orIdent and ctlNum 0.
+const OPEN: &str =
+    "0300005e02f080010001006151304f020103a04aa048020104a543a01f301da01ba1191a04424159311a11435357493224434f24506f73244f706572a020a21e830100a2058501fd89008601009108000000000000002a83010084020600";
+
+// A cancel of CSWI1$CO$Pos$Cancel, with an orIdent of A and the octet 1, and ctlNum 255.
+const CANCEL: &str =
+    "0300005f02f0800100010061523050020103a04ba049020105a544a021301fa01da11b1a04424159311a13435357493124434f24506f732443616e63656ca01fa21d8301ffa20785010289024101860200ff9108000000000000002a830100";
+
+/// A host whose one port has these clients, and whose clock advances by a second.
+#[derive(Drop)]
+struct Clients {
+    link: Option<MemoryLink>,
+    now: u64,
+}
+
+impl Host<MemoryLink> for Clients {
+    fn bind(&mut self, _port: u16) -> Result<MemoryLink, BindFault> {
+        self.link.take().ok_or(BindFault::InUse)
+    }
+
+    fn now(&mut self) -> u64 {
+        self.now = self.now.saturating_add(1000);
+        self.now
+    }
+
+    fn pause(&mut self) {}
+}
+
+#[test]
+fn who_asked_for_what(rt: HostRuntime) -> Result<(), Fail> {
+    let octets = octets_of(rt.alloc(), &[REQUEST, CONNECT, SELECT, CLOSE, OPEN, CANCEL])?;
+    let mut host = Clients {
+        link: Some(MemoryLink::new(rt.alloc(), octets.as_slice(), 2)?),
+        now: 0,
+    };
+    let words = "serve --bay two --logic free --port 7 --turns 2 --trace trace";
+    let words: Vec<&str> = words.split(" ").collect(rt.alloc())?;
+    let told = logged(rt.alloc(), &mut host, "0 contact QA1 1\n", words.as_slice());
+    let wanted = b"1000 clients on 127.0.0.1:7
+2000 association 1 open from 127.0.0.1:40000
+2000 association 1 select QA1: done
+2000 association 1 operate QA1 on orCat=2 orIdent=OPERATOR ctlNum=7: refused 10: the interlocking does not release the operation
+2000 association 1 operate QB1 off orCat=-3 orIdent= ctlNum=0: refused 10: the interlocking does not release the operation
+2000 association 1 cancel QA1 on orCat=2 orIdent=A\\x01 ctlNum=255: refused 18: the association has not selected the switch for this
+3000 association 2 open from 127.0.0.1:40000
+3000 association 2 select QA1: done
+3000 association 2 operate QA1 on orCat=2 orIdent=OPERATOR ctlNum=7: refused 10: the interlocking does not release the operation
+3000 association 2 operate QB1 off orCat=-3 orIdent= ctlNum=0: done
+3000 association 2 cancel QA1 on orCat=2 orIdent=A\\x01 ctlNum=255: refused 18: the association has not selected the switch for this
+3000 all turns are served
 "
         .as_slice();
     assert!(rt; told.as_slice() == wanted);

@@ -1,5 +1,6 @@
 // Serving over a link and a host in memory, and over those of the system.
 use crate::memory_link::somewhere;
+use crate::session;
 use crate::sockets::link_at;
 use bay_io::calls::Sink;
 use bay_io::input::ReadFault;
@@ -36,6 +37,8 @@ impl FileSystem for Texts<'_> {
             "bay" => BAY,
             "logic" => LOGIC,
             "trace" => self.trace,
+            "two" => session::BAY,
+            "free" => session::LOGIC,
             _ => return Err(ReadFault::Failed(ErrorKind::NotFound)),
         };
         match Vec::from_slice(alloc, text.as_bytes()) {
