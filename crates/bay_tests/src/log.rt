@@ -1,9 +1,5 @@
-<<<<<<< HEAD
 // What a server and a replay log, over links and hosts in memory.
-=======
-// What a server logs, over links and hosts in memory.
 use crate::memory_link::MemoryLink;
->>>>>>> 25d1383e (bay_tests: who asked for what, in the log)
 use crate::process::{WORDS, host_of};
 use crate::serve::{ready, served_by};
 use crate::session::{CONNECT, REQUEST, octets_of};
