@@ -52,6 +52,7 @@ fn a_queue_that_is_full(rt: HostRuntime) -> Result<(), Fail> {
     is_open.set(true);
     assert!(rt; output.write_octets(b"b")? == 1);
     output.flush_octets()?;
+    drop(output);
     let all = taken.into_inner();
     assert!(rt; all.len() == 1_048_577 && all.last() == Some(&b'b'));
     Ok(())
@@ -76,6 +77,7 @@ fn a_log_that_nobody_reads(rt: HostRuntime) -> Result<(), Fail> {
     output.log_line(&[Part::Text(&PIECE)]);
     is_open.set(true);
     output.log_line(&[Part::Text(b"last\n")]);
+    drop(output);
     let all = taken.into_inner();
     assert!(rt; all.as_slice() == b"first 1\n2 lines of the log were lost\nlast\n".as_slice());
     Ok(())
