@@ -7,4 +7,5 @@ pub mod OrderLemmas
 pub mod SameLemmas
 pub mod ScanLemmas
 pub mod SentLemmas
+pub mod TextLemmas
 pub mod TurnLemmas

@@ -324,3 +324,9 @@ all-ordered first h past (t ∷ ts) are tidy at =
           (subst (Stands first behind) (sym whole.device)
           (stands-events first t.now events h.device past at)),
     )
+
+-- its turn is at a moment that the device does not refuse
+pub ordered-on-time : (first : State) (h : Held) (t : DoneTurn) (past : List Past)
+    (command : Command) → IsOrdered first h t past command → t.now ≤ last_moment
+ordered-on-time first h t past command order =
+    on-time (nat_lt last_moment t.now) t.now _ _ order.heard.step refl order.heard.answered

@@ -2,7 +2,8 @@
 --
 -- `Service` is the main file: the turns that were served, one after the other, and all that
 -- happened to the device in them since load; that this is one run of the device, and
--- what holds of it. `Orders`: what stands behind each command that a turn tells.
+-- what holds of it. `Orders`: what stands behind each command that a turn tells; `Texts`: the same,
+-- read off the lines that are printed.
 
 -- What public clauses cite of the crates below.
 pub use Rattle.bay_device.specs.Commands
@@ -13,6 +14,8 @@ pub use Rattle.bay_device.specs.Steps
 pub use Rattle.bay_device.specs.Told
 pub use Rattle.bay_replay.specs.History
 pub use Rattle.bay_report.specs.Load
+pub use Rattle.bay_report_laws.specs.Printed
+pub use Rattle.bay_report_laws.specs.ReadBack
 pub use Rattle.bay_serve.specs.Calls
 pub use Rattle.bay_serve.specs.Turns
 pub use Rattle.bay_serve_laws.specs.Events
@@ -20,3 +23,4 @@ pub use Rattle.bay_serving.specs.ServeReport
 -- Its own definitions.
 pub mod Orders
 pub mod Service
+pub mod Texts

@@ -6,10 +6,12 @@ ghost use Rattle.bay_io.specs.Watched.{Writing};
 ghost use Rattle.bay_io.specs.declared.outbox.WriteFault.{WriteFault};
 ghost use Rattle.bay_report.specs.Load.{LoadsTo};
 ghost use Rattle.bay_report.specs.declared.load.Form.{Form};
+ghost use Rattle.bay_report_laws.specs.ReadBack.{HaveIds};
 ghost use Rattle.bay_serve.specs.Calls.{Called};
 ghost use Rattle.bay_serve.specs.Turns.{Held};
 ghost use Rattle.bay_serving.specs.ServeReport.{Serving, ServesTurns};
 ghost use Rattle.bay_serving_laws.specs.Orders.{AreOrdered};
+ghost use Rattle.bay_serving_laws.specs.Texts.{ArePrinted};
 ghost use Rattle.bay_serving_laws.specs.Service.{AreTurns, DoneTurn, IsBegun, IsService, turns_in};
 
 use bay_io::calls::Sink;
@@ -49,6 +51,21 @@ pub fn each_command_is_asked_for<L: Link, H: Host<L>, W: Sink>(_link: &L, _host:
         old host new answer) → IsBegun before.held
         → AreOrdered before.held.device before.held [] (turns_in (Called L.does L.failures) H.does
         W.contents W.does turns lines before old host new answer serves) }
+{}
+
+/// Each line that a server prints for its turns and that reads as a command, `ms command id on` (or
+/// `off`), is of a command of that turn, at the turn's moment, to the switch with this id, behind
+/// which the client's octets, the success sent to it and the scan of an earlier turn stand.
+pub fn printed_commands_are_asked_for<L: Link, H: Host<L>, W: Sink>(_link: &L, _host: &H, _sink: &W)
+    ensures lines { (turns : ℕ) (lines : List (ℕ × List ℕ)) (before : Serving L H)
+        (old new : Writing W) (host : H) (answer : Result ℕ WriteFault)
+        (serves : ServesTurns (Called L.does L.failures) H.does W.contents W.does turns lines before
+        old host new answer) → IsBegun before.held → HaveIds before.held.device.switches
+        → ArePrinted before.held.device before.held [] (turns_in (Called L.does L.failures) H.does
+        W.contents W.does turns lines before old host new answer serves) }
+    // The switches of a device that was loaded have ids.
+    ensures names { (bay : List ℕ) (form : Form) (program : List ℕ) (device : State)
+        → LoadsTo bay form program (Ok device) → HaveIds device.switches }
 {}
 
 /// No octets that any client sends, in whatever turns, make a command without the interlocking:
