@@ -4,8 +4,11 @@ ghost use Rattle.bay_device.specs.Device.{State};
 ghost use Rattle.bay_device.specs.Fresh.{Came};
 ghost use Rattle.bay_io.specs.Watched.{Writing};
 ghost use Rattle.bay_io.specs.declared.outbox.WriteFault.{WriteFault};
-ghost use Rattle.bay_report.specs.Load.{LoadsTo};
+ghost use Rattle.bay_device.specs.Load.{IsCompiled, IsLoaded};
+ghost use Rattle.bay_device.specs.Meaning.{Runs};
+ghost use Rattle.bay_report.specs.Load.{LoadsTo, file_of, text_of};
 ghost use Rattle.bay_report.specs.declared.load.Form.{Form};
+ghost use Rattle.bay_report.specs.declared.load.Form.TheVariants.{Logic};
 ghost use Rattle.bay_report_laws.specs.ReadBack.{HaveIds};
 ghost use Rattle.bay_serve.specs.Calls.{Called};
 ghost use Rattle.bay_serve.specs.Turns.{Held};
@@ -35,14 +38,18 @@ pub fn all_turns_are_one_run<L: Link, H: Host<L>, W: Sink>(_link: &L, _host: &H,
     ensures begins { (bay : List ℕ) (form : Form) (program : List ℕ) (device : State)
         → LoadsTo bay form program (Ok device)
         → IsBegun (record { device = device; queues = replicate 8 [] }) }
+    // A device that was loaded from a program's text runs it.
+    ensures runs { (bay program : List ℕ) (device : State) → LoadsTo bay Logic program (Ok device)
+        → (loaded : IsLoaded (file_of bay) (IsCompiled (text_of program)) device)
+        × Runs loaded.made.checked device }
 {}
 
 /// Each command that a turn reports, so each line `ms command id on` (or `off`) that is printed for
 /// it, is an operate that a client asked for, in the octets that the link gave of its association
 /// in this turn. Its success stands in octets that the device sent to this association in the turn:
 /// what the link takes of the association in the turn, and then what its queue holds, is what the
-/// queue held before, and then all that the device sent to it. A scan of an earlier turn, not too
-/// old, left the switch's interlocking value TRUE, and since then the process has not changed: in
+/// queue held before, and then all that the device sent to it; where the association is closed
+/// behind the turn, the link took a front of that. A scan of an earlier turn, not too old, left the switch's interlocking value TRUE, and since then the process has not changed: in
 /// the turn itself only events of associations come before the octets.
 pub fn each_command_is_asked_for<L: Link, H: Host<L>, W: Sink>(_link: &L, _host: &H, _sink: &W)
     ensures { (turns : ℕ) (lines : List (ℕ × List ℕ)) (before : Serving L H) (old new : Writing W)

@@ -1,5 +1,6 @@
 use Rattle.bay_serve.specs.Calls.{Called}
 use Rattle.bay_serving_laws.proofs.BeginLemmas.{begun-of}
+use Rattle.bay_replay.proofs.LoadedLemmas.{loaded-from, loaded-runs}
 use Rattle.bay_serving_laws.proofs.TurnLemmas.{service-of}
 use Rattle.bay_serving_laws.proofs.laws.all_turns_are_one_run.Goals as goal
 
@@ -10,3 +11,8 @@ returns-clause-run g c = λ turns lines before old new host answer serves loaded
 
 pub returns-clause-begins : goal.returns-clause-begins
 returns-clause-begins g c = begun-of
+
+pub returns-clause-runs : goal.returns-clause-runs
+returns-clause-runs g c = λ bay program device loads.
+    let loaded = loaded-from bay program device loads in
+    (loaded, loaded-runs bay program device loaded)
