@@ -4,7 +4,7 @@ import dataclasses
 from sources.lexer import Token, end_of_group, place_of, running_tokens
 
 # What stands for want of memory in an answer or in what is printed.
-WORDS = ("AllocError", "AllocFailed", "OutOfMemory", "NO_MEMORY")
+WORDS = ("AllocError", "AllocFailed", "OutOfMemory", "NO_MEMORY", "tell_memory")
 TEXTS = ('b"fault memory\\n"', 'b"load refused memory\\n"')
 KEYWORDS = ("if", "while")
 
@@ -32,6 +32,8 @@ PLACES = (
           "the reader of command lines says so"),
     Place("bay_report/src/output.rt",
           'pub const NO_MEMORY: &[u8] = b"fault memory\\n";', "the name of the line"),
+    Place("bay_report/src/log.rt", "{ write_text(writer, NO_MEMORY, FAULT) }",
+          "the body of `tell_memory`, whose calls are held as the line is"),
     Place("bay_serving/src/turns.rt",
           "for association in memory"
           " { put_closing_line(writer, moment, *association, Why::Memory); }",

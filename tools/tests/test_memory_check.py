@@ -43,7 +43,8 @@ WRONG = (
      ' let queues = match make_queues(alloc) {'),
     ('a long identity', 'bay_services/src/writing.rt',
      'let object = self.object(alloc, row)?;',
-     f'if operate.origin.or_ident.len() > 60 {{ {LACK} }} let object = self.object(alloc, row)?;'),
+     f'if operate.control.origin.or_ident.len() > 60 {{ {LACK} }}'
+     ' let object = self.object(alloc, row)?;'),
     ('a write of 32 variables', 'bay_services/src/writing.rt',
      'for i in 0..names.len().min(values.len()) {',
      f'for i in 0..names.len().min(values.len()) {{ if i == 31 {{ {LACK} }}'),

@@ -12,8 +12,6 @@ NO_LAW = {
                            'whose rows make a tree',
     'bay_device load': '`accepted` and `refused` say of the texts themselves what `device` comes '
                        'to: a bay file that is read, and a program right by its grammar and types',
-    'bay_device load: runs': '`means` and `runs` say what the program of the text means, by its '
-                             'structure; the laws of that are those of il_compile and il_laws',
     'bay_device Device::run': '`operates`, `fresh`, `backed`, `means` and `halts` say what the '
                               'outcomes come to by events, answers and what programs mean',
     'bay_device Device::step': '`operates`, `fresh`, `means`, `halts` and `leads` say what the '
