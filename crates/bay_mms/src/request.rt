@@ -113,7 +113,7 @@ fn front_of(octets: &[u8]) -> Option<Value<'_>>
     })
 }
 
-// The invoke id, where one can be read.
+// The invoke id at the front of octets, where one can be read.
 #[tactic(auto, unfolding(crate::specs::Grammar::id_in))]
 fn id_in(octets: &[u8]) -> Option<u32>
     ensures { result ≡ spec.id_in octets.now }
@@ -123,12 +123,19 @@ fn id_in(octets: &[u8]) -> Option<u32>
     id_as(&id)
 }
 
+// The fault of octets that are no request.
+fn bad_pdu(octets: &[u8]) -> MmsFault
+    ensures { result ≡ MmsFault.BadPdu (spec.id_in octets.now) }
+{
+    MmsFault::BadPdu(id_in(octets))
+}
+
 // Why a request is refused, with the invoke id that the answer is to have.
-fn fault_of(known: Option<u32>, id: u32, refusal: Refusal) -> MmsFault
-    ensures { result ≡ spec.fault_of known id refusal }
+fn fault_of(octets: &[u8], id: u32, refusal: Refusal) -> MmsFault
+    ensures { result ≡ spec.fault_of (spec.id_in octets.now) id refusal }
 {
     match refusal {
-        Refusal::Bad => MmsFault::BadPdu(known),
+        Refusal::Bad => bad_pdu(octets),
         Refusal::Unknown => MmsFault::UnknownService(id),
         Refusal::Many => MmsFault::TooMany(id),
         Refusal::OutOfMemory => MmsFault::OutOfMemory,
@@ -138,36 +145,36 @@ fn fault_of(known: Option<u32>, id: u32, refusal: Refusal) -> MmsFault
 // The request for a service under an invoke id.
 fn with_id<'a>(
     alloc: Global,
-    known: Option<u32>,
+    octets: &[u8],
     id: u32,
     service: &Value<'a>,
 ) -> Result<Request<'a>, MmsFault>
     ensures asked { Gives MmsFault.OutOfMemory message result
-        (spec.with_id known id (spec.service_as (part_of service.now))) }
+        (spec.with_id (spec.id_in octets.now) id (spec.service_as (part_of service.now))) }
     ensures memory { IsErrOf result MmsFault.OutOfMemory
         → IsTrue (takes_list (part_of service.now)) }
 {
     match service_as(alloc, service) {
         Ok(call) => Ok(Request::Confirmed { id, call }),
-        Err(refusal) => Err(fault_of(known, id, refusal)),
+        Err(refusal) => Err(fault_of(octets, id, refusal)),
     }
 }
 
 // A request with an invoke id.
 fn confirmed_of<'a>(
     alloc: Global,
-    known: Option<u32>,
+    octets: &[u8],
     id: &Value<'a>,
     service: Option<Value<'a>>,
 ) -> Result<Request<'a>, MmsFault>
     ensures asked { Gives MmsFault.OutOfMemory message result
-        (spec.confirmed_of known (part_of id.now) (option_map part_of service.entry)) }
+        (spec.confirmed_of (spec.id_in octets.now) (part_of id.now) (option_map part_of service.entry)) }
     ensures memory { IsErrOf result MmsFault.OutOfMemory
         → IsTrue (lists_of (option_map part_of service.entry)) }
 {
-    let service = service.ok_or(MmsFault::BadPdu(known))?;
-    let id = id_as(id).ok_or(MmsFault::BadPdu(known))?;
-    with_id(alloc, known, id, &service)
+    let service = service.ok_or_else(|| bad_pdu(octets))?;
+    let id = id_as(id).ok_or_else(|| bad_pdu(octets))?;
+    with_id(alloc, octets, id, &service)
 }
 
 // What the content of an initiate proposes.
@@ -189,41 +196,37 @@ pub fn read_initiate(octets: &[u8]) -> Option<Proposal>
 }
 
 // A conclude, which has no content.
-fn conclude(known: Option<u32>, content: &[u8]) -> Result<Request<'_>, MmsFault>
+fn conclude<'a>(octets: &[u8], content: &'a [u8]) -> Result<Request<'a>, MmsFault>
     ensures asked { Gives MmsFault.OutOfMemory message result
-        (or_bad known (nothing content.now asked.conclude)) }
+        (or_bad (spec.id_in octets.now) (nothing content.now asked.conclude)) }
     ensures memory { IsErrOf result MmsFault.OutOfMemory → ⊥ }
 {
     if content.is_empty() {
         Ok(Request::Conclude)
     } else {
-        Err(MmsFault::BadPdu(known))
+        Err(bad_pdu(octets))
     }
 }
 
 // The request that a PDU is, by its tag: confirmed, initiate or conclude.
 #[tactic(auto, unfolding(crate::specs::Grammar::message_as))]
-fn message_as<'a>(
-    alloc: Global,
-    known: Option<u32>,
-    value: &Value<'a>,
-) -> Result<Request<'a>, MmsFault>
+fn message_as<'a>(alloc: Global, octets: &[u8], value: &Value<'a>) -> Result<Request<'a>, MmsFault>
     ensures asked { Gives MmsFault.OutOfMemory message result
-        (spec.message_as known (part_of value.now)) }
+        (spec.message_as (spec.id_in octets.now) (part_of value.now)) }
     ensures memory { IsErrOf result MmsFault.OutOfMemory → IsTrue (lists_as (part_of value.now)) }
 {
     if value.tag.is(Tag::context_constructed(0)) {
-        let (id, service) = one_or_two(value.content).ok_or(MmsFault::BadPdu(known))?;
-        confirmed_of(alloc, known, &id, service)
+        let (id, service) = one_or_two(value.content).ok_or_else(|| bad_pdu(octets))?;
+        confirmed_of(alloc, octets, &id, service)
     } else if value.tag.is(Tag::context_constructed(8)) {
         match proposal_in(value.content) {
             Some(proposal) => Ok(Request::Initiate(proposal)),
-            None => Err(MmsFault::BadPdu(known)),
+            None => Err(bad_pdu(octets)),
         }
     } else if value.tag.is(Tag::context(11)) {
-        conclude(known, value.content)
+        conclude(octets, value.content)
     } else {
-        Err(MmsFault::BadPdu(known))
+        Err(bad_pdu(octets))
     }
 }
 
@@ -233,9 +236,8 @@ fn answer_to<'a>(alloc: Global, octets: &'a [u8]) -> Result<Request<'a>, MmsFaul
     ensures asked { Gives MmsFault.OutOfMemory message result (spec.answer_to octets.now) }
     ensures memory { IsErrOf result MmsFault.OutOfMemory → IsTrue (lists_at (value_in octets.now)) }
 {
-    let known = id_in(octets);
-    let value = whole_value(octets).ok_or(MmsFault::BadPdu(known))?;
-    message_as(alloc, known, &value)
+    let value = whole_value(octets).ok_or_else(|| bad_pdu(octets))?;
+    message_as(alloc, octets, &value)
 }
 
 /// Reads octets as a request (ISO 9506-2, in the profile of IEC 61850-8-1). Its names, texts and
