@@ -5,9 +5,8 @@ use Rattle.bay_transport.specs.declared.fault.TransportFault.TheVariants.{BadTpk
 use Rattle.bay_transport.specs.declared.assembly.Assembly.{Assembly}
 use Rattle.bay_transport.specs.declared.fed.Got.{Got}
 use Rattle.bay_transport.specs.declared.fed.Got.TheVariants.{More, Answer, Tsdu, Ended}
-use Rattle.bay_transport.specs.declared.reader.ReaderState.{ReaderState}
-use Rattle.bay_transport.specs.declared.reader.ReaderState.TheVariants.{Open, Closed, Refused}
-use Rattle.bay_transport.specs.declared.reader.Reader.{Reader}
+use Rattle.bay_transport.specs.declared.transport.TransportState.{TransportState}
+use Rattle.bay_transport.specs.declared.transport.TransportState.TheVariants.{Open, Closed, Refused}
 use Rattle.bay_transport.specs.Doings.{Doing, Answers, Delivers, Ends, Fails, Left, Going, Over, Broken, Stream, doings}
 use Rattle.bay_transport.specs.Assembly.{left_of, IsSound, HasNoRoom}
 
@@ -101,27 +100,27 @@ broken s = record { number = s.number; left = Broken }
 
 -- ---- what the fields mean
 
--- what octets left: an assembly while the reader is open
-abbrev pub left_in : ReaderState → Assembly → Left
+-- what octets left: an assembly while octets are taken
+abbrev pub left_in : TransportState → Assembly → Left
 left_in Open a = left_of a
 left_in Closed a = Over
 left_in Refused a = Broken
 
--- the stream that a reader has read
-abbrev pub stream_of : Reader → Stream
-stream_of r = record { number = r.assembly.number; left = left_in r.state r.assembly }
-
--- what a reader has received
-abbrev pub received_of : Reader → Received
-received_of r = record { stream = stream_of r; shown = r.assembly.shown.items }
+-- what a transport has received
+abbrev pub received_of : TransportState → Assembly → Received
+received_of state a =
+    record {
+      stream = record { number = a.number; left = left_in state a };
+      shown = a.shown.items;
+    }
 
 -- Where no more octets are taken, no room is kept for them.
-abbrev pub ReleasedUnlessOpen : ReaderState → Assembly → Type 0
+abbrev pub ReleasedUnlessOpen : TransportState → Assembly → Type 0
 ReleasedUnlessOpen Open a = Unit {0}
 ReleasedUnlessOpen Closed a = HasNoRoom a
 ReleasedUnlessOpen Refused a = HasNoRoom a
 
--- What holds of a reader between pieces.
-pub record IsKept (r : Reader) : Type 0 where
-  pub sound : IsSound r.assembly
-  pub room : ReleasedUnlessOpen r.state r.assembly
+-- What holds of a transport between pieces.
+pub record IsKept (state : TransportState) (a : Assembly) : Type 0 where
+  pub sound : IsSound a
+  pub room : ReleasedUnlessOpen state a

@@ -11,7 +11,6 @@ pub mod fault;
 pub mod fed;
 mod frame;
 pub mod laws;
-mod reader;
 mod request;
 pub mod transport;
 mod wrap;

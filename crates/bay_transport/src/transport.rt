@@ -1,22 +1,34 @@
 // A connection as its user sees it.
 ghost use Rattle.std.specs.Prelude.{◌≡◌, ◌+◌, ◌<◌, ◌≤◌, ◌++◌, [], ℕ, List, None, IfOk, IfErr, OnErr, IsSome, IfSome, length, take};
-ghost use Rattle.bay_transport.specs.Assembly.{KeepsShown};
+ghost use Rattle.bay_transport.specs.Assembly.{IsSize, KeepsShown};
 ghost use Rattle.bay_transport.specs.Doings.{start, after};
 ghost use Rattle.bay_transport.specs.Feeding.{Feeds, RefusesPiece, IsWithinLimits, size_agreed, end_of_stream, broken, doing_for};
 ghost use Rattle.bay_transport.specs.Wrap.{tpdus_of, Carries};
 
+use crate::assembly::Assembly;
 use crate::fault::TransportFault;
-use crate::fed::Fed;
-use crate::reader::{Reader, ReaderState};
+use crate::fed::{Fed, Got};
 use crate::wrap::{header, wrap};
 use std::alloc::{AllocError, Global};
 use std::marker::Model;
+
+/// Whether a transport takes more octets.
+#[derive(Clone, Copy)]
+pub enum TransportState {
+    /// It takes more octets.
+    Open,
+    /// The connection has ended.
+    Closed,
+    /// Octets were refused, or an allocation failed.
+    Refused,
+}
 
 /// One connection, on the association with this number. Contracts see it as what its octets leave,
 /// and the octets of what they completed last.
 #[derive(Drop)]
 pub struct Transport {
-    reader: Reader,
+    state: TransportState,
+    assembly: Assembly,
 }
 
 impl Model for Transport {
@@ -24,9 +36,9 @@ impl Model for Transport {
 
     ghost Value = { Received };
 
-    ghost view = { λ t. received_of t.reader };
+    ghost view = { λ t. received_of t.state t.assembly };
 
-    ghost invariant = { λ t. IsKept t.reader };
+    ghost invariant = { λ t. IsKept t.state t.assembly };
 }
 
 impl Transport {
@@ -39,7 +51,8 @@ impl Transport {
         } }
     {
         Transport {
-            reader: Reader::new(alloc, number),
+            state: TransportState::Open,
+            assembly: Assembly::new(alloc, number),
         }
     }
 
@@ -68,7 +81,30 @@ impl Transport {
         ensures shown { IfOk result (λ fed. KeepsShown fed.got self.old.shown self.new.shown) }
         ensures limits { IsWithinLimits self.new }
     {
-        self.reader.feed(piece)
+        match self.state {
+            TransportState::Refused => return Err(TransportFault::Failed),
+            TransportState::Closed => {
+                return Ok(Fed {
+                    used: 0,
+                    got: Got::Ended,
+                });
+            }
+            TransportState::Open => {}
+        }
+        match self.assembly.advance(piece) {
+            Ok((used, got)) => {
+                if let Got::Ended = got {
+                    self.state = TransportState::Closed;
+                    self.assembly.release();
+                }
+                Ok(Fed { used, got })
+            }
+            Err(fault) => {
+                self.state = TransportState::Refused;
+                self.assembly.release();
+                Err(fault)
+            }
+        }
     }
 
     /// Returns the octets of what was completed last: the answer to a request for a connection,
@@ -76,24 +112,26 @@ impl Transport {
     pub fn shown(&self) -> &[u8]
         ensures { result.now ≡ self.now.shown }
     {
-        self.reader.assembly.shown.as_slice()
+        self.assembly.shown.as_slice()
     }
 
     /// Ends the connection from this side: takes no more octets, and frees the buffers.
     pub fn end(&mut self)
         ensures { self.new ≡ record { stream = end_of_stream self.old.stream; shown = [] } }
     {
-        self.reader.end();
+        self.state = TransportState::Closed;
+        self.assembly.release();
     }
 
     /// Returns the agreed size of a TPDU in octets, if a request came and the connection has
     /// neither ended nor failed.
     pub fn agreed_size(&self) -> Option<usize>
-        ensures { result ≡ size_agreed self.now.stream }
+        ensures agreed { result ≡ size_agreed self.now.stream }
+        ensures sized { IfSome result IsSize }
     {
-        match self.reader.state {
-            ReaderState::Open => self.reader.assembly.size,
-            ReaderState::Closed | ReaderState::Refused => None,
+        match self.state {
+            TransportState::Open => self.assembly.size,
+            TransportState::Closed | TransportState::Refused => None,
         }
     }
 
@@ -106,8 +144,6 @@ impl Transport {
         ensures several { result ≡ None
             → IfSome (size_agreed self.now.stream) (λ size. size < count + 3) }
     {
-        // That the size agreed is within its limits is known of the reader's parts alone.
-        let _ = &self.reader.assembly;
         match self.agreed_size() {
             Some(size) => header(size, count),
             None => unreachable!(),
@@ -133,7 +169,7 @@ impl Transport {
             (λ size. Carries size (front.now ++ rest.now) octets.items)) }
     {
         match self.agreed_size() {
-            Some(size) => wrap(self.reader.assembly.alloc, size, front, rest),
+            Some(size) => wrap(self.assembly.alloc, size, front, rest),
             None => unreachable!(),
         }
     }
