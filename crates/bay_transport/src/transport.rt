@@ -94,8 +94,7 @@ impl Transport {
         match self.assembly.advance(piece) {
             Ok((used, got)) => {
                 if let Got::Ended = got {
-                    self.state = TransportState::Closed;
-                    self.assembly.release();
+                    self.end();
                 }
                 Ok(Fed { used, got })
             }
