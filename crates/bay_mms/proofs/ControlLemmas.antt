@@ -1,5 +1,5 @@
 -- Which data are controls, and what is written of them.
-use Rattle.std.proofs.Common.{◌≡◌, ℕ, ℤ, pos, negsuc, ◌*◌, ◌/◌, ◌<◌, Bool, true, eqb, List, [], ◌∷◌, length, Some, None, Ok, refl, sym, ap, ◌∙◌, subst, lit<, arith, inl, inr}
+use Rattle.std.proofs.Common.{◌≡◌, ℕ, ℤ, pos, negsuc, ◌*◌, ◌/◌, ◌<◌, Bool, true, false, eqb, List, [], ◌∷◌, length, Some, None, Ok, refl, sym, ap, ◌∙◌, subst, lit<, arith, inl, inr}
 use Rattle.std.proofs.lemmas.Option.{same_Some}
 use Rattle.std.proofs.lemmas.Int.{ints}
 use Rattle.std.specs.Prelude.{FitsSigned}
@@ -8,11 +8,10 @@ use Rattle.std.proofs.lemmas.Bool.{eqb-true, ltb-true, and_parts}
 use Rattle.bay_ber.specs.Writing.{bit_string_octets}
 use Rattle.bay_ber.proofs.BackLemmas.{bind-some}
 use Rattle.bay_ber.proofs.ReadLemmas.{chosen}
-use Rattle.bay_tree.specs.declared.leaf.Dbpos.{Dbpos}
-use Rattle.bay_tree.specs.declared.leaf.Dbpos.TheVariants.{Intermediate, Off, On, Bad}
-use Rattle.bay_mms.specs.Data.{Datum, Data, structure, truth, bits, integer, unsigned, octets, text, utc, other, no_data, datum, datum_text, position_octet}
+use Rattle.bay_mms.specs.declared.control.Check.{Check}
+use Rattle.bay_mms.specs.Data.{Datum, Data, structure, truth, bits, integer, unsigned, octets, text, utc, other, no_data, datum, datum_text}
 use Rattle.bay_mms.specs.Views.{data_before}
-use Rattle.bay_mms.specs.Controls.{Origin, Control, Operate, origin_datum, control_before, operate_datum, cancel_datum, AreChecks, IsOperate, truth_as, integer_as, unsigned_as, octets_as, moment_as, position_by, first_position, check_as, list_of, parts_as, origin_of, origin_as, control_of, cancel_of, operate_of, cancel_as, operate_as, is_category, is_number, is_in_range, operate_in}
+use Rattle.bay_mms.specs.Controls.{Origin, Control, Operate, origin_datum, control_before, operate_datum, cancel_datum, AreChecks, IsOperate, truth_as, integer_as, unsigned_as, octets_as, moment_as, check_octet, checks, check_by, first_check, check_as, list_of, parts_as, origin_of, origin_as, control_of, cancel_of, operate_of, cancel_as, operate_as, is_category, is_number, is_in_range, operate_in}
 use Rattle.bay_mms.specs.Laws.{IsHeld, IsPlain}
 
 pub list-before : (ds : List Datum) → list_of (data_before ds no_data) ≡ ds
@@ -96,37 +95,21 @@ parts-are (utc value) ps e = absurd cc
 parts-are (other tag value) ps e = absurd cc
 
 -- two bits
-position-is : (two : ℕ) (p : Dbpos) → position_by two ≡ Some p → two * 64 ≡ position_octet p
-position-is two p e =
-    elim (chosen (eqb two 0) (Some Intermediate) _ (Some p) e) [
-      | inl h ↦ let n = eqb-true two 0 h.0 in rw (n, ← same_Some Intermediate p h.1) refl
-      | inr h ↦ elim (chosen (eqb two 1) (Some Off) _ (Some p) h.1) [
-        | inl i ↦ let n = eqb-true two 1 i.0 in rw (n, ← same_Some Off p i.1) refl
-        | inr i ↦ elim (chosen (eqb two 2) (Some On) _ (Some p) i.1) [
-          | inl j ↦ let n = eqb-true two 2 j.0 in rw (n, ← same_Some On p j.1) refl
-          | inr j ↦ elim (chosen (eqb two 3) (Some Bad) None (Some p) j.1) [
-            | inl k ↦ let n = eqb-true two 3 k.0 in rw (n, ← same_Some Bad p k.1) refl
-            | inr k ↦ let none : None ≡ Some p = k.1 in absurd cc
-          ]
-        ]
-      ]
-    ]
+check-by-is : (two : ℕ) (c : Check) → check_by two ≡ Some c → two * 64 ≡ check_octet c
+check-by-is two c e = grind (arith)
 
-position-again : (two : ℕ) (p : Dbpos) → two * 64 ≡ position_octet p → position_by two ≡ Some p
-position-again two Intermediate high = let n : two ≡ 0 = omega arith in rw n refl
-position-again two Off high = let n : two ≡ 1 = omega arith in rw n refl
-position-again two On high = let n : two ≡ 2 = omega arith in rw n refl
-position-again two Bad high = let n : two ≡ 3 = omega arith in rw n refl
+check-by-again : (two : ℕ) (c : Check) → two * 64 ≡ check_octet c → check_by two ≡ Some c
+check-by-again two c high = grind (arith)
 
-first-is : (held : List ℕ) (p : Dbpos) → first_position held ≡ Some p → AreChecks held p
+first-is : (held : List ℕ) (p : Check) → first_check held ≡ Some p → AreChecks held p
 first-is [] p e = absurd cc
 first-is (first ∷ later) p e =
-    record { first = first; later = later; is = refl; high = position-is (first / 64) p e }
+    record { first = first; later = later; is = refl; high = check-by-is (first / 64) p e }
 
-check-is : (d : Datum) (p : Dbpos) → check_as d ≡ Some p
+check-is : (d : Datum) (p : Check) → check_as d ≡ Some p
     → (held : List ℕ) × AreChecks held p × (d ≡ bits held 2)
 check-is (bits held count) p e =
-    elim (chosen (eqb count 2) (first_position held) None (Some p) e) [
+    elim (chosen (eqb count 2) (first_check held) None (Some p) e) [
       | inl h ↦ (held, first-is held p h.1, ap (λ (n : ℕ). bits held n) (eqb-true count 2 h.0))
       | inr h ↦ let none : None ≡ Some p = h.1 in absurd cc
     ]
@@ -240,7 +223,7 @@ pub cancel-again : (d : Datum) (c : Control) → d ≡ cancel_datum c → cancel
 unfolding cancel_as control_of origin_as
 cancel-again d c is = rw is refl
 
-operate-again-at : (held : List ℕ) (o : Operate) → first_position held ≡ Some o.check
+operate-again-at : (held : List ℕ) (o : Operate) → first_check held ≡ Some o.check
     → operate_as (structure (control_before o.control (datum (bits held 2) no_data))) ≡ Some o
 unfolding operate_as control_of origin_as
 operate-again-at held o e = rw e refl
@@ -248,24 +231,25 @@ operate-again-at held o e = rw e refl
 pub operate-again : (d : Datum) (o : Operate) → IsOperate d o → operate_as d ≡ Some o
 operate-again d o i =
     let k = i.checks in
-    let e : first_position i.held ≡ Some o.check =
-    ap first_position k.is ∙ position-again (k.first / 64) o.check k.high in
+    let e : first_check i.held ≡ Some o.check =
+    ap first_check k.is ∙ check-by-again (k.first / 64) o.check k.high in
     ap operate_as i.is ∙ operate-again-at i.held o e
 
 -- ---- the text is that of the data
 
-high-octet : (p : Dbpos) → bit_string_octets (position_octet p ∷ []) 2 ≡ 6 ∷ position_octet p ∷ []
-high-octet Intermediate = refl
-high-octet Off = refl
-high-octet On = refl
-high-octet Bad = refl
+high-octet : (s i : Bool) → let two = check_octet (checks s i) in
+    bit_string_octets (two ∷ []) 2 ≡ 6 ∷ two ∷ []
+high-octet false false = refl
+high-octet false true = refl
+high-octet true false = refl
+high-octet true true = refl
 
-check_octets : (held : List ℕ) (p : Dbpos) → AreChecks held p
-    → bit_string_octets held 2 ≡ bit_string_octets (position_octet p ∷ []) 2
+check_octets : (held : List ℕ) (p : Check) → AreChecks held p
+    → bit_string_octets held 2 ≡ bit_string_octets (check_octet p ∷ []) 2
 check_octets held p k =
     let a : bit_string_octets (k.first ∷ k.later) 2 ≡ 6 ∷ k.first / 64 * 64 ∷ [] = refl in
     ap (λ (xs : List ℕ). bit_string_octets xs 2) k.is ∙ a ∙ ap (λ (n : ℕ). 6 ∷ n ∷ []) k.high
-    ∙ sym (high-octet p)
+    ∙ sym (high-octet p.synchrocheck p.interlock_check)
 
 text-at : (held : List ℕ) (o : Operate) → AreChecks held o.check
     → datum_text (structure (control_before o.control (datum (bits held 2) no_data)))
@@ -278,17 +262,21 @@ operate-text-is d o e = let i = operate-is d o e in ap datum_text i.is ∙ text-
 
 -- ---- an operate in range reads back from its data
 
-own : (p : Dbpos) → AreChecks (position_octet p ∷ []) p
-own Intermediate = record { first = _; later = []; is = refl; high = refl }
-own Off = record { first = _; later = []; is = refl; high = refl }
-own On = record { first = _; later = []; is = refl; high = refl }
-own Bad = record { first = _; later = []; is = refl; high = refl }
+own : (s i : Bool) → let c = checks s i in AreChecks (check_octet c ∷ []) c
+own false false = record { first = _; later = []; is = refl; high = refl }
+own false true = record { first = _; later = []; is = refl; high = refl }
+own true false = record { first = _; later = []; is = refl; high = refl }
+own true true = record { first = _; later = []; is = refl; high = refl }
 
 pub operate_back : (o : Operate) → is_in_range o.control ≡ true
     → operate_in (operate_datum o) ≡ Ok o
 operate_back o fits =
     let e : operate_as (operate_datum o) ≡ Some o =
-    operate-again (operate_datum o) o (record { held = _; checks = own o.check; is = refl }) in
+    operate-again (operate_datum o) o (record {
+      held = _;
+      checks = own o.check.synchrocheck o.check.interlock_check;
+      is = refl;
+    }) in
     rw (e, fits) refl
 
 -- ---- its text is spelled as its data
@@ -301,11 +289,11 @@ number_fits : (z : ℤ) → is_number z ≡ true → FitsSigned w64 z
 number_fits (pos n) e = let b : n < 256 = ltb-true _ _ e in omega (arith, ints)
 number_fits (negsuc n) e = absurd cc
 
-check-held : (p : Dbpos) → IsHeld (position_octet p ∷ []) 2
-check-held Intermediate = record { enough = omega arith; short = lit< tt; whole = refl }
-check-held Off = record { enough = omega arith; short = lit< tt; whole = refl }
-check-held On = record { enough = omega arith; short = lit< tt; whole = refl }
-check-held Bad = record { enough = omega arith; short = lit< tt; whole = refl }
+check-held : (s i : Bool) → IsHeld (check_octet (checks s i) ∷ []) 2
+check-held false false = record { enough = omega arith; short = lit< tt; whole = refl }
+check-held false true = record { enough = omega arith; short = lit< tt; whole = refl }
+check-held true false = record { enough = omega arith; short = lit< tt; whole = refl }
+check-held true true = record { enough = omega arith; short = lit< tt; whole = refl }
 
 pub operate-plain : (o : Operate) → is_in_range o.control ≡ true → length o.control.t ≡ 8
     → IsPlain (operate_datum o)
@@ -315,6 +303,9 @@ operate-plain o fits eight =
       tt,
       (
         (category_fits o.control.origin.or_cat b.0, (tt, tt)),
-        (number_fits o.control.ctl_num a.0, (eight, (tt, (check-held o.check, tt)))),
+        (
+          number_fits o.control.ctl_num a.0,
+          (eight, (tt, (check-held o.check.synchrocheck o.check.interlock_check, tt))),
+        ),
       ),
     )

@@ -2,8 +2,8 @@
 use Rattle.std.specs.Prelude.{ℕ, Option, Some, None}
 use Rattle.bay_mms.specs.declared.fault.MmsFault.{MmsFault}
 use Rattle.bay_mms.specs.declared.fault.MmsFault.TheVariants.{BadPdu, UnknownService, TooMany, OutOfMemory}
-use Rattle.bay_mms.specs.declared.fault.ControlFault.{ControlFault}
-use Rattle.bay_mms.specs.declared.fault.ControlFault.TheVariants.{WrongShape, OutOfRange}
+use Rattle.bay_mms.specs.declared.fault.DataAccessError.{DataAccessError}
+use Rattle.bay_mms.specs.declared.fault.DataAccessError.TheVariants.{ObjectAccessDenied, TypeInconsistent, ObjectNonExistent, ObjectValueInvalid}
 
 -- The faults of requests have the numbers 30 to 32; want of memory has none.
 abbrev pub code_of : MmsFault → Option ℕ
@@ -12,7 +12,9 @@ code_of (UnknownService id) = Some 31
 code_of (TooMany id) = Some 32
 code_of OutOfMemory = None
 
--- The faults of controls have AddCauses.
-abbrev pub control_code_of : ControlFault → ℕ
-control_code_of WrongShape = 7
-control_code_of OutOfRange = 11
+-- the number of an error (ISO 9506-2, DataAccessError)
+abbrev pub access_code_of : DataAccessError → ℕ
+access_code_of ObjectAccessDenied = 3
+access_code_of TypeInconsistent = 7
+access_code_of ObjectNonExistent = 10
+access_code_of ObjectValueInvalid = 11

@@ -4,7 +4,7 @@ use Rattle.bay_mms.specs.declared.control.Origin as origin
 use Rattle.bay_mms.specs.declared.control.Cancel as cancel
 use Rattle.bay_mms.specs.declared.control.Operate as operate
 use Rattle.bay_mms.specs.declared.shape.Shape.{Shape}
-use Rattle.bay_mms.specs.declared.fault.ControlFault.{ControlFault}
+use Rattle.bay_mms.specs.declared.fault.DataAccessError.{DataAccessError}
 use Rattle.bay_mms.specs.Controls.{Origin, Control, Operate}
 
 -- an originator
@@ -38,6 +38,7 @@ shaping s =
     }
 
 -- a result, seen through a view
-abbrev pub result_view : {A B : Type 0} → (A → B) → Result A ControlFault → Result B ControlFault
+abbrev pub result_view : {A B : Type 0} → (A → B) → Result A DataAccessError
+    → Result B DataAccessError
 result_view view (Ok x) = Ok (view x)
 result_view view (Err fault) = Err fault

@@ -1,12 +1,11 @@
 -- What a control is asked for, and the data that this is (IEC 61850-7-2, Select, SelectWithValue,
 -- Operate and Cancel; IEC 61850-8-1, their mapping to SBOw, Oper and Cancel).
-use Rattle.std.specs.Prelude.{ℕ, ℤ, pos, negsuc, ◌≡◌, ◌*◌, ◌/◌, ◌==◌, ◌&&◌, Bool, false, List, [], ◌∷◌, length, Option, Some, None, Result, Ok, Err, nat_lt, if◌then◌else◌}
+use Rattle.std.specs.Prelude.{ℕ, ℤ, pos, negsuc, ◌≡◌, ◌+◌, ◌*◌, ◌/◌, ◌==◌, ◌&&◌, Bool, true, false, List, [], ◌∷◌, length, Option, Some, None, Result, Ok, Err, nat_lt, if◌then◌else◌}
 use Rattle.bay_base.specs.Options.{◌>>=◌}
-use Rattle.bay_tree.specs.declared.leaf.Dbpos.{Dbpos}
-use Rattle.bay_tree.specs.declared.leaf.Dbpos.TheVariants.{Intermediate, Off, On, Bad}
-use Rattle.bay_mms.specs.Data.{Datum, Data, structure, truth, bits, integer, unsigned, octets, utc, no_data, datum, position_octet}
-use Rattle.bay_mms.specs.declared.fault.ControlFault.{ControlFault}
-use Rattle.bay_mms.specs.declared.fault.ControlFault.TheVariants.{WrongShape, OutOfRange}
+use Rattle.bay_mms.specs.Data.{Datum, Data, structure, truth, bits, integer, unsigned, octets, utc, no_data, datum}
+use Rattle.bay_mms.specs.declared.control.Check.{Check}
+use Rattle.bay_mms.specs.declared.fault.DataAccessError.{DataAccessError}
+use Rattle.bay_mms.specs.declared.fault.DataAccessError.TheVariants.{TypeInconsistent, ObjectValueInvalid}
 
 -- who controls (IEC 61850-7-3, Originator): orCat and orIdent, in any range
 pub record Origin : Type 0 where
@@ -24,9 +23,13 @@ pub record Control : Type 0 where
 -- what SBOw and Oper have: Check behind these
 pub record Operate : Type 0 where
   pub control : Control
-  pub check : Dbpos
+  pub check : Check
 
 -- ---- their data
+
+-- the octet with the two bits of Check
+abbrev pub check_octet : Check → ℕ
+check_octet c = (if c.synchrocheck then 0x80 else 0) + (if c.interlock_check then 0x40 else 0)
 
 -- a structure of orCat and orIdent
 abbrev pub origin_datum : Origin → Datum
@@ -41,18 +44,18 @@ control_before c later =
 -- the data of SBOw and Oper
 abbrev pub operate_datum : Operate → Datum
 operate_datum o =
-    structure (control_before o.control (datum (bits (position_octet o.check ∷ []) 2) no_data))
+    structure (control_before o.control (datum (bits (check_octet o.check ∷ []) 2) no_data))
 
 -- the data of Cancel
 abbrev pub cancel_datum : Control → Datum
 cancel_datum c = structure (control_before c no_data)
 
 -- The two bits are the highest of the first octet; what is behind them is not looked at.
-pub record AreChecks (held : List ℕ) (check : Dbpos) : Type 0 where
+pub record AreChecks (held : List ℕ) (check : Check) : Type 0 where
   pub first : ℕ
   pub later : List ℕ
   pub is : held ≡ first ∷ later
-  pub high : first / 64 * 64 ≡ position_octet check
+  pub high : first / 64 * 64 ≡ check_octet check
 
 -- The data are an operate: those that it has, but for the octets of Check.
 pub record IsOperate (d : Datum) (o : Operate) : Type 0 where
@@ -83,27 +86,31 @@ abbrev pub moment_as : Datum → Option (List ℕ)
 moment_as (utc value) = Some value
 moment_as d = None
 
--- the position of two bits
-abbrev pub position_by : ℕ → Option Dbpos
-position_by two =
-    if two == 0 then Some Intermediate
-    else (if two == 1 then Some Off
-    else (if two == 2 then Some On
-    else (if two == 3 then Some Bad
+-- synchrocheck and interlock-check
+abbrev pub checks : Bool → Bool → Check
+checks s i = record { synchrocheck = s; interlock_check = i }
+
+-- the checks of two bits
+abbrev pub check_by : ℕ → Option Check
+check_by two =
+    if two == 0 then Some (checks false false)
+    else (if two == 1 then Some (checks false true)
+    else (if two == 2 then Some (checks true false)
+    else (if two == 3 then Some (checks true true)
     else None)))
 
--- the position that the two highest bits of an octet are
-abbrev pub position_of : ℕ → Option Dbpos
-position_of octet = position_by (octet / 64)
+-- the checks that the two highest bits of an octet are
+abbrev pub check_of : ℕ → Option Check
+check_of octet = check_by (octet / 64)
 
--- the position that stands in the first octet
-abbrev pub first_position : List ℕ → Option Dbpos
-first_position [] = None
-first_position (first ∷ later) = position_of first
+-- the checks that stand in the first octet
+abbrev pub first_check : List ℕ → Option Check
+first_check [] = None
+first_check (first ∷ later) = check_of first
 
 -- two bits
-abbrev pub check_as : Datum → Option Dbpos
-check_as (bits held count) = if count == 2 then first_position held else None
+abbrev pub check_as : Datum → Option Check
+check_as (bits held count) = if count == 2 then first_check held else None
 check_as d = None
 
 -- data one behind another, as a list
@@ -148,8 +155,8 @@ cancel_of parts = None
 abbrev pub operate_of : List Datum → Option Operate
 operate_of (value ∷ origin ∷ number ∷ moment ∷ test ∷ check ∷ []) = do
   control ← control_of value origin number moment test
-  position ← check_as check
-  Some (record { control = control; check = position })
+  two ← check_as check
+  Some (record { control = control; check = two })
 operate_of parts = None
 
 -- the cancel that data are, in any range
@@ -178,14 +185,14 @@ is_in_range c =
     is_number c.ctl_num && (is_category c.origin.or_cat && nat_lt (length c.origin.or_ident) 65)
 
 -- A control that is in range; data of another shape are told before one that is not.
-abbrev pub within : {A : Type 0} → (A → Control) → Option A → Result A ControlFault
-within control None = Err WrongShape
-within control (Some x) = if is_in_range (control x) then Ok x else Err OutOfRange
+abbrev pub within : {A : Type 0} → (A → Control) → Option A → Result A DataAccessError
+within control None = Err TypeInconsistent
+within control (Some x) = if is_in_range (control x) then Ok x else Err ObjectValueInvalid
 
 -- the operate that data are, or why they are none
-abbrev pub operate_in : Datum → Result Operate ControlFault
+abbrev pub operate_in : Datum → Result Operate DataAccessError
 operate_in d = within (λ o. o.control) (operate_as d)
 
 -- the cancel that data are, or why they are none
-abbrev pub cancel_in : Datum → Result Control ControlFault
+abbrev pub cancel_in : Datum → Result Control DataAccessError
 cancel_in d = within (λ c. c) (cancel_as d)

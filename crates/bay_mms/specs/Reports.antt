@@ -5,8 +5,8 @@ use Rattle.bay_ber.specs.Writing.{element, truth_octets, integer_octets, bit_str
 use Rattle.bay_mms.specs.declared.control.Origin.{Origin}
 use Rattle.bay_mms.specs.declared.control.Operate.{Operate}
 use Rattle.bay_mms.specs.declared.report.ControlError.{ControlError}
-use Rattle.bay_mms.specs.Data.{Datum, Data, structure, integer, unsigned, text, no_data, datum, data_text, position_octet}
-use Rattle.bay_mms.specs.Controls.{origin_datum, operate_datum}
+use Rattle.bay_mms.specs.Data.{Datum, Data, structure, integer, unsigned, text, no_data, datum, data_text}
+use Rattle.bay_mms.specs.Controls.{origin_datum, check_octet, operate_datum}
 use Rattle.bay_mms.specs.ControlViews.{originating, operating}
 use Rattle.bay_mms.specs.Tags.{context, constructed, sequence, visible_tag}
 
@@ -78,7 +78,7 @@ abbrev pub operate_back : Operate → List ℕ
 operate_back o =
     element (context 17) o.control.t
     ++ (element (context 3) (truth_octets o.control.test)
-    ++ element (context 4) (bit_string_octets (position_octet o.check ∷ []) 2))
+    ++ element (context 4) (bit_string_octets (check_octet o.check ∷ []) 2))
 
 -- CntrlObj and Error
 abbrev pub failure_front : ControlError → List ℕ

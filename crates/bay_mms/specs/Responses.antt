@@ -2,6 +2,8 @@
 use Rattle.std.specs.Prelude.{ℕ, ℤ, pos, ◌*◌, ◌/◌, Bool, false, Option, Some, None, List, [], ◌∷◌, ◌++◌}
 use Rattle.bay_ber.specs.Writing.{element, integer_octets, truth_octets, bit_string_octets}
 use Rattle.bay_tree.specs.Rows.{IsHandle}
+use Rattle.bay_mms.specs.Code.{access_code_of}
+use Rattle.bay_mms.specs.declared.fault.DataAccessError.{DataAccessError}
 use Rattle.bay_mms.specs.declared.response.Response.{Response}
 use Rattle.bay_mms.specs.declared.response.Response.TheVariants as response
 use Rattle.bay_mms.specs.declared.response.Agreed.{Agreed}
@@ -36,15 +38,15 @@ abbrev pub text_result : List ℕ → List ℕ
 text_result text = element (context 10) text
 
 -- the number of an error in the place of data
-abbrev pub failure_result : ℕ → List ℕ
-failure_result cause = element (context 0) (integer_octets (pos cause))
+abbrev pub failure_result : DataAccessError → List ℕ
+failure_result cause = element (context 0) (integer_octets (pos (access_code_of cause)))
 
 -- and the other result of a write
 abbrev pub success_result : List ℕ
 success_result = element (context 1) []
 
--- the result of one variable of a write: the number of the error, where there is one
-abbrev pub result_text : Option ℕ → List ℕ
+-- the result of one variable of a write: the error, where there is one
+abbrev pub result_text : Option DataAccessError → List ℕ
 result_text None = success_result
 result_text (Some cause) = failure_result cause
 

@@ -6,9 +6,8 @@ ghost use Rattle.bay_mms.specs.Controls.{is_in_range, operate_in, cancel_in};
 ghost use Rattle.bay_mms.specs.ControlViews.{cancelling, operating, shaping, result_view};
 
 use crate::data::Data;
-use crate::fault::ControlFault;
+use crate::fault::DataAccessError;
 use crate::shape::{Shape, cancel_as, operate_as};
-use bay_tree::leaf::Dbpos;
 
 // An originator's identity has at most so many octets.
 const IDENTITY_MAX: usize = 64;
@@ -27,8 +26,14 @@ pub struct Origin<'a> {
 pub struct Operate<'a> {
     /// What a cancel has too.
     pub control: Cancel<'a>,
-    /// The two bits of Check, read as a position.
-    pub check: Dbpos,
+    pub check: Check,
+}
+
+/// What is to be checked before the switch moves (IEC 61850-7-2, Check).
+#[derive(Clone, Copy, Debug)]
+pub struct Check {
+    pub synchrocheck: bool,
+    pub interlock_check: bool,
 }
 
 /// The parameters of a cancel (IEC 61850-8-1, Cancel).
@@ -65,23 +70,23 @@ fn in_range<'a>(shape: &Shape<'a>) -> Option<Cancel<'a>>
     })
 }
 
-/// Reads data as an operate or a select with value. `WrongShape` if they have another shape: not
-/// six parts, a part of another kind, a T without eight octets, or a Check without two bits.
-/// Otherwise `OutOfRange` if ctlNum is outside 0 to 255, orCat is outside -128 to 127, or orIdent
-/// is longer than 64 octets.
-pub fn operate_of<'a>(given: &Data<'a>) -> Result<Operate<'a>, ControlFault>
+/// Reads data as an operate or a select with value. `TypeInconsistent` if they have another shape:
+/// not six parts, a part of another kind, a T without eight octets, or a Check without two bits.
+/// Otherwise `ObjectValueInvalid` if ctlNum is outside 0 to 255, orCat is outside -128 to 127, or
+/// orIdent is longer than 64 octets.
+pub fn operate_of<'a>(given: &Data<'a>) -> Result<Operate<'a>, DataAccessError>
     ensures { result_view operating result ≡ operate_in (datum_of given.now) }
 {
-    let (shape, check) = operate_as(given).ok_or(ControlFault::WrongShape)?;
-    let control = in_range(&shape).ok_or(ControlFault::OutOfRange)?;
+    let (shape, check) = operate_as(given).ok_or(DataAccessError::TypeInconsistent)?;
+    let control = in_range(&shape).ok_or(DataAccessError::ObjectValueInvalid)?;
     Ok(Operate { control, check })
 }
 
-/// Reads data as a cancel, with the faults of `operate_of`. A cancel has five parts, because it has
+/// Reads data as a cancel, with the errors of `operate_of`. A cancel has five parts, because it has
 /// no Check.
-pub fn cancel_of<'a>(given: &Data<'a>) -> Result<Cancel<'a>, ControlFault>
+pub fn cancel_of<'a>(given: &Data<'a>) -> Result<Cancel<'a>, DataAccessError>
     ensures { result_view cancelling result ≡ cancel_in (datum_of given.now) }
 {
-    let shape = cancel_as(given).ok_or(ControlFault::WrongShape)?;
-    in_range(&shape).ok_or(ControlFault::OutOfRange)
+    let shape = cancel_as(given).ok_or(DataAccessError::TypeInconsistent)?;
+    in_range(&shape).ok_or(DataAccessError::ObjectValueInvalid)
 }

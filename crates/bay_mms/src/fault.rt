@@ -1,6 +1,6 @@
 // Why nothing is read or written.
 ghost use Rattle.std.specs.Prelude.{◌≡◌, Some, None};
-ghost use Rattle.bay_mms.specs.Code.{code_of, control_code_of};
+ghost use Rattle.bay_mms.specs.Code.{code_of, access_code_of};
 
 use std::alloc::AllocError;
 use thiserror::Error;
@@ -59,26 +59,33 @@ impl MmsFault {
     }
 }
 
-/// Why data are not a control that is performed (ISO 9506-2, DataAccessError).
+/// Why a variable is not read or written (ISO 9506-2, DataAccessError).
 #[derive(Clone, Copy, Debug, Error)]
-pub enum ControlFault {
+pub enum DataAccessError {
+    /// What is written is no whole control, or the control is refused.
+    #[error("the access is denied")]
+    ObjectAccessDenied,
     /// The data have another shape.
     #[error("the data are of another type")]
-    WrongShape,
+    TypeInconsistent,
+    /// There is no such variable.
+    #[error("there is no such variable")]
+    ObjectNonExistent,
     /// A number or an identity in the data is out of range.
     #[error("a value is out of range")]
-    OutOfRange,
+    ObjectValueInvalid,
 }
 
-impl ControlFault {
-    /// Returns the number of the error that answers the write: 7 (type-inconsistent) or 11
-    /// (object-value-invalid).
+impl DataAccessError {
+    /// Returns the number of the error.
     pub fn code(self) -> u8
-        ensures { result ≡ control_code_of self }
+        ensures { result ≡ access_code_of self }
     {
         match self {
-            ControlFault::WrongShape => 7,
-            ControlFault::OutOfRange => 11,
+            DataAccessError::ObjectAccessDenied => 3,
+            DataAccessError::TypeInconsistent => 7,
+            DataAccessError::ObjectNonExistent => 10,
+            DataAccessError::ObjectValueInvalid => 11,
         }
     }
 }

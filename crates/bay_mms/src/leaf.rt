@@ -77,14 +77,6 @@ fn utc_text(ms: u64) -> [u8; 10]
     [0x91, 8, s1, s2, s3, s4, f1, f2, f3, quality]
 }
 
-/// Writes the data of a position.
-pub(crate) fn put_position(writer: &mut Writer, position: Dbpos)
-    ensures { writer.new ≡ sheet_with writer.old
-        (datum_text (bits (position_octet position ∷ []) 2)) }
-{
-    writer.append(position_text(position));
-}
-
 /// Writes the data of a leaf.
 pub(crate) fn put_leaf(writer: &mut Writer, leaf: &Leaf)
     ensures { writer.new ≡ sheet_with writer.old (datum_text (leaf_datum leaf.now)) }

@@ -2,15 +2,16 @@
 ghost use Rattle.std.specs.Prelude.{◌≡◌, ◌++◌, codes};
 ghost use Rattle.bay_ber.specs.Sheets.{sheet_with};
 ghost use Rattle.bay_ber.specs.Writing.{element};
+ghost use Rattle.bay_mms.specs.Controls as spec;
 ghost use Rattle.bay_mms.specs.Tags.{constructed};
 ghost use Rattle.bay_mms.specs.Reports.{variable_text, origin_text, operate_front, operate_back, operate_text, failure_front, failure_back, failure_data, failure_name, item_name, failure_text, termination_text, failed_text};
 ghost use Rattle.bay_mms.specs.Writing.{text_within};
 ghost use Rattle.bay_base.specs.Exact.{Gives};
 
-use crate::control::{Operate, Origin};
+use crate::control::{Check, Operate, Origin};
 use crate::fault::EncodeFault;
-use crate::leaf::put_position;
 use crate::put::finish;
+use bay_ber::content::Bits;
 use bay_ber::outgoing::Outgoing;
 use bay_ber::tag::Tag;
 use bay_ber::writer::Writer;
@@ -48,6 +49,13 @@ fn put_operate_front(writer: &mut Writer, operate: &Operate<'_>)
     writer.int(Tag::context(6), i64::from(operate.control.ctl_num));
 }
 
+// The octet with the two bits of Check.
+fn check_octet(check: Check) -> u8
+    ensures { result ≡ spec.check_octet check }
+{
+    u8::from(check.synchrocheck) * 0x80 + u8::from(check.interlock_check) * 0x40
+}
+
 // Writes the moment, whether it is a test, and the checks.
 #[tactic(auto, using(bay_ber::proofs::SheetLemmas::sheet_rules))]
 fn put_operate_back(writer: &mut Writer, operate: &Operate<'_>)
@@ -55,7 +63,14 @@ fn put_operate_back(writer: &mut Writer, operate: &Operate<'_>)
 {
     writer.octets(Tag::context(17), &operate.control.t);
     writer.boolean(Tag::context(3), operate.control.test);
-    put_position(writer, operate.check);
+    let octets = [check_octet(operate.check)];
+    writer.bits(
+        Tag::context(4),
+        Bits {
+            octets: &octets,
+            count: 2,
+        },
+    );
 }
 
 // Writes the data of an operate.

@@ -168,7 +168,8 @@ fn confirmed_of<'a>(
     service: Option<Value<'a>>,
 ) -> Result<Request<'a>, MmsFault>
     ensures asked { Gives MmsFault.OutOfMemory message result
-        (spec.confirmed_of (spec.id_in octets.now) (part_of id.now) (option_map part_of service.entry)) }
+        (spec.confirmed_of (spec.id_in octets.now) (part_of id.now)
+        (option_map part_of service.entry)) }
     ensures memory { IsErrOf result MmsFault.OutOfMemory
         → IsTrue (lists_of (option_map part_of service.entry)) }
 {

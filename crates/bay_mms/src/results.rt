@@ -12,7 +12,7 @@ ghost use Rattle.bay_mms.specs.Nodes.{data_at};
 ghost use Rattle.bay_mms.specs.Responses.{text_result, failure_result, success_result, result_text, read_text, write_text};
 ghost use Rattle.bay_mms.specs.Writing.{Adds, Held, no_results, text_within};
 
-use crate::fault::EncodeFault;
+use crate::fault::{DataAccessError, EncodeFault};
 use crate::put::finish;
 use crate::response::put_id;
 use crate::seen::Seen;
@@ -73,13 +73,13 @@ impl ReadResponse {
         held(&mut self.results)
     }
 
-    /// Appends the number of an error (ISO 9506-2, DataAccessError).
-    pub fn failure(&mut self, cause: u8) -> Result<(), EncodeFault>
+    /// Appends an error.
+    pub fn failure(&mut self, error: DataAccessError) -> Result<(), EncodeFault>
         ensures added { Adds self.old.size self.old.octets result self.new.octets
-            (failure_result cause) }
+            (failure_result error) }
         ensures size { self.new.size ≡ self.old.size }
     {
-        put_result(&mut self.results, Some(cause));
+        put_result(&mut self.results, Some(error));
         held(&mut self.results)
     }
 
@@ -118,18 +118,18 @@ fn held(results: &mut Writer) -> Result<(), EncodeFault>
 }
 
 // Writes the result of one variable.
-fn put_result(writer: &mut Writer, outcome: Option<u8>)
+fn put_result(writer: &mut Writer, outcome: Option<DataAccessError>)
     ensures { writer.new ≡ sheet_with writer.old (result_text outcome) }
 {
     match outcome {
-        Some(cause) => writer.int(Tag::context(0), i64::from(cause)),
+        Some(error) => writer.int(Tag::context(0), i64::from(error.code())),
         None => writer.octets(Tag::context(1), &[]),
     }
 }
 
 // Writes the results of variables.
 #[tactic(auto, using(bay_ber::proofs::SheetLemmas::sheet_rules))]
-fn put_results(writer: &mut Writer, results: &[Option<u8>])
+fn put_results(writer: &mut Writer, results: &[Option<DataAccessError>])
     ensures { writer.new ≡ sheet_with writer.old
         (element (constructed 5) (flat_map result_text results.now)) }
 {
@@ -145,8 +145,8 @@ fn put_results(writer: &mut Writer, results: &[Option<u8>])
 #[derive(Drop)]
 pub struct WriteResponse {
     alloc: Global,
-    // The number of the error, where a variable is not written.
-    results: Vec<Option<u8>>,
+    // The error, where a variable is not written.
+    results: Vec<Option<DataAccessError>>,
 }
 
 impl Model for WriteResponse {
@@ -178,11 +178,11 @@ impl WriteResponse {
         Ok(())
     }
 
-    /// Appends the number of an error (ISO 9506-2, DataAccessError).
-    pub fn failure(&mut self, cause: u8) -> Result<(), AllocError>
-        ensures { OnOk result (self.new ≡ self.old ++ failure_result cause) }
+    /// Appends an error.
+    pub fn failure(&mut self, error: DataAccessError) -> Result<(), AllocError>
+        ensures { OnOk result (self.new ≡ self.old ++ failure_result error) }
     {
-        self.results.push(Some(cause))?;
+        self.results.push(Some(error))?;
         Ok(())
     }
 

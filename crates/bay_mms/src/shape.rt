@@ -5,8 +5,8 @@ ghost use Rattle.bay_mms.specs.Controls.{Operate};
 ghost use Rattle.bay_mms.specs.Controls as spec;
 ghost use Rattle.bay_mms.specs.ControlViews.{shaping};
 
+use crate::control::Check;
 use crate::data::Data;
-use bay_tree::leaf::Dbpos;
 
 /// A control with numbers in any range and an identity of any length.
 #[derive(Clone, Copy)]
@@ -70,25 +70,22 @@ fn moment_as(given: &Data<'_>) -> Option<[u8; 8]>
     }
 }
 
-// The position that the two highest bits of an octet are.
-fn position_of(octet: u8) -> Option<Dbpos>
-    ensures { result ≡ spec.position_of octet }
+// The checks that the two highest bits of an octet are.
+fn check_of(octet: u8) -> Check
+    ensures { Some result ≡ spec.check_of octet }
 {
-    match octet / 64 {
-        0 => Some(Dbpos::Intermediate),
-        1 => Some(Dbpos::Off),
-        2 => Some(Dbpos::On),
-        3 => Some(Dbpos::Bad),
-        _ => None,
+    Check {
+        synchrocheck: octet >= 0x80,
+        interlock_check: octet / 0x40 % 2 == 1,
     }
 }
 
 // Two bits (IEC 61850-8-1, Check).
-fn check_as(given: &Data<'_>) -> Option<Dbpos>
+fn check_as(given: &Data<'_>) -> Option<Check>
     ensures { result ≡ spec.check_as (datum_of given.now) }
 {
     match given {
-        Data::Bits(bits) if bits.count == 2 => position_of(*bits.octets.first()?),
+        Data::Bits(bits) if bits.count == 2 => Some(check_of(*bits.octets.first()?)),
         _ => None,
     }
 }
@@ -166,7 +163,7 @@ fn cancel_of<'a>(parts: &[Data<'a>]) -> Option<Shape<'a>>
 }
 
 // An Oper has the five components of a control, and its checks behind them.
-fn operate_of<'a>(parts: &[Data<'a>]) -> Option<(Shape<'a>, Dbpos)>
+fn operate_of<'a>(parts: &[Data<'a>]) -> Option<(Shape<'a>, Check)>
     ensures { option_map (λ found. record { control = shaping found.0; check = found.1 }) result
         ≡ spec.operate_of (data_in parts.now) }
 {
@@ -190,7 +187,7 @@ pub(crate) fn cancel_as<'a>(given: &Data<'a>) -> Option<Shape<'a>>
 
 /// Reads the control and its checks in data with the shape of an Oper.
 #[tactic(auto, unfolding(crate::specs::Controls::operate_as))]
-pub(crate) fn operate_as<'a>(given: &Data<'a>) -> Option<(Shape<'a>, Dbpos)>
+pub(crate) fn operate_as<'a>(given: &Data<'a>) -> Option<(Shape<'a>, Check)>
     ensures { option_map (λ found. record { control = shaping found.0; check = found.1 }) result
         ≡ spec.operate_as (datum_of given.now) }
 {

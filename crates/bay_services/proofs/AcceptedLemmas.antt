@@ -22,7 +22,7 @@ use Rattle.bay_mms.specs.Requests.{Naming, Asking, identify, names, attributes, 
 use Rattle.bay_mms.specs.Responses as response
 use Rattle.bay_mms.specs.Responses.{class_text, error_text, read_text, write_text}
 use Rattle.bay_mms.specs.Tags.{context, constructed, int_tag}
-use Rattle.bay_mms.specs.declared.fault.ControlFault.{ControlFault}
+use Rattle.bay_mms.specs.declared.fault.DataAccessError.{DataAccessError}
 use Rattle.bay_mms.specs.declared.fault.MmsFault.{MmsFault}
 use Rattle.bay_mms.specs.declared.fault.MmsFault.TheVariants.{BadPdu, UnknownService, TooMany, OutOfMemory}
 use Rattle.bay_mms.specs.declared.response.ErrorClass.TheVariants.{NoSuchObject, Resource}
@@ -237,21 +237,21 @@ module _ (c : Client) (b : Bay) (small : c.size ≤ 65000) where
       both-reports w.reports (refusal_reports c k item control b o.answer) all
       (refusals-are k item control o.answer)
 
-  select-with-are : (k : ℕ) (item : List ℕ) (w : Writing) (o : Result asked.Operate ControlFault)
+  select-with-are : (k : ℕ) (item : List ℕ) (w : Writing) (o : Result asked.Operate DataAccessError)
       → AreReports w.reports → AreReports (select_with_asked c b k item w o).reports
   select-with-are k item w (Ok o) all =
       decided-are k SelectWith item o.control
       (select_with_outcome c.association k (ask_of o) c.now w.controls) w all
   select-with-are k item w (Err fault) all = all
 
-  operate-are : (k : ℕ) (item : List ℕ) (w : Writing) (o : Result asked.Operate ControlFault)
+  operate-are : (k : ℕ) (item : List ℕ) (w : Writing) (o : Result asked.Operate DataAccessError)
       → AreReports w.reports → AreReports (operate_asked c b k item w o).reports
   operate-are k item w (Ok o) all =
       decided-are k Operate item o.control
       (operate_outcome c.association k (ask_of o) (view_of c k b) c.now w.controls) w all
   operate-are k item w (Err fault) all = all
 
-  cancel-are : (k : ℕ) (item : List ℕ) (w : Writing) (o : Result Control ControlFault)
+  cancel-are : (k : ℕ) (item : List ℕ) (w : Writing) (o : Result Control DataAccessError)
       → AreReports w.reports → AreReports (cancel_asked c b k item w o).reports
   cancel-are k item w (Ok control) all =
       decided-are k Cancel item control (cancel_outcome c.association k c.now w.controls) w all

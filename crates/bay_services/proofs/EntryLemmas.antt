@@ -12,7 +12,7 @@ use Rattle.bay_mms.specs.Data.{Datum}
 use Rattle.bay_mms.specs.Grammar.{answer_to}
 use Rattle.bay_mms.specs.Requests.{Naming, Asking, identify, names, attributes, read, write, Message, initiate, conclude, confirmed}
 use Rattle.bay_mms.specs.Responses.{read_text, write_text}
-use Rattle.bay_mms.specs.declared.fault.ControlFault.{ControlFault}
+use Rattle.bay_mms.specs.declared.fault.DataAccessError.{DataAccessError}
 use Rattle.bay_mms.specs.declared.fault.MmsFault.{MmsFault}
 use Rattle.bay_mms.specs.declared.fault.MmsFault.TheVariants.{BadPdu, UnknownService, TooMany, OutOfMemory}
 use Rattle.bay_services.specs.Answers.{Answered, answer_of, pdu_answer, attributes_at, plain_answer, service_answer}
@@ -67,7 +67,8 @@ module _ (c : Client) (b : Bay) (opens : ℕ → Bool) (is_open : opens c.associ
 
   -- ---- a variable that is written
 
-  select-with-leads : (k : ℕ) (item : List ℕ) (w : Writing) (o : Result asked.Operate ControlFault)
+  select-with-leads : (k : ℕ) (item : List ℕ) (w : Writing)
+      (o : Result asked.Operate DataAccessError)
       → Led (entries_of_call c w.controls (select_with_call c k o)) w.controls
       (select_with_asked c b k item w o).controls
   select-with-leads k item w (Ok o) =
@@ -75,7 +76,7 @@ module _ (c : Client) (b : Bay) (opens : ℕ → Bool) (is_open : opens c.associ
       is_open (λ a. refl)
   select-with-leads k item w (Err fault) = none-leads opens w.controls
 
-  operate-leads : (k : ℕ) (item : List ℕ) (w : Writing) (o : Result asked.Operate ControlFault)
+  operate-leads : (k : ℕ) (item : List ℕ) (w : Writing) (o : Result asked.Operate DataAccessError)
       → Led (entries_of_call c w.controls (operate_call c k b o)) w.controls
       (operate_asked c b k item w o).controls
   operate-leads k item w (Ok o) =
@@ -83,7 +84,7 @@ module _ (c : Client) (b : Bay) (opens : ℕ → Bool) (is_open : opens c.associ
       w.controls is_open (λ a. refl)
   operate-leads k item w (Err fault) = none-leads opens w.controls
 
-  cancel-leads : (k : ℕ) (item : List ℕ) (w : Writing) (o : Result Control ControlFault)
+  cancel-leads : (k : ℕ) (item : List ℕ) (w : Writing) (o : Result Control DataAccessError)
       → Led (entries_of_call c w.controls (cancel_call c k o)) w.controls
       (cancel_asked c b k item w o).controls
   cancel-leads k item w (Ok control) =

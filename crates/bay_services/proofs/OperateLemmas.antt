@@ -12,7 +12,7 @@ use Rattle.bay_mms.specs.Data.{Datum}
 use Rattle.bay_mms.specs.Grammar.{answer_to}
 use Rattle.bay_mms.specs.Requests.{Naming, Asking, identify, names, attributes, read, write, Message, initiate, conclude, confirmed}
 use Rattle.bay_mms.specs.Responses.{read_text, write_text}
-use Rattle.bay_mms.specs.declared.fault.ControlFault.{ControlFault}
+use Rattle.bay_mms.specs.declared.fault.DataAccessError.{DataAccessError}
 use Rattle.bay_mms.specs.declared.fault.MmsFault.{MmsFault}
 use Rattle.bay_mms.specs.declared.fault.MmsFault.TheVariants.{BadPdu, UnknownService, TooMany, OutOfMemory}
 use Rattle.bay_services.specs.Answers.{Answered, answer_of, pdu_answer, attributes_at, plain_answer, service_answer}
@@ -70,7 +70,8 @@ module _ (c : Client) (b : Bay) where
   adds-none : (w : Writing) → w.commands ≡ w.commands ++ []
   adds-none w = sym (append-nil w.commands)
 
-  select-with-adds : (k : ℕ) (item : List ℕ) (w : Writing) (o : Result asked.Operate ControlFault)
+  select-with-adds : (k : ℕ) (item : List ℕ) (w : Writing)
+      (o : Result asked.Operate DataAccessError)
       → Adds w (entries_of_call c w.controls (select_with_call c k o))
       (select_with_asked c b k item w o)
   select-with-adds k item w (Ok o) = adds-none w
@@ -83,14 +84,14 @@ module _ (c : Client) (b : Bay) where
   commands-are k o (Ok done) = refl
   commands-are k o (Err why) = refl
 
-  operate-adds : (k : ℕ) (item : List ℕ) (w : Writing) (o : Result asked.Operate ControlFault)
+  operate-adds : (k : ℕ) (item : List ℕ) (w : Writing) (o : Result asked.Operate DataAccessError)
       → Adds w (entries_of_call c w.controls (operate_call c k b o)) (operate_asked c b k item w o)
   operate-adds k item w (Ok o) =
       ap (λ cs. w.commands ++ cs) (commands-are k o
       (operate_outcome c.association k (ask_of o) (view_of c k b) c.now w.controls).answer)
   operate-adds k item w (Err fault) = adds-none w
 
-  cancel-adds : (k : ℕ) (item : List ℕ) (w : Writing) (o : Result Control ControlFault)
+  cancel-adds : (k : ℕ) (item : List ℕ) (w : Writing) (o : Result Control DataAccessError)
       → Adds w (entries_of_call c w.controls (cancel_call c k o)) (cancel_asked c b k item w o)
   cancel-adds k item w (Ok control) = adds-none w
   cancel-adds k item w (Err fault) = adds-none w

@@ -18,7 +18,7 @@ use Rattle.bay_mms.specs.Controls.{Control, operate_in, cancel_in}
 use Rattle.bay_mms.specs.Data.{Datum}
 use Rattle.bay_mms.specs.Grammar.{answer_to}
 use Rattle.bay_mms.specs.Requests.{Naming, Asking, identify, names, attributes, read, write, Message, initiate, conclude, confirmed}
-use Rattle.bay_mms.specs.declared.fault.ControlFault.{ControlFault}
+use Rattle.bay_mms.specs.declared.fault.DataAccessError.{DataAccessError}
 use Rattle.bay_mms.specs.declared.fault.MmsFault.{MmsFault}
 use Rattle.bay_mms.specs.declared.fault.MmsFault.TheVariants.{BadPdu, UnknownService, TooMany, OutOfMemory}
 use Rattle.bay_services.specs.Answers.{Answered, answer_of as answer-of, pdu_answer, attributes_at, service_answer, within}
@@ -323,7 +323,7 @@ kept-decided c b k part item control o w same kept busy = record {
 }
 
 kept-select : (c : Client) (b : Bay) (k : ℕ) (item : List ℕ) (w : Writing)
-    (r : Result asked.Operate ControlFault) → Kept c b w
+    (r : Result asked.Operate DataAccessError) → Kept c b w
     → Kept c b (select_with_asked c b k item w r)
 kept-select c b k item w (Err fault) kept =
     record { busy = kept.busy; released = kept.released; sole = kept.sole }
@@ -333,7 +333,8 @@ kept-select c b k item w (Ok o) kept =
     (busy-still c.now w.controls)
 
 kept-operate : (c : Client) (b : Bay) (k : ℕ) (item : List ℕ) (w : Writing)
-    (r : Result asked.Operate ControlFault) → Kept c b w → Kept c b (operate_asked c b k item w r)
+    (r : Result asked.Operate DataAccessError) → Kept c b w
+    → Kept c b (operate_asked c b k item w r)
 unfolding outcome
 kept-operate c b k item w (Err fault) kept =
     record { busy = kept.busy; released = kept.released; sole = kept.sole }
@@ -359,7 +360,7 @@ kept-operate c b k item w (Ok o) kept =
     }
 
 kept-cancel : (c : Client) (b : Bay) (k : ℕ) (item : List ℕ) (w : Writing)
-    (r : Result Control ControlFault) → Kept c b w → Kept c b (cancel_asked c b k item w r)
+    (r : Result Control DataAccessError) → Kept c b w → Kept c b (cancel_asked c b k item w r)
 kept-cancel c b k item w (Err fault) kept =
     record { busy = kept.busy; released = kept.released; sole = kept.sole }
 kept-cancel c b k item w (Ok control) kept =

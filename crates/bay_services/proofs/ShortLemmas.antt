@@ -9,7 +9,7 @@ use Rattle.bay_mms.specs.Controls.{Control, cancel_in, operate_in}
 use Rattle.bay_mms.specs.Data.{Datum}
 use Rattle.bay_mms.specs.Requests.{Naming, Asking, identify, names, attributes, read, write, Message, initiate, conclude, confirmed}
 use Rattle.bay_mms.specs.Responses.{concluded_text, error_text, read_text, reject_text, write_text}
-use Rattle.bay_mms.specs.declared.fault.ControlFault.{ControlFault}
+use Rattle.bay_mms.specs.declared.fault.DataAccessError.{DataAccessError}
 use Rattle.bay_mms.specs.declared.fault.MmsFault.{MmsFault}
 use Rattle.bay_mms.specs.declared.fault.MmsFault.TheVariants.{BadPdu, UnknownService, TooMany, OutOfMemory}
 use Rattle.bay_mms.specs.declared.response.ErrorClass.{ErrorClass}
@@ -135,13 +135,14 @@ module _ (c : Client) (b : Bay) (most : c.size ≤ 65000) where
     short.1,
   )
 
-  select-with-short : (k : ℕ) (item : List ℕ) (w : Writing) (x : Result asked.Operate ControlFault)
+  select-with-short : (k : ℕ) (item : List ℕ) (w : Writing)
+      (x : Result asked.Operate DataAccessError)
       → IsFit w → IsFit (select_with_asked c b k item w x)
   select-with-short k item w (Err fault) short = short
   select-with-short k item w (Ok o) short = decided-short k SelectWith item o.control
       (select_with_outcome c.association k (ask_of o) c.now w.controls) w short
 
-  operate-short : (k : ℕ) (item : List ℕ) (w : Writing) (x : Result asked.Operate ControlFault)
+  operate-short : (k : ℕ) (item : List ℕ) (w : Writing) (x : Result asked.Operate DataAccessError)
       → IsFit w → IsFit (operate_asked c b k item w x)
   operate-short k item w (Err fault) short = short
   operate-short k item w (Ok o) short =
@@ -151,7 +152,7 @@ module _ (c : Client) (b : Bay) (most : c.size ≤ 65000) where
             (endings-short c k item o b out.answer most),
       )
 
-  cancel-short : (k : ℕ) (item : List ℕ) (w : Writing) (x : Result Control ControlFault)
+  cancel-short : (k : ℕ) (item : List ℕ) (w : Writing) (x : Result Control DataAccessError)
       → IsFit w → IsFit (cancel_asked c b k item w x)
   cancel-short k item w (Err fault) short = short
   cancel-short k item w (Ok control) short = decided-short k Cancel item control

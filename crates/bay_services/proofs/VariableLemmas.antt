@@ -20,7 +20,7 @@ use Rattle.bay_control.specs.Happenings as call
 use Rattle.bay_control.specs.Happenings.{Call, act_of, entries_of, outcome_of}
 use Rattle.bay_control.specs.Requests.{asked_choice}
 use Rattle.bay_control.specs.declared.cause.AddCause.{AddCause}
-use Rattle.bay_mms.specs.Code.{control_code_of}
+use Rattle.bay_mms.specs.Code.{access_code_of}
 use Rattle.bay_mms.specs.Controls as asked
 use Rattle.bay_mms.specs.Controls.{Control, operate_in, cancel_in}
 use Rattle.bay_mms.specs.Data.{Datum, datum_text}
@@ -29,7 +29,8 @@ use Rattle.bay_mms.specs.Nodes.{Node, data_at, node_at, node_datum, value as lea
 use Rattle.bay_mms.specs.Requests.{Naming, vmd, domain, association}
 use Rattle.bay_mms.specs.Responses.{failure_result, text_result}
 use Rattle.bay_mms.specs.Tags.{context}
-use Rattle.bay_mms.specs.declared.fault.ControlFault.{ControlFault}
+use Rattle.bay_mms.specs.declared.fault.DataAccessError.{DataAccessError}
+use Rattle.bay_mms.specs.declared.fault.DataAccessError.TheVariants.{ObjectAccessDenied, ObjectNonExistent}
 use Rattle.bay_mms.proofs.LawLemmas.{datum-spells}
 use Rattle.bay_services.specs.Accepted.{AreNamedAlike, act_of_read, act_of_write, cancel_act, is_granted, is_some_text, is_success, operate_act, read_accepted, read_act, select_with_act, write_accepted, write_act}
 use Rattle.bay_services.specs.Bay.{Bay, seen_rows}
@@ -107,6 +108,14 @@ spell-one tag content small short = (
   refl,
 )
 
+abbrev failure-part : DataAccessError → Part
+failure-part error = value (context 0) (integer_octets (pos (access_code_of error)))
+
+failure-spelled : (error : DataAccessError) → length (failure_result error) < 4294967296
+    → Spells (failure_result error) (failure-part error).tag (failure-part error).content
+failure-spelled error short =
+    spells-element (context 0) (failure-part error).content (omega arith) short
+
 -- ---- a variable that is read
 
 -- The result of one variable more, which tells what is seen of it.
@@ -167,10 +176,10 @@ read-row-is : (c : Client) (b : Bay) (r : Reading) (row : Option ℕ)
     → OneRead c (act_of_read c.association (target_at b row))
     (call_of_read c (target_at b row)) r (read_row c b r row)
 read-row-is c b r None = record {
-  part = value (context 0) (integer_octets (pos 10));
-  front = failure_result 10;
+  part = failure-part ObjectNonExistent;
+  front = failure_result ObjectNonExistent;
   is = refl;
-  spelled = spells-element (context 0) (integer_octets (pos 10)) (omega arith);
+  spelled = failure-spelled ObjectNonExistent;
   told = refl;
 }
 read-row-is c b r (Some place) = read-target-is c b place r (target_at b (Some place))
@@ -230,27 +239,26 @@ record OneWritten (c : Client) (asks : Option Act) (asked : Option Call) (w next
   spelled : length front < 4294967296 → Spells front part.tag part.content
   told : entries_of c.now asks (is_success part) ≡ entries_of_call c w.controls asked
 
-nothing-done : (c : Client) (number : ℕ) (w : Writing)
-    → OneWritten c None None w (write_failed number w)
-nothing-done c number w = record {
-  part = value (context 0) (integer_octets (pos number));
-  front = failure_result number;
+nothing-done : (c : Client) (error : DataAccessError) (w : Writing)
+    → OneWritten c None None w (write_failed error w)
+nothing-done c error w = record {
+  part = failure-part error;
+  front = failure_result error;
   is = refl;
-  spelled = spells-element (context 0) (integer_octets (pos number)) (omega arith);
+  spelled = failure-spelled error;
   told = refl;
 }
 
 decision-part : Result (Unit {0}) AddCause → Part
 decision-part (Ok done) = value (context 1) []
-decision-part (Err why) = value (context 0) (integer_octets (pos 3))
+decision-part (Err why) = failure-part ObjectAccessDenied
 
 decision-spelled : (answer : Result (Unit {0}) AddCause)
     → length (decision_result answer) < 4294967296
     → Spells (decision_result answer) (decision-part answer).tag (decision-part answer).content
 unfolding decision-part
 decision-spelled (Ok done) short = spells-element (context 1) [] (omega arith) short
-decision-spelled (Err why) short =
-    spells-element (context 0) (integer_octets (pos 3)) (omega arith) short
+decision-spelled (Err why) short = failure-spelled ObjectAccessDenied short
 
 decision-success : (answer : Result (Unit {0}) AddCause)
     → is_success (decision-part answer) ≡ is_ok answer
@@ -274,36 +282,36 @@ decided-is c asks asked w next by is =
     }
 
 select-with-is : (c : Client) (b : Bay) (k : ℕ) (item : List ℕ) (w : Writing)
-    (o : Result asked.Operate ControlFault)
+    (o : Result asked.Operate DataAccessError)
     → OneWritten c (select_with_act c.association k o) (select_with_call c k o) w
     (select_with_asked c b k item w o)
 select-with-is c b k item w (Ok o) =
     decided-is c (act.SelectWith c.association k (asked_choice (ask_of o)))
     (call.SelectWith c.association k (ask_of o)) w _ refl refl
-select-with-is c b k item w (Err fault) = nothing-done c (control_code_of fault) w
+select-with-is c b k item w (Err error) = nothing-done c error w
 
 operate-is : (c : Client) (b : Bay) (k : ℕ) (item : List ℕ) (w : Writing)
-    (o : Result asked.Operate ControlFault)
+    (o : Result asked.Operate DataAccessError)
     → OneWritten c (operate_act c.association k o) (operate_call c k b o) w
     (operate_asked c b k item w o)
 operate-is c b k item w (Ok o) =
     decided-is c (act.Operate c.association k (asked_choice (ask_of o)))
     (call.Operate c.association k (ask_of o) (view_of c k b)) w _ refl refl
-operate-is c b k item w (Err fault) = nothing-done c (control_code_of fault) w
+operate-is c b k item w (Err error) = nothing-done c error w
 
 cancel-is : (c : Client) (b : Bay) (k : ℕ) (item : List ℕ) (w : Writing)
-    (o : Result Control ControlFault)
+    (o : Result Control DataAccessError)
     → OneWritten c (cancel_act c.association k o) (cancel_call c k o) w
     (cancel_asked c b k item w o)
 cancel-is c b k item w (Ok control) =
     decided-is c (act.Cancel c.association k) (call.Cancel c.association k) w _ refl refl
-cancel-is c b k item w (Err fault) = nothing-done c (control_code_of fault) w
+cancel-is c b k item w (Err error) = nothing-done c error w
 
 write-part-is : (c : Client) (b : Bay) (k : ℕ) (item : List ℕ) (given : Datum) (w : Writing)
     (part : ControlPart)
     → OneWritten c (write_act c.association given k part) (write_call c b given k part) w
     (write_part c b k item given w part)
-write-part-is c b k item given w Select = nothing-done c 3 w
+write-part-is c b k item given w Select = nothing-done c ObjectAccessDenied w
 write-part-is c b k item given w SelectWith = select-with-is c b k item w (operate_in given)
 write-part-is c b k item given w Operate = operate-is c b k item w (operate_in given)
 write-part-is c b k item given w Cancel = cancel-is c b k item w (cancel_in given)
@@ -312,13 +320,13 @@ write-target-is : (c : Client) (b : Bay) (item : List ℕ) (given : Datum) (w : 
     (target : Option Target)
     → OneWritten c (act_of_write c.association given target) (call_of_write c b given target) w
     (write_target c b item given w target)
-write-target-is c b item given w None = nothing-done c 3 w
+write-target-is c b item given w None = nothing-done c ObjectAccessDenied w
 write-target-is c b item given w (Some t) = write-part-is c b t.switch item given w t.part
 
 write-row-is : (c : Client) (b : Bay) (given : Datum) (w : Writing) (row : Option ℕ)
     → OneWritten c (act_of_write c.association given (target_at b row))
     (call_of_write c b given (target_at b row)) w (write_row c b given w row)
-write-row-is c b given w None = nothing-done c 10 w
+write-row-is c b given w None = nothing-done c ObjectNonExistent w
 write-row-is c b given w (Some place) =
     write-target-is c b (name_at b.rows place) given w (target_at b (Some place))
 

@@ -16,7 +16,7 @@ use Rattle.bay_mms.specs.Data.{Datum}
 use Rattle.bay_mms.specs.Grammar.{answer_to}
 use Rattle.bay_mms.specs.Requests.{Naming, Asking, identify, names, attributes, read, write, Message, initiate, conclude, confirmed}
 use Rattle.bay_mms.specs.Tags.{context, constructed}
-use Rattle.bay_mms.specs.declared.fault.ControlFault.{ControlFault}
+use Rattle.bay_mms.specs.declared.fault.DataAccessError.{DataAccessError}
 use Rattle.bay_mms.specs.declared.fault.MmsFault.{MmsFault}
 use Rattle.bay_services.specs.Bay.{Bay}
 use Rattle.bay_services.specs.Controls.{ask_of}
@@ -47,17 +47,17 @@ act_of_read a None = None
 act_of_read a (Some t) = read_act a t.switch t.part
 
 -- a write of data that are of the right type and in range
-abbrev pub select_with_act : ℕ → ℕ → Result asked.Operate ControlFault → Option Act
+abbrev pub select_with_act : ℕ → ℕ → Result asked.Operate DataAccessError → Option Act
 select_with_act a k (Ok o) = Some (act.SelectWith a k (asked_choice (ask_of o)))
 select_with_act a k (Err fault) = None
 
 -- a write of Oper operates
-abbrev pub operate_act : ℕ → ℕ → Result asked.Operate ControlFault → Option Act
+abbrev pub operate_act : ℕ → ℕ → Result asked.Operate DataAccessError → Option Act
 operate_act a k (Ok o) = Some (act.Operate a k (asked_choice (ask_of o)))
 operate_act a k (Err fault) = None
 
 -- a write of Cancel gives a selection up
-abbrev pub cancel_act : ℕ → ℕ → Result Control ControlFault → Option Act
+abbrev pub cancel_act : ℕ → ℕ → Result Control DataAccessError → Option Act
 cancel_act a k (Ok control) = Some (act.Cancel a k)
 cancel_act a k (Err fault) = None
 

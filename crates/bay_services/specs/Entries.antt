@@ -12,7 +12,7 @@ use Rattle.bay_mms.specs.Data.{Datum}
 use Rattle.bay_mms.specs.Grammar.{answer_to}
 use Rattle.bay_mms.specs.Requests.{Naming, Asking, identify, names, attributes, read, write, Message, initiate, conclude, confirmed}
 use Rattle.bay_mms.specs.Responses.{read_text, write_text}
-use Rattle.bay_mms.specs.declared.fault.ControlFault.{ControlFault}
+use Rattle.bay_mms.specs.declared.fault.DataAccessError.{DataAccessError}
 use Rattle.bay_mms.specs.declared.fault.MmsFault.{MmsFault}
 use Rattle.bay_services.specs.Bay.{Bay}
 use Rattle.bay_services.specs.Controls.{ask_of, view_of}
@@ -46,15 +46,15 @@ call_of_read c (Some t) = read_call c t.switch t.part
 
 -- ---- what one that is written asks for, if its data are of the right type and in range
 
-abbrev pub select_with_call : Client → ℕ → Result asked.Operate ControlFault → Option Call
+abbrev pub select_with_call : Client → ℕ → Result asked.Operate DataAccessError → Option Call
 select_with_call c k (Ok o) = Some (call.SelectWith c.association k (ask_of o))
 select_with_call c k (Err fault) = None
 
-abbrev pub operate_call : Client → ℕ → Bay → Result asked.Operate ControlFault → Option Call
+abbrev pub operate_call : Client → ℕ → Bay → Result asked.Operate DataAccessError → Option Call
 operate_call c k b (Ok o) = Some (call.Operate c.association k (ask_of o) (view_of c k b))
 operate_call c k b (Err fault) = None
 
-abbrev pub cancel_call : Client → ℕ → Result Control ControlFault → Option Call
+abbrev pub cancel_call : Client → ℕ → Result Control DataAccessError → Option Call
 cancel_call c k (Ok control) = Some (call.Cancel c.association k)
 cancel_call c k (Err fault) = None
 

@@ -7,6 +7,7 @@ use Rattle.bay_mms.specs.Data.{datum_text}
 use Rattle.bay_mms.specs.Nodes.{data_at}
 use Rattle.bay_mms.specs.Requests.{Naming}
 use Rattle.bay_mms.specs.Responses.{text_result, failure_result}
+use Rattle.bay_mms.specs.declared.fault.DataAccessError.TheVariants.{ObjectNonExistent}
 use Rattle.bay_services.specs.Bay.{Bay, seen_rows}
 use Rattle.bay_services.specs.Controls.{object_of, read_decision}
 use Rattle.bay_services.specs.Rows.{row_named}
@@ -57,9 +58,9 @@ abbrev pub read_target : Client → Bay → ℕ → Reading → Option Target �
 read_target c b place r None = value_read b place r
 read_target c b place r (Some t) = read_part c b place r t.switch t.part
 
--- a variable that is not there is refused by 10 (DataAccessError: object-non-existent)
+-- a variable that is not there is refused
 abbrev pub read_row : Client → Bay → Reading → Option ℕ → Reading
-read_row c b r None = record r { results = r.results ++ failure_result 10 }
+read_row c b r None = record r { results = r.results ++ failure_result ObjectNonExistent }
 read_row c b r (Some place) =
     read_target c b place r (target_of (length b.switches) (name_at b.rows place))
 

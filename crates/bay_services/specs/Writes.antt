@@ -3,13 +3,13 @@ use Rattle.std.specs.Prelude.{ℕ, List, [], ◌∷◌, ◌++◌, length, Option
 use Rattle.bay_tree.specs.Rows.{name_at}
 use Rattle.bay_control.specs.Decisions.{Outcome, State, select_with_outcome, operate_outcome, cancel_outcome}
 use Rattle.bay_control.specs.declared.cause.AddCause.{AddCause}
-use Rattle.bay_mms.specs.Code.{control_code_of}
 use Rattle.bay_mms.specs.Controls as asked
 use Rattle.bay_mms.specs.Controls.{Control, operate_in, cancel_in}
 use Rattle.bay_mms.specs.Data.{Datum}
 use Rattle.bay_mms.specs.Requests.{Naming}
 use Rattle.bay_mms.specs.Responses.{failure_result, success_result}
-use Rattle.bay_mms.specs.declared.fault.ControlFault.{ControlFault}
+use Rattle.bay_mms.specs.declared.fault.DataAccessError.{DataAccessError}
+use Rattle.bay_mms.specs.declared.fault.DataAccessError.TheVariants.{ObjectAccessDenied, ObjectNonExistent}
 use Rattle.bay_services.specs.Bay.{Bay}
 use Rattle.bay_services.specs.Controls.{ask_of, endings, refusal_reports, view_of, written_decision}
 use Rattle.bay_services.specs.Rows.{row_named}
@@ -44,15 +44,14 @@ nothing_written b = record {
   ending = None;
 }
 
--- the number of an error: 10 no such object, 3 access denied, 7 another type, 11 a value that is
--- out of range (DataAccessError)
-abbrev pub write_failed : ℕ → Writing → Writing
-write_failed number w = record w { results = w.results ++ failure_result number }
+-- an error in the place of a variable's success
+abbrev pub write_failed : DataAccessError → Writing → Writing
+write_failed error w = record w { results = w.results ++ failure_result error }
 
 -- an accepted control is a success, a refused one is denied
 abbrev pub decision_result : Result (Unit {0}) AddCause → List ℕ
 decision_result (Ok done) = success_result
-decision_result (Err why) = failure_result 3
+decision_result (Err why) = failure_result ObjectAccessDenied
 
 -- a decision on a control: the controls after it, its result, and where it refuses the report of
 -- that, which names the control
@@ -83,39 +82,39 @@ after_operate c b k item o outcome w = record (after_decision c b k Operate item
 }
 
 abbrev pub select_with_asked : Client → Bay → ℕ → List ℕ → Writing
-    → Result asked.Operate ControlFault → Writing
-select_with_asked c b k item w (Err fault) = write_failed (control_code_of fault) w
+    → Result asked.Operate DataAccessError → Writing
+select_with_asked c b k item w (Err error) = write_failed error w
 select_with_asked c b k item w (Ok o) =
     after_decision c b k SelectWith item o.control
     (select_with_outcome c.association k (ask_of o) c.now w.controls)
     w
 
 abbrev pub operate_asked : Client → Bay → ℕ → List ℕ → Writing
-    → Result asked.Operate ControlFault → Writing
-operate_asked c b k item w (Err fault) = write_failed (control_code_of fault) w
+    → Result asked.Operate DataAccessError → Writing
+operate_asked c b k item w (Err error) = write_failed error w
 operate_asked c b k item w (Ok o) =
     after_operate c b k item o
     (operate_outcome c.association k (ask_of o) (view_of c k b) c.now w.controls) w
 
-abbrev pub cancel_asked : Client → Bay → ℕ → List ℕ → Writing → Result Control ControlFault
+abbrev pub cancel_asked : Client → Bay → ℕ → List ℕ → Writing → Result Control DataAccessError
     → Writing
-cancel_asked c b k item w (Err fault) = write_failed (control_code_of fault) w
+cancel_asked c b k item w (Err error) = write_failed error w
 cancel_asked c b k item w (Ok control) =
     after_decision c b k Cancel item control (cancel_outcome c.association k c.now w.controls) w
 
 -- the part of a control that is written, as a whole; SBO is read alone
 abbrev pub write_part : Client → Bay → ℕ → List ℕ → Datum → Writing → ControlPart → Writing
-write_part c b k item given w Select = write_failed 3 w
+write_part c b k item given w Select = write_failed ObjectAccessDenied w
 write_part c b k item given w SelectWith = select_with_asked c b k item w (operate_in given)
 write_part c b k item given w Operate = operate_asked c b k item w (operate_in given)
 write_part c b k item given w Cancel = cancel_asked c b k item w (cancel_in given)
 
 abbrev pub write_target : Client → Bay → List ℕ → Datum → Writing → Option Target → Writing
-write_target c b item given w None = write_failed 3 w
+write_target c b item given w None = write_failed ObjectAccessDenied w
 write_target c b item given w (Some t) = write_part c b t.switch item given w t.part
 
 abbrev pub write_row : Client → Bay → Datum → Writing → Option ℕ → Writing
-write_row c b given w None = write_failed 10 w
+write_row c b given w None = write_failed ObjectNonExistent w
 write_row c b given w (Some place) =
     write_target c b (name_at b.rows place) given w
     (target_of (length b.switches) (name_at b.rows place))

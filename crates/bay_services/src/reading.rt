@@ -19,15 +19,11 @@ use crate::client::Client;
 use crate::target::{ControlPart, Target, target_at};
 use bay_control::cause::AddCause;
 use bay_control::controls::Controls;
-use bay_mms::fault::EncodeFault;
+use bay_mms::fault::{DataAccessError, EncodeFault};
 use bay_mms::request::ObjectName;
 use bay_mms::results::ReadResponse;
 use bay_tree::tree::Handle;
 use std::alloc::{AllocError, Global};
-
-// The number of the error that there is no such variable (ISO 9506-2, DataAccessError:
-// object-non-existent).
-const NO_SUCH_OBJECT: u8 = 10;
 
 // Records what was decided of a select.
 fn put_select(
@@ -169,7 +165,7 @@ impl ServedBay {
     {
         match self.row_named(name) {
             Some(row) => self.read_row(alloc, client, row, changed, decisions, response),
-            None => response.failure(NO_SUCH_OBJECT),
+            None => response.failure(DataAccessError::ObjectNonExistent),
         }
     }
 

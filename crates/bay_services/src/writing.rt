@@ -11,6 +11,7 @@ ghost use Rattle.bay_services.specs.Writes.{cancel_asked, commands_for, decision
 ghost use Rattle.bay_services.specs.Writes as spec;
 ghost use Rattle.bay_mms.specs.RequestViews.{naming};
 ghost use Rattle.bay_mms.specs.Responses.{failure_result};
+ghost use Rattle.bay_mms.specs.declared.fault.DataAccessError.TheVariants.{ObjectAccessDenied};
 ghost use Rattle.bay_mms.specs.Views.{data_in, datum_of};
 ghost use Rattle.bay_services.specs.Views.{bay_view, writing};
 
@@ -27,17 +28,15 @@ use bay_control::controls::Controls;
 use bay_control::request::{Ask, Origin};
 use bay_mms::control::{Cancel, Operate, Origin as Originator, cancel_of, operate_of};
 use bay_mms::data::Data;
+use bay_mms::fault::DataAccessError;
 use bay_mms::report::{ControlError, write_failed_termination, write_failure, write_termination};
 use bay_mms::request::ObjectName;
 use bay_mms::results::WriteResponse;
 use bay_tree::tree::Handle;
 use std::alloc::{AllocError, Global};
 
-// Errors by their numbers (ISO 9506-2, DataAccessError): no such variable, and a write that is
-// denied.
-const NO_SUCH_OBJECT: u8 = 10;
-
-const DENIED: u8 = 3;
+// The error of a write that is no whole control, or that is refused.
+const DENIED: DataAccessError = DataAccessError::ObjectAccessDenied;
 
 /// A part of a switch's control, with the row that names it.
 #[derive(Clone, Copy)]
@@ -172,7 +171,7 @@ impl ServedBay {
     ) -> Result<(), AllocError>
         requires { IsHandle self.now.tree part.row }
         ensures response { OnOk result
-            (written.new.response ≡ written.old.response ++ failure_result 3) }
+            (written.new.response ≡ written.old.response ++ failure_result ObjectAccessDenied) }
         ensures reports { OnOk result (written.new.reports.items
             ≡ written.old.reports.items ++ refusal_reports client part.switch
             (name_at self.now.tree part.row) (cancelling control.now) (bay_view self.now)
@@ -235,7 +234,7 @@ impl ServedBay {
     {
         let operate = match operate_of(given) {
             Ok(operate) => operate,
-            Err(fault) => return written.response.failure(fault.code()),
+            Err(error) => return written.response.failure(error),
         };
         let mut controls = self.left(changed).duplicate();
         let answer = controls.select_with(
@@ -267,7 +266,7 @@ impl ServedBay {
     {
         let cancel = match cancel_of(given) {
             Ok(cancel) => cancel,
-            Err(fault) => return written.response.failure(fault.code()),
+            Err(error) => return written.response.failure(error),
         };
         let mut controls = self.left(changed).duplicate();
         let answer = controls.cancel(client.association, part.switch, client.now);
@@ -360,7 +359,7 @@ impl ServedBay {
     {
         let operate = match operate_of(given) {
             Ok(operate) => operate,
-            Err(fault) => return written.response.failure(fault.code()),
+            Err(error) => return written.response.failure(error),
         };
         let mut controls = self.left(changed).duplicate();
         let answer = controls.operate(
@@ -439,7 +438,7 @@ impl ServedBay {
     {
         match self.row_named(name) {
             Some(row) => self.write_row(alloc, client, row, given, changed, written),
-            None => written.response.failure(NO_SUCH_OBJECT),
+            None => written.response.failure(DataAccessError::ObjectNonExistent),
         }
     }
 

@@ -2,7 +2,7 @@
 use anyhow::{Result, bail};
 use bay_mms::control::{cancel_of, operate_of};
 use bay_mms::data::Data;
-use bay_mms::fault::{ControlFault, MmsFault};
+use bay_mms::fault::{DataAccessError, MmsFault};
 use bay_mms::request::{Call, Request, read_initiate, read_request};
 use cases::octets::octets_of;
 use cases::told::{check, check_text};
@@ -81,26 +81,26 @@ fn check_request(alloc: Global, octets: &mut Vec<u8>, words: &str) -> Result<()>
     check_asked(alloc, octets.as_slice(), bad.as_str())
 }
 
-/// Returns a fault's number and its message.
-fn fault_words(alloc: Global, fault: ControlFault) -> Result<String> {
-    Ok(format!(in alloc; "{} {fault}", fault.code())?)
+/// Returns an error's number and its message.
+fn error_words(alloc: Global, error: DataAccessError) -> Result<String> {
+    Ok(format!(in alloc; "{} {error}", error.code())?)
 }
 
-/// Describes the operate or the cancel in data, or their fault.
+/// Describes the operate or the cancel in data, or their error.
 fn control_words(alloc: Global, kind: &str, written: &Data<'_>) -> Result<String> {
     if kind == "operate" {
         return match operate_of(written) {
             Ok(operate) => Ok(format!(in alloc; "{operate:?}")?),
-            Err(fault) => fault_words(alloc, fault),
+            Err(error) => error_words(alloc, error),
         };
     }
     match cancel_of(written) {
         Ok(cancel) => Ok(format!(in alloc; "{cancel:?}")?),
-        Err(fault) => fault_words(alloc, fault),
+        Err(error) => error_words(alloc, error),
     }
 }
 
-/// Checks that the first value of a write is this operate or cancel, or has this fault.
+/// Checks that the first value of a write is this operate or cancel, or has this error.
 fn check_written(alloc: Global, kind: &str, octets: &[u8], wanted: &str) -> Result<()> {
     let Request::Confirmed {
         id: _,

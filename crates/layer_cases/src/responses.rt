@@ -1,10 +1,10 @@
 // Responses and reports, and the octets that they are written in.
-use crate::rows::position_of;
 use crate::written::check_written;
 use anyhow::{Result, bail};
 use bay_base::text::Text;
 use bay_ber::outgoing::Outgoing;
-use bay_mms::control::{Cancel, Operate, Origin};
+use bay_mms::control::{Cancel, Check, Operate, Origin};
+use bay_mms::fault::DataAccessError;
 use bay_mms::report::{ControlError, write_failed_termination, write_failure, write_termination};
 use bay_mms::response::{Agreed, ErrorClass, RejectReason, Response, Service, write_response};
 use bay_mms::results::{ReadResponse, WriteResponse};
@@ -37,13 +37,22 @@ fn add_value(response: &mut ReadResponse, tree: &Tree, word: &str) -> Result<()>
     Ok(())
 }
 
+/// Returns the error with this number.
+fn error_of(number: &str) -> Result<DataAccessError> {
+    match number {
+        "3" => Ok(DataAccessError::ObjectAccessDenied),
+        "10" => Ok(DataAccessError::ObjectNonExistent),
+        _ => bail!("no error: {number}"),
+    }
+}
+
 /// Appends the result of reading a variable: `value:` and its name, `text:` and a text instead of
 /// it, or `failure:` and a number.
 fn add_read(response: &mut ReadResponse, tree: &Tree, word: &str) -> Result<()> {
     match word.split_once(":") {
         Some(("value", value)) => add_value(response, tree, value)?,
         Some(("text", text)) => response.text(text)?,
-        Some(("failure", number)) => response.failure(number.parse::<u8>()?)?,
+        Some(("failure", number)) => response.failure(error_of(number)?)?,
         _ => bail!("what is read: {word}"),
     }
     Ok(())
@@ -62,9 +71,9 @@ fn read(alloc: Global, tree: &Tree, id: u32, words: &[&str]) -> Result<Outgoing>
 fn write(alloc: Global, id: u32, words: &[&str]) -> Result<Outgoing> {
     let mut response = WriteResponse::new(alloc);
     for word in words {
-        match word.parse::<u8>() {
-            Ok(number) => response.failure(number)?,
-            Err(_) => response.success()?,
+        match *word {
+            "success" => response.success()?,
+            number => response.failure(error_of(number)?)?,
         }
     }
     Ok(response.finish(id, SIZE)?)
@@ -163,10 +172,19 @@ fn moment_of(alloc: Global, word: &str) -> Result<[u8; 8]> {
 }
 
 /// Reads an operate of an identity: its value, category, identity, number, time, whether it is a
-/// test, and its check.
+/// test, and its two checks.
 fn operate_of<'a>(alloc: Global, words: &[&str], or_ident: &'a [u8]) -> Result<Operate<'a>> {
     match words {
-        [value, category, _, number, moment, test, check] => Ok(Operate {
+        [
+            value,
+            category,
+            _,
+            number,
+            moment,
+            test,
+            synchrocheck,
+            interlock_check,
+        ] => Ok(Operate {
             control: Cancel {
                 ctl_val: truth_of(value)?,
                 origin: Origin {
@@ -177,9 +195,12 @@ fn operate_of<'a>(alloc: Global, words: &[&str], or_ident: &'a [u8]) -> Result<O
                 t: moment_of(alloc, moment)?,
                 test: truth_of(test)?,
             },
-            check: position_of(check)?,
+            check: Check {
+                synchrocheck: truth_of(synchrocheck)?,
+                interlock_check: truth_of(interlock_check)?,
+            },
         }),
-        _ => bail!("seven words are wanted"),
+        _ => bail!("eight words are wanted"),
     }
 }
 
