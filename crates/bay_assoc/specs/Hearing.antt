@@ -5,6 +5,7 @@ use Rattle.bay_mms.specs.declared.request.Proposal.{Proposal}
 use Rattle.bay_mms.specs.declared.response.Agreed.{Agreed}
 use Rattle.bay_mms.specs.Grammar.{initiate_in}
 use Rattle.bay_mms.specs.Responses.{agreed_text}
+use Rattle.bay_mms.specs.Sizes.{longest_pdu}
 use Rattle.bay_base.specs.Results.{◌>>=◌ as ◌>>◌}
 use Rattle.bay_assoc.specs.declared.fault.AssocFault.{AssocFault}
 use Rattle.bay_assoc.specs.declared.fault.AssocFault.TheVariants as fault
@@ -67,8 +68,8 @@ mms_value a c =
 -- the octets of the largest PDU: at least 256, and at most 65,000, which is also what is agreed
 -- where none is proposed
 abbrev pub size_of : Option ℤ → Option ℕ
-size_of None = Some 65000
-size_of (Some (pos n)) = if nat_lt n 256 then None else Some (min n 65000)
+size_of None = Some longest_pdu
+size_of (Some (pos n)) = if nat_lt n 256 then None else Some (min n longest_pdu)
 size_of (Some (negsuc n)) = None
 
 -- at most 5 requests outstanding

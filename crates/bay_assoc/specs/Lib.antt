@@ -18,6 +18,7 @@
 
 -- What public clauses cite of the crates below.
 pub use Rattle.bay_ber.specs.Octets
+pub use Rattle.bay_mms.specs.Sizes
 -- Its own definitions.
 pub mod Acse
 pub mod Code

@@ -1,14 +1,10 @@
 -- How long answers and PDUs are.
-use Rattle.std.specs.Prelude.{ℕ, ◌≤◌, length}
+use Rattle.std.specs.Prelude.{◌≤◌, length}
+use Rattle.bay_mms.specs.Sizes.{IsPduSize}
 use Rattle.bay_assoc.specs.declared.hearing.Heard.{Heard}
 use Rattle.bay_assoc.specs.declared.hearing.Heard.TheVariants.{Answer, Mms, Released, Aborted}
 use Rattle.bay_assoc.specs.declared.hearing.Phase.{Phase}
 use Rattle.bay_assoc.specs.declared.hearing.Phase.TheVariants.{Idle, Open, Over, Failed}
-
--- the octets of the largest PDU, as agreed
-pub record IsPduSize (size : ℕ) : Type 0 where
-  pub least : 256 ≤ size
-  pub most : size ≤ 65000
 
 -- An open association has agreed on such a size.
 abbrev pub IsSized : Phase → Type 0

@@ -1,5 +1,6 @@
 // An association as its user sees it.
 ghost use Rattle.std.specs.Prelude.{◌≡◌, ◌≤◌, ◌++◌, ◌↔◌, ℕ, List, Ok, length, IfOk, IfSome, IsErrOf, IsSome, IsTrue};
+ghost use Rattle.bay_mms.specs.Sizes.{IsPduSize, longest_pdu};
 ghost use Rattle.bay_assoc.specs.Hearing.{mms, hearing};
 ghost use Rattle.bay_assoc.specs.Hears.{association_terms, Hears, StandsLast, IsOpenFor};
 ghost use Rattle.bay_assoc.specs.Session.{spdu_in};
@@ -86,8 +87,7 @@ impl Assoc {
     pub fn pdu_size(&self) -> u32
         requires { IsSome (association_terms self.now) }
         ensures size { IfSome (association_terms self.now) (λ terms. result ≡ terms.size) }
-        ensures least { 256 ≤ result }
-        ensures most { result ≤ 65_000 }
+        ensures sized { IsPduSize result }
     {
         match self.phase {
             Phase::Open(terms) => terms.size,
@@ -100,7 +100,7 @@ impl Assoc {
     /// most 65,021 octets. The association must be open.
     pub fn front(&self, count: u32) -> ArrayVec<u8, 21>
         requires open { IsSome (association_terms self.now) }
-        requires short { count ≤ 65_000 }
+        requires short { count ≤ longest_pdu }
         ensures exact { (pdu : List ℕ) → length pdu ≡ count
             → IfSome (association_terms self.now)
             (λ terms. result.items ++ pdu ≡ transfer_text (user_text terms.contexts.mms pdu)) }

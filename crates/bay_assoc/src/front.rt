@@ -3,6 +3,7 @@
 ghost use Rattle.std.specs.Prelude.{◌≡◌, ◌+◌, ◌<◌, ◌≤◌, ◌∷◌, ◌++◌, ℕ, List, length, pos};
 ghost use Rattle.arrayvec.specs.ArrayVec.{array_vec_len};
 ghost use Rattle.bay_ber.specs.Writing.{length_octets, element, integer_octets};
+ghost use Rattle.bay_mms.specs.Sizes.{longest_pdu};
 ghost use Rattle.bay_mms.specs.Tags.{int_tag};
 ghost use Rattle.bay_assoc.specs.Texts.{user_text, transfer_text};
 
@@ -71,7 +72,7 @@ fn id_length(id: u16) -> u32
 
 /// Returns the octets of a DATA TRANSFER before its value of `count` octets in the context `id`.
 pub(crate) fn front(id: u16, count: u32) -> ArrayVec<u8, 21>
-    requires { count ≤ 65_000 }
+    requires { count ≤ longest_pdu }
     ensures text { (value : List ℕ) → length value ≡ count
         → result.items ++ value ≡ transfer_text (user_text id value) }
     ensures low { id < 65_536 }

@@ -2,11 +2,12 @@
 ghost use Rattle.std.specs.Prelude.{◌≡◌, ◌≤◌, ◌∷◌, [], Some, length, option_map, IfOk, IfSome, IsErrOf, IsSome};
 ghost use Rattle.bay_base.specs.Exact.{Gives};
 ghost use Rattle.bay_base.specs.Results.{IsRead};
+ghost use Rattle.bay_mms.specs.Sizes.{IsPduSize};
 ghost use Rattle.bay_assoc.specs.Hearing.{answer_text, hearing};
 ghost use Rattle.bay_assoc.specs.Hearing as spec;
 ghost use Rattle.bay_assoc.specs.Presentation.{mode_in};
 ghost use Rattle.bay_assoc.specs.Session.{spdu_in};
-ghost use Rattle.bay_assoc.specs.Sized.{IsPduSize, IsSized, IsShort};
+ghost use Rattle.bay_assoc.specs.Sized.{IsSized, IsShort};
 ghost use Rattle.bay_assoc.specs.TakesMemory.{TakesMemory};
 ghost use Rattle.bay_assoc.specs.Views.{carried_view, connect_view, spdu_view, hearing_of};
 
@@ -17,7 +18,7 @@ use crate::request::Connect;
 use crate::session::{Spdu, spdu_in};
 use crate::text;
 use bay_mms::request::{Proposal, read_initiate};
-use bay_mms::response::{Agreed, write_agreed};
+use bay_mms::response::{Agreed, LONGEST_PDU, write_agreed};
 use std::alloc::{AllocError, Global};
 
 /// The identifiers of the accepted presentation contexts.
@@ -136,12 +137,12 @@ fn size_of(proposed: Option<i64>) -> Option<u32>
     ensures sized { IfSome result IsPduSize }
 {
     match proposed {
-        None => Some(65_000),
+        None => Some(LONGEST_PDU),
         Some(size) => {
             if size < 256 {
                 None
             } else {
-                Some(size.min(65_000) as u32)
+                Some(size.min(i64::from(LONGEST_PDU)) as u32)
             }
         }
     }

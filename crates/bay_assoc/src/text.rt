@@ -49,7 +49,7 @@ fn append_unit(out: &mut Vec<u8>, identifier: u8, content: &[u8]) -> Result<(), 
 
 /// Writes an ACCEPT with user data.
 pub(crate) fn accept(alloc: Global, user: &[u8]) -> Result<Vec<u8>, AllocError>
-    requires { length user.now < 65_000 }
+    requires { length user.now < 65_500 }
     ensures text { IfOk result (λ octets. octets.items ≡ accept_text user.now) }
     ensures few { IfOk result (λ octets. length octets.items ≤ length user.now + 20) }
 {
@@ -63,7 +63,7 @@ pub(crate) fn accept(alloc: Global, user: &[u8]) -> Result<Vec<u8>, AllocError>
 
 // A DISCONNECT with user data.
 fn disconnect(alloc: Global, user: &[u8]) -> Result<Vec<u8>, AllocError>
-    requires { length user.now < 65_000 }
+    requires { length user.now < 65_500 }
     ensures text { IfOk result (λ octets. octets.items ≡ disconnect_text user.now) }
     ensures few { IfOk result (λ octets. length octets.items ≤ length user.now + 8) }
 {

@@ -16,7 +16,7 @@ use Rattle.bay_assoc.specs.declared.hearing.Phase.TheVariants as phases
 use Rattle.bay_assoc.specs.Hearing.{Hearing, answer, mms, released, aborted, hearing}
 use Rattle.bay_connection.specs.Talk.{Talk, Indication, answers, tells, releases, ends, fails, Told, talk_over, on_hearing, talk_after, comes_to, indications, left_by}
 use Rattle.bay_connection.specs.Feeding.{CompletesIndication, Comes, Feeds, GoesOn}
-use Rattle.bay_connection.specs.Line.{AreJoined, IsJoined, IsReady, TellsOf}
+use Rattle.bay_connection.specs.Stack.{AreJoined, IsJoined, IsReady, TellsOf}
 use Rattle.bay_connection.proofs.CuttingLemmas.{indications-take, left_by-take}
 
 -- ---- the law

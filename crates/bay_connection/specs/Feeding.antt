@@ -3,8 +3,8 @@ use Rattle.std.specs.Prelude.{ℕ, ◌≡◌, ◌-◌, ◌<◌, ◌≤◌, List,
 use Rattle.bay_transport.specs.Doings.{Left, Going, Over, Broken}
 use Rattle.bay_assoc.specs.declared.hearing.Phase.{Phase}
 use Rattle.bay_assoc.specs.Hears.{association_terms}
-use Rattle.bay_connection.specs.declared.heard.LineEvent.{LineEvent}
-use Rattle.bay_connection.specs.declared.heard.LineEvent.TheVariants as heard
+use Rattle.bay_connection.specs.declared.heard.Indication as code
+use Rattle.bay_connection.specs.declared.heard.Indication.TheVariants as heard
 use Rattle.bay_connection.specs.Talk.{Talk, terms_of, Indication, answers, tells, releases, ends, fails, Told, indications}
 
 -- The octets that are taken come to this and nothing else, and those before the last of them to
@@ -63,7 +63,7 @@ pub record Client : Type 0 where
   pub pdu : List ℕ
 
 -- A PDU of MMS is heard where the association is open.
-abbrev pub IsOpenFor : LineEvent → Phase → Type 0
+abbrev pub IsOpenFor : code.Indication → Phase → Type 0
 IsOpenFor heard.Nothing phase = Unit {0}
 IsOpenFor (heard.Answer octets) phase = Unit {0}
 IsOpenFor heard.Mms phase = IsSome (association_terms phase)
@@ -72,7 +72,7 @@ IsOpenFor heard.Ended phase = Unit {0}
 IsOpenFor (heard.Fault code) phase = Unit {0}
 
 -- What is lent is the PDU of MMS that was heard, and nothing where something else was.
-abbrev pub LendsOnly : LineEvent → List ℕ → Type 0
+abbrev pub LendsOnly : code.Indication → List ℕ → Type 0
 LendsOnly heard.Nothing pdu = pdu ≡ []
 LendsOnly (heard.Answer octets) pdu = pdu ≡ []
 LendsOnly heard.Mms pdu = Unit {0}
@@ -81,7 +81,7 @@ LendsOnly heard.Ended pdu = pdu ≡ []
 LendsOnly (heard.Fault code) pdu = pdu ≡ []
 
 -- what is heard, and what the connection is then, without where it lies in memory
-abbrev pub indication_of : LineEvent → Client → Option Indication
+abbrev pub indication_of : code.Indication → Client → Option Indication
 indication_of heard.Nothing c = None
 indication_of (heard.Answer octets) c = Some (answers octets.items)
 indication_of heard.Mms c = Some (tells (terms_of c.talk) c.pdu)

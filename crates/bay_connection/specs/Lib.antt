@@ -8,7 +8,7 @@
 -- is what the list comes to, and then what the piece comes to from what the list leaves.
 --
 -- `Feeding` ties one `feed` to this: what it answers, how many bytes it takes, what it leaves.
--- `Line`: what the two layers hold.
+-- `Stack`: what the two layers hold.
 
 -- What public clauses cite of the crates below.
 pub use Rattle.bay_assoc.specs.Hears
@@ -17,4 +17,4 @@ pub use Rattle.bay_transport.specs.Feeding as StreamFeeding
 -- Its own definitions.
 pub mod Talk
 pub mod Feeding
-pub mod Line
+pub mod Stack

@@ -2,12 +2,13 @@
 ghost use Rattle.std.specs.Prelude.{◌≡◌, ◌<◌, ◌≤◌, ◌↔◌, [], IfOk, IfSome, IsSome, IsTrue, OnErr, length, take};
 ghost use Rattle.bay_transport.specs.Doings.{start};
 ghost use Rattle.bay_transport.specs.Feeding.{IsGoing};
+ghost use Rattle.bay_assoc.specs.Sizes.{IsPduSize, longest_pdu};
 ghost use Rattle.bay_assoc.specs.Hears.{association_terms};
 ghost use Rattle.bay_connection.specs.Talk.{talk_over, terms_of, left_by, sending};
 ghost use Rattle.bay_connection.specs.Feeding.{Feeds, indication_of, IsOpenFor, LendsOnly};
 
 use crate::heard::Fed;
-use crate::line::Line;
+use crate::stack::Stack;
 use bay_assoc::hearing::Phase;
 use bay_ber::outgoing::Outgoing;
 use std::alloc::{AllocError, Global};
@@ -17,18 +18,18 @@ use std::marker::Model;
 /// stream, and the phase of the association) and the last received PDU of MMS.
 #[derive(Drop)]
 pub struct Connection {
-    line: Line,
+    stack: Stack,
 }
 
 impl Model for Connection {
     ghost use Rattle.bay_connection.specs.Feeding.{Client};
-    ghost use Rattle.bay_connection.specs.Line.{client_of, IsKept};
+    ghost use Rattle.bay_connection.specs.Stack.{client_of, IsKept};
 
     ghost Value = { Client };
 
-    ghost view = { λ c. client_of c.line };
+    ghost view = { λ c. client_of c.stack };
 
-    ghost invariant = { λ c. IsKept c.line };
+    ghost invariant = { λ c. IsKept c.stack };
 }
 
 impl Connection {
@@ -44,7 +45,7 @@ impl Connection {
         } }
     {
         Connection {
-            line: Line::new(alloc, number),
+            stack: Stack::new(alloc, number),
         }
     }
 
@@ -73,10 +74,10 @@ impl Connection {
             (IsGoing self.old.talk.stream.left × (0 < length piece.now)) }
         ensures over { OnErr result (self.new.talk ≡ talk_over self.old.talk.stream) }
     {
-        match self.line.feed(piece) {
+        match self.stack.feed(piece) {
             Ok(fed) => Ok(fed),
             Err(error) => {
-                self.line.close();
+                self.stack.close();
                 Err(error)
             }
         }
@@ -86,14 +87,14 @@ impl Connection {
     pub fn pdu(&self) -> &[u8]
         ensures { result.now ≡ self.now.pdu }
     {
-        self.line.pdu()
+        self.stack.pdu()
     }
 
     /// Returns whether the association is open, so that PDUs of MMS can be sent.
     pub fn is_open(&self) -> bool
         ensures { IsTrue result ↔ IsSome (association_terms self.now.talk.phase) }
     {
-        self.line.assoc.is_open()
+        self.stack.assoc.is_open()
     }
 
     /// Returns the agreed size of the largest PDU of MMS in octets, 256 to 65,000. The association
@@ -102,10 +103,9 @@ impl Connection {
         requires { IsSome (association_terms self.now.talk.phase) }
         ensures size { IfSome (association_terms self.now.talk.phase)
             (λ terms. result ≡ terms.size) }
-        ensures least { 256 ≤ result }
-        ensures most { result ≤ 65_000 }
+        ensures sized { IsPduSize result }
     {
-        self.line.assoc.pdu_size()
+        self.stack.assoc.pdu_size()
     }
 
     /// Returns the octets that send a PDU of MMS: a TSDU in the context of MMS, in data TPDUs of
@@ -114,9 +114,9 @@ impl Connection {
     /// the agreed size.
     pub fn send(&self, pdu: Outgoing) -> Result<Outgoing, AllocError>
         requires open { IsSome (association_terms self.now.talk.phase) }
-        requires short { length pdu ≤ 65_000 }
+        requires short { length pdu ≤ longest_pdu }
         ensures { IfOk result (λ octets. octets ≡ sending (terms_of self.now.talk) pdu) }
     {
-        self.line.send(pdu)
+        self.stack.send(pdu)
     }
 }

@@ -2,7 +2,7 @@
 
 /// What octets complete.
 #[derive(Drop)]
-pub enum LineEvent {
+pub enum Indication {
     /// Nothing yet. All octets were taken.
     Nothing,
     /// A request for a connection or for an association. These octets answer it and have to be
@@ -25,5 +25,5 @@ pub struct Fed {
     /// The number of octets of the piece that were taken. The others have not been looked at.
     pub used: usize,
     /// What those octets complete.
-    pub heard: LineEvent,
+    pub heard: Indication,
 }

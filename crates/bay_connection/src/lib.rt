@@ -3,11 +3,11 @@
 // 8650-1).
 //
 // `connection`: the connection as its user sees it. `heard`: what a piece of its octets comes to.
-// `laws`: what holds of the definitions that the contracts cite. Within the crate `line` has the
+// `laws`: what holds of the definitions that the contracts cite. Within the crate `stack` has the
 // two layers.
 #![tactic(auto)]
 
 pub mod connection;
 pub mod heard;
 pub mod laws;
-mod line;
+mod stack;

@@ -28,7 +28,8 @@ use Rattle.bay_assoc.specs.Hearing.{Hearing, answer, mms, released, aborted, acc
 use Rattle.bay_assoc.specs.Presentation.{Carried, user_in, request_in}
 use Rattle.bay_assoc.specs.Results.{or_fault}
 use Rattle.bay_assoc.specs.Session.{Spdu, connect, accept, finish, disconnect, abort, transfer, spdu_in}
-use Rattle.bay_assoc.specs.Sized.{IsPduSize, IsSized}
+use Rattle.bay_mms.specs.Sizes.{IsPduSize}
+use Rattle.bay_assoc.specs.Sized.{IsSized}
 use Rattle.bay_connection.specs.Talk.{Indication, Talk, Told, answers, tells, releases, ends, fails, comes_to, indications, left_by, on_heard, on_hearing, talk_after}
 
 -- ---- a TSDU comes where a size is agreed

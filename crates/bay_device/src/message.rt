@@ -2,6 +2,7 @@
 ghost use Rattle.std.specs.Prelude.{◌≡◌, ◌≤◌, ◌++◌, List, Option, [], All, IfOk, IfSome, IsSome, OnErr, OnOk, length, map, take};
 ghost use Rattle.bay_assoc.specs.Hears.{association_terms};
 ghost use Rattle.bay_connection.specs.Talk.{Talk, sending, terms_of};
+ghost use Rattle.bay_mms.specs.Sizes.{IsPduSize, longest_pdu};
 ghost use Rattle.bay_services.specs.Answers.{pdu_answer};
 ghost use Rattle.bay_services.specs.Bay.{left_by};
 ghost use Rattle.bay_services.specs.Controls.{AreShort, IsShort};
@@ -48,7 +49,7 @@ impl Made {
 /// Returns the octets that send a report, if there is one.
 fn framed(connection: &Connection, report: Option<Outgoing>) -> Result<Option<Outgoing>, AllocError>
     requires open { IsSome (association_terms connection.now.talk.phase) }
-    requires short { IfSome report (λ pdu. length pdu ≤ 65_000) }
+    requires short { IfSome report (λ pdu. length pdu ≤ longest_pdu) }
     ensures { IfOk result (λ octets. octets ≡ sending_if (terms_of connection.now.talk) report) }
 {
     match report {
@@ -113,7 +114,7 @@ fn send_all(
     sent: &mut Vec<Sent>,
 ) -> Result<(), AllocError>
     requires open { IsSome (association_terms connection.now.talk.phase) }
-    requires short { All (λ pdu. length pdu ≤ 65_000) pdus.items }
+    requires short { All (λ pdu. length pdu ≤ longest_pdu) pdus.items }
     ensures ok { OnOk result
         (sent.new.items ≡ sent.old.items
         ++ map (λ pdu. sent_on association (sending (terms_of connection.now.talk) pdu)) pdus.items) }
@@ -139,7 +140,7 @@ fn reply(
     made: &mut Made,
 ) -> Result<Option<Due>, AllocError>
     requires open { IsSome (association_terms connection.now.talk.phase) }
-    requires short { All (λ pdu. length pdu ≤ 65_000) answer.sent.items }
+    requires short { All (λ pdu. length pdu ≤ longest_pdu) answer.sent.items }
     requires ending { IsShort answer.ending }
     ensures due { IfOk result
         (λ due. due ≡ spec.due_if association (terms_of connection.now.talk) answer.ending) }
@@ -176,8 +177,7 @@ fn answer(
     made: &mut Made,
 ) -> Result<Option<Due>, AllocError>
     requires open { IsSome (association_terms connection.now.talk.phase) }
-    requires least { 256 ≤ client.size }
-    requires most { client.size ≤ 65_000 }
+    requires sized { IsPduSize client.size }
     ensures ok { IfOk result (λ due. (connections : List (Option Talk))
         → done_of (with_effect changed.new due (state_view connections state.now)) made.new
         ≡ answered_with client.association (terms_of connection.now.talk)

@@ -13,7 +13,7 @@ use crate::message::{Made, message};
 use crate::state::DeviceState;
 use bay_ber::outgoing::Outgoing;
 use bay_connection::connection::Connection;
-use bay_connection::heard::LineEvent;
+use bay_connection::heard::Indication;
 use std::alloc::{AllocError, Global};
 
 impl From<AllocError> for Why {
@@ -47,7 +47,7 @@ fn hear(
     association: u16,
     state: &mut DeviceState,
     connection: &Connection,
-    heard: LineEvent,
+    heard: Indication,
     made: &mut Made,
 ) -> Result<(), Why>
     requires { IsOpenFor heard connection.now.talk.phase }
@@ -66,21 +66,21 @@ fn hear(
         ≡ record { done = done_of (state_view connections state.new) made.new; why = Some why }) }
 {
     match heard {
-        LineEvent::Nothing => Ok(()),
-        LineEvent::Answer(octets) => {
+        Indication::Nothing => Ok(()),
+        Indication::Answer(octets) => {
             send(association, octets, made)?;
             Ok(())
         }
-        LineEvent::Mms => {
+        Indication::Mms => {
             message(alloc, now, association, state, connection, made)?;
             Ok(())
         }
-        LineEvent::Released(octets) => {
+        Indication::Released(octets) => {
             send(association, octets, made)?;
             Err(Why::Ended)
         }
-        LineEvent::Ended => Err(Why::Ended),
-        LineEvent::Fault(code) => Err(Why::Fault(code)),
+        Indication::Ended => Err(Why::Ended),
+        Indication::Fault(code) => Err(Why::Fault(code)),
     }
 }
 

@@ -20,8 +20,8 @@
 -- `Responses`: the one text of each response, error and reject. `Pages`: the greatest number of
 -- names, up to 100, whose response fits a PDU. `Reports`: LastApplError and CommandTermination.
 -- `Writing`: what a call that writes answers. `Laws`: data whose text stands as it is. `Tags`:
--- tags. `Code` numbers the faults; `Views`, `RequestViews` and `ControlViews` map the code's values
--- to plain data.
+-- tags. `Sizes`: how long PDUs are. `Code` numbers the faults; `Views`, `RequestViews` and
+-- `ControlViews` map the code's values to plain data.
 
 -- What public clauses cite of the crates below.
 pub use Rattle.bay_base.specs.Exact
@@ -46,6 +46,7 @@ pub mod Reports
 pub mod RequestViews
 pub mod Requests
 pub mod Responses
+pub mod Sizes
 pub mod Spelled
 pub mod SpelledData
 pub mod SpelledInitiate

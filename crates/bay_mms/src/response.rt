@@ -59,6 +59,9 @@ pub enum Service<'a> {
     },
 }
 
+/// The octets of the longest PDU.
+pub const LONGEST_PDU: u32 = 65_000;
+
 /// What is agreed for an association (ISO 9506-2, InitiateResponsePDU), in version 1 of the
 /// protocol.
 #[derive(Clone, Copy)]

@@ -18,6 +18,7 @@ use Rattle.bay_control.specs.declared.request.View.{View}
 use Rattle.bay_mms.specs.Data.{Datum, structure, text, integer, unsigned, no_data, datum}
 use Rattle.bay_mms.specs.Controls.{Control, Operate, Origin, origin_datum, operate_datum}
 use Rattle.bay_mms.specs.Reports.{report_text, failure_name, item_name}
+use Rattle.bay_mms.specs.Sizes.{longest_pdu}
 use Rattle.bay_services.specs.Bay.{Bay}
 use Rattle.bay_services.specs.Replies.{fitting}
 use Rattle.bay_services.specs.declared.answer.Decision.{Decision}
@@ -140,8 +141,8 @@ endings c k item o b (Err why) = None
 
 -- Reports of an end have at most 65,000 octets, as a PDU of MMS has that is sent.
 pub record AreShort (e : Ending) : Type 0 where
-  pub positive : IfSome e.positive (λ pdu. length pdu ≤ 65000)
-  pub negative : IfSome e.negative (λ pdu. length pdu ≤ 65000)
+  pub positive : IfSome e.positive (λ pdu. length pdu ≤ longest_pdu)
+  pub negative : IfSome e.negative (λ pdu. length pdu ≤ longest_pdu)
 
 abbrev pub IsShort : Option Ending → Type 0
 IsShort ending = IfSome ending AreShort

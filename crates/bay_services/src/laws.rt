@@ -4,6 +4,7 @@ ghost use Rattle.std.specs.Str.{bytes_eq};
 ghost use Rattle.bay_control.specs.Decisions.{State, selected_switch};
 ghost use Rattle.bay_control.specs.Happenings.{Leads};
 ghost use Rattle.bay_mms.specs.Grammar.{answer_to};
+ghost use Rattle.bay_mms.specs.Sizes.{longest_pdu};
 ghost use Rattle.bay_nodes.specs.Names.{control_names};
 ghost use Rattle.bay_services.specs.Accepted.{AreNamedAlike, accepted_in, first_response, may_be_reported};
 ghost use Rattle.bay_services.specs.Answers.{pdu_answer};
@@ -63,7 +64,7 @@ pub fn requests_lead()
 /// a success. The response is the first PDU of an answer after the reports that precede the
 /// response to a write, whatever is sent after it.
 pub fn answers_tell()
-    ensures { (c : Client) (pdu : List ℕ) (named b : Bay) (later : List (List ℕ)) → c.size ≤ 65000
+    ensures { (c : Client) (pdu : List ℕ) (named b : Bay) (later : List (List ℕ)) → c.size ≤ longest_pdu
         → AreNamedAlike named b
         → (accepted_in c.now c.association pdu named
         (first_response (may_be_reported (answer_to pdu)) ((pdu_answer c pdu b).sent ++ later)).0

@@ -6,6 +6,7 @@ ghost use Rattle.bay_mms.specs.RequestViews.{place};
 ghost use Rattle.bay_mms.specs.Requests.{in_domain};
 ghost use Rattle.bay_mms.specs.Responses.{error_text, page_text};
 ghost use Rattle.bay_mms.specs.declared.response.ErrorClass.TheVariants.{NoSuchObject};
+ghost use Rattle.bay_mms.specs.Sizes.{IsPduSize};
 ghost use Rattle.bay_mms.specs.Writing.{text_within};
 ghost use Rattle.bay_services.specs.Names.{domain_names, listing, no_names, variable_names};
 ghost use Rattle.bay_services.specs.Views.{bay_view};
@@ -104,8 +105,7 @@ impl ServedBay {
         id: u32,
         after: Option<&[u8]>,
     ) -> Result<Outgoing, EncodeFault>
-        requires least { 256 ≤ client.size }
-        requires most { client.size ≤ 65_000 }
+        requires { IsPduSize client.size }
         ensures { Gives EncodeFault.OutOfMemory (λ octets. octets) result
             (text_within client.size
             (variable_names client id (bay_view self.now) (option_copied after.entry))) }
@@ -127,8 +127,7 @@ impl ServedBay {
         domain: &[u8],
         after: Option<&[u8]>,
     ) -> Result<Outgoing, EncodeFault>
-        requires least { 256 ≤ client.size }
-        requires most { client.size ≤ 65_000 }
+        requires { IsPduSize client.size }
         ensures { Gives EncodeFault.OutOfMemory (λ octets. octets) result
             (text_within client.size
             (listing client id class (in_domain domain.now) (option_copied after.entry)
@@ -154,8 +153,7 @@ impl ServedBay {
         scope: &Scope<'_>,
         after: Option<&[u8]>,
     ) -> Result<Outgoing, EncodeFault>
-        requires least { 256 ≤ client.size }
-        requires most { client.size ≤ 65_000 }
+        requires { IsPduSize client.size }
         ensures { Gives EncodeFault.OutOfMemory (λ octets. octets) result
             (text_within client.size
             (listing client id class.now (place scope.now) (option_copied after.entry)

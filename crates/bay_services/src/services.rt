@@ -3,6 +3,7 @@ ghost use Rattle.std.specs.Prelude.{◌≡◌, ◌≢◌, ◌≤◌, ◌∷◌, 
 ghost use Rattle.bay_base.specs.Exact.{Gives};
 ghost use Rattle.bay_mms.specs.RequestViews.{asking, naming};
 ghost use Rattle.bay_mms.specs.Responses.{concluded_text, error_text, read_text};
+ghost use Rattle.bay_mms.specs.Sizes.{IsPduSize, longest_pdu};
 ghost use Rattle.bay_mms.specs.Views.{data_in};
 ghost use Rattle.bay_mms.specs.Writing.{text_within};
 ghost use Rattle.bay_services.specs.Answers.{Answered, answer_of, pdu_answer, attributes_at, identify_answer, read_asked, service_answer, write_asked};
@@ -262,8 +263,7 @@ impl ServedBay {
         call: &Call<'_>,
         changed: &mut Option<Controls>,
     ) -> Result<Answer, AllocError>
-        requires least { 256 ≤ client.size }
-        requires most { client.size ≤ 65_000 }
+        requires sized { IsPduSize client.size }
         requires first { changed.old ≡ None }
         ensures { IfOk result (λ answer. AnswersAs answer changed.new (bay_view self.now)
             (service_answer client id (bay_view self.now) (asking call.now))) }
@@ -294,8 +294,7 @@ impl ServedBay {
         request: Result<Request<'_>, MmsFault>,
         changed: &mut Option<Controls>,
     ) -> Result<Answer, AllocError>
-        requires least { 256 ≤ client.size }
-        requires most { client.size ≤ 65_000 }
+        requires sized { IsPduSize client.size }
         requires first { changed.old ≡ None }
         ensures ok { IfOk result
             (λ answer. AnswersAs answer changed.new (bay_view self.now)
@@ -324,12 +323,12 @@ impl ServedBay {
         pdu: &[u8],
         changed: &mut Option<Controls>,
     ) -> Result<Answer, AllocError>
-        requires least { 256 ≤ client.size }
-        requires most { client.size ≤ 65_000 }
+        requires { IsPduSize client.size }
         ensures ok { IfOk result
             (λ answer. AnswersAs answer changed.new (bay_view self.now)
             (pdu_answer client pdu.now (bay_view self.now))) }
-        ensures short { IfOk result (λ answer. All (λ pdu. length pdu ≤ 65_000) answer.sent.items) }
+        ensures short { IfOk result
+            (λ answer. All (λ pdu. length pdu ≤ longest_pdu) answer.sent.items) }
         ensures ending { IfOk result (λ answer. IsShort answer.ending) }
     {
         *changed = None;

@@ -1,5 +1,5 @@
 use Rattle.std.proofs.Common.{refl, arith}
-use Rattle.bay_connection.proofs.line.Line.close.Goals as goal
+use Rattle.bay_connection.proofs.stack.Stack.close.Goals as goal
 
 pub returns-clause-kept : goal.returns-clause-kept
 returns-clause-kept c =

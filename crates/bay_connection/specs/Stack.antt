@@ -7,7 +7,7 @@ use Rattle.bay_transport.specs.Feeding.{size_agreed}
 use Rattle.bay_assoc.specs.declared.hearing.Phase.{Phase}
 use Rattle.bay_assoc.specs.declared.hearing.Phase.TheVariants as phases
 use Rattle.bay_assoc.specs.Hears.{association_terms}
-use Rattle.bay_connection.specs.declared.line.Line.{Line}
+use Rattle.bay_connection.specs.declared.stack.Stack.{Stack}
 use Rattle.bay_connection.specs.Talk.{Talk, Indication, talk_after}
 use Rattle.bay_connection.specs.Feeding.{Client}
 
@@ -23,22 +23,22 @@ AreJoined Broken phase = ⊥
 abbrev pub IsJoined : Talk → Type 0
 IsJoined t = AreJoined t.stream.left t.phase
 
--- what the octets of a line left
-abbrev pub talk_of : Line → Talk
-talk_of l = record { stream = l.transport.stream; phase = l.assoc }
+-- what the octets of a stack left
+abbrev pub talk_of : Stack → Talk
+talk_of s = record { stream = s.transport.stream; phase = s.assoc }
 
 -- a PDU of MMS stands last in the TSDU that was completed last
-abbrev pub pdu_of : Line → List ℕ
-pdu_of l = drop (length l.transport.shown - l.pdu) l.transport.shown
+abbrev pub pdu_of : Stack → List ℕ
+pdu_of s = drop (length s.transport.shown - s.pdu) s.transport.shown
 
--- a line as its user sees it
-abbrev pub client_of : Line → Client
-client_of l = record { talk = talk_of l; pdu = pdu_of l }
+-- a stack as its user sees it
+abbrev pub client_of : Stack → Client
+client_of s = record { talk = talk_of s; pdu = pdu_of s }
 
--- What holds of a line between pieces.
-pub record IsKept (l : Line) : Type 0 where
-  pub within : l.pdu ≤ length l.transport.shown
-  pub joined : IsJoined (talk_of l)
+-- What holds of a stack between pieces.
+pub record IsKept (s : Stack) : Type 0 where
+  pub within : s.pdu ≤ length s.transport.shown
+  pub joined : IsJoined (talk_of s)
 
 -- What the transport completed can be heard.
 abbrev pub IsReady : Got → Talk → Type 0

@@ -1,9 +1,9 @@
 use Rattle.std.proofs.Common.{◌∙◌, sym, ap}
 use Rattle.bay_connection.specs.Talk.{talk_over}
 use Rattle.bay_connection.specs.Feeding.{indication_of}
-use Rattle.bay_connection.specs.Line.{talk_of, client_of}
+use Rattle.bay_connection.specs.Stack.{talk_of, client_of}
 use Rattle.bay_connection.proofs.FeedingLemmas.{is-ready, fed-got, fed-fault}
-use Rattle.bay_connection.proofs.line.Line.feed.Goals as goal
+use Rattle.bay_connection.proofs.stack.Stack.feed.Goals as goal
 
 pub heard-requires-clause-ready : goal.heard-requires-clause-ready
 heard-requires-clause-ready c =

@@ -3,12 +3,13 @@
 ghost use Rattle.std.specs.Prelude.{◌≡◌, ◌<◌, ◌≤◌, [], Some, IfOk, IsSome, OnErr, OnOk, length, take};
 ghost use Rattle.bay_transport.specs.Doings.{Delivers, start};
 ghost use Rattle.bay_transport.specs.Feeding.{IsGoing, size_agreed, doing_for};
+ghost use Rattle.bay_assoc.specs.Sizes.{longest_pdu};
 ghost use Rattle.bay_assoc.specs.Hears.{association_terms};
 ghost use Rattle.bay_connection.specs.Talk.{answers, talk_over, terms_of, data_tpdus, sending, left_by};
 ghost use Rattle.bay_connection.specs.Feeding.{Feeds, indication_of, IsOpenFor, LendsOnly};
-ghost use Rattle.bay_connection.specs.Line.{talk_of, pdu_of, client_of, IsKept, IsReady, TakesMemory, Tells, TellsOf};
+ghost use Rattle.bay_connection.specs.Stack.{talk_of, pdu_of, client_of, IsKept, IsReady, TakesMemory, Tells, TellsOf};
 
-use crate::heard::{Fed, LineEvent};
+use crate::heard::{Fed, Indication};
 use bay_assoc::assoc::Assoc;
 use bay_assoc::fault::AssocFault;
 use bay_assoc::hearing;
@@ -21,7 +22,7 @@ use std::alloc::{AllocError, Global};
 
 /// The two layers, and what was received last.
 #[derive(Drop)]
-pub struct Line {
+pub struct Stack {
     alloc: Global,
     pub(crate) transport: Transport,
     pub(crate) assoc: Assoc,
@@ -29,9 +30,9 @@ pub struct Line {
     pub(crate) pdu: usize,
 }
 
-impl Line {
-    /// Creates a line that has received nothing.
-    pub(crate) fn new(alloc: Global, number: u16) -> Line
+impl Stack {
+    /// Creates a stack that has received nothing.
+    pub(crate) fn new(alloc: Global, number: u16) -> Stack
         ensures kept { IsKept result }
         ensures client { client_of result
             ≡ record {
@@ -40,7 +41,7 @@ impl Line {
               pdu = [];
             } }
     {
-        Line {
+        Stack {
             alloc,
             transport: Transport::new(alloc, number),
             assoc: Assoc::new(alloc),
@@ -89,7 +90,7 @@ impl Line {
     pub(crate) fn send(&self, mut pdu: Outgoing) -> Result<Outgoing, AllocError>
         requires kept { IsKept self.now }
         requires open { IsSome (association_terms self.now.assoc) }
-        requires short { length pdu ≤ 65_000 }
+        requires short { length pdu ≤ longest_pdu }
         ensures { IfOk result (λ octets. octets ≡ sending (terms_of (talk_of self.now)) pdu) }
     {
         let front = self.assoc.front(pdu.as_slice().len() as u32);
@@ -111,7 +112,7 @@ impl Line {
     }
 
     // What the association hears of the TSDU that the transport shows.
-    fn hear(&mut self) -> Result<LineEvent, AllocError>
+    fn hear(&mut self) -> Result<Indication, AllocError>
         requires agreed { IsSome (size_agreed self.old.transport.stream) }
         requires nothing { self.old.pdu ≡ 0 }
         ensures kept { OnOk result (IsKept self.new) }
@@ -126,20 +127,20 @@ impl Line {
         match self.assoc.on_tsdu(tsdu) {
             Ok(hearing::Heard::Answer(octets)) => {
                 let frames = self.wrapped(octets.as_slice())?;
-                Ok(LineEvent::Answer(frames))
+                Ok(Indication::Answer(frames))
             }
             Ok(hearing::Heard::Mms(pdu)) => {
                 self.pdu = pdu.len();
-                Ok(LineEvent::Mms)
+                Ok(Indication::Mms)
             }
             Ok(hearing::Heard::Released(octets)) => {
                 let frames = self.wrapped(octets.as_slice())?;
                 self.close();
-                Ok(LineEvent::Released(frames))
+                Ok(Indication::Released(frames))
             }
             Ok(hearing::Heard::Aborted) => {
                 self.close();
-                Ok(LineEvent::Ended)
+                Ok(Indication::Ended)
             }
             Err(AssocFault::OutOfMemory) => Err(AllocError),
             Err(fault) => {
@@ -147,24 +148,24 @@ impl Line {
                     unreachable!();
                 };
                 self.close();
-                Ok(LineEvent::Fault(code))
+                Ok(Indication::Fault(code))
             }
         }
     }
 
     // The answer to a request for a connection.
-    fn answer(&self) -> Result<LineEvent, AllocError>
+    fn answer(&self) -> Result<Indication, AllocError>
         requires { self.now.pdu ≡ 0 }
         ensures answer { IfOk result (λ heard. indication_of heard (client_of self.now)
             ≡ Some (answers self.now.transport.shown)) }
         ensures lent { IfOk result (λ heard. LendsOnly heard (pdu_of self.now)) }
     {
         let octets = self.transport.shown().to_vec(self.alloc)?;
-        Ok(LineEvent::Answer(octets))
+        Ok(Indication::Answer(octets))
     }
 
     // What is heard of what the transport completed.
-    fn heard(&mut self, got: Got) -> Result<LineEvent, AllocError>
+    fn heard(&mut self, got: Got) -> Result<Indication, AllocError>
         requires ready { IsReady got (talk_of self.old) }
         requires nothing { self.old.pdu ≡ 0 }
         ensures kept { OnOk result (IsKept self.new) }
@@ -177,12 +178,12 @@ impl Line {
         ensures lent { IfOk result (λ heard. LendsOnly heard (pdu_of self.new)) }
     {
         match got {
-            Got::More => Ok(LineEvent::Nothing),
+            Got::More => Ok(Indication::Nothing),
             Got::Answer => self.answer(),
             Got::Tsdu => self.hear(),
             Got::Ended => {
                 self.close();
-                Ok(LineEvent::Ended)
+                Ok(Indication::Ended)
             }
         }
     }
@@ -220,7 +221,7 @@ impl Line {
                 self.close();
                 Ok(Fed {
                     used: piece.len(),
-                    heard: LineEvent::Fault(code),
+                    heard: Indication::Fault(code),
                 })
             }
         }

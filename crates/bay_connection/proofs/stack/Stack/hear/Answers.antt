@@ -4,7 +4,7 @@ use Rattle.bay_transport.specs.Feeding.{size_agreed}
 use Rattle.bay_assoc.specs.Hearing.{mms, hearing}
 use Rattle.bay_connection.proofs.FeedingLemmas.{sized-joined}
 use Rattle.bay_connection.proofs.HearingLemmas.{hears-pdu, last-part}
-use Rattle.bay_connection.proofs.line.Line.hear.Goals as goal
+use Rattle.bay_connection.proofs.stack.Stack.hear.Goals as goal
 
 pub returns-in_ok-frames-in-Ok-Answer-clause-kept
     : goal.returns-in_ok-frames-in-Ok-Answer-clause-kept
