@@ -18,17 +18,6 @@ pub length-one : (n : ℕ) → n < 128 → length_octets n ≡ n ∷ []
 unfolding length_octets
 length-one n low = rw (lt-ltb n 128 low) refl
 
-pub length-two : (n : ℕ) → 128 ≤ n → n < 256 → length_octets n ≡ 0x81 ∷ n ∷ []
-length-two n some low =
-    let same : n % 256 ≡ n = omega arith in
-    long_is n 1 (octets_needed-1 n low) some ∙ ap (λ (b : ℕ). 0x81 ∷ b ∷ []) same
-
-pub length-three : (n : ℕ) → 256 ≤ n → n < 65536 → length_octets n ≡ 0x82 ∷ n / 256 ∷ n % 256 ∷ []
-length-three n some low =
-    let high : n / 256 ^ 1 % 256 ≡ n / 256 = omega arith in
-    long_is n 2 (octets_needed-2 n some low) (omega arith)
-    ∙ ap (λ (b : ℕ). 0x82 ∷ b ∷ n % 256 ∷ []) high
-
 -- ---- identifiers
 
 not-needless : (high low : ℕ) → high < 128 → 128 ≤ high * 256 + low → is_needless high low ≡ false
@@ -94,23 +83,6 @@ after-five old a b d e f =
     ap (λ (ys : List ℕ). ys ++ f ∷ []) (after-four old a b d e)
     ∙ append_assoc old (a ∷ b ∷ d ∷ e ∷ []) (f ∷ [])
 
-pub header-one : (old : List ℕ) (i n : ℕ) → n < 128
-    → (old ++ i ∷ []) ++ n ∷ [] ≡ old ++ i ∷ length_octets n
-header-one old i n few =
-    after-two old i n ∙ ap (λ (ys : List ℕ). old ++ i ∷ ys) (sym (length-one n few))
-
-pub header-two : (old : List ℕ) (i n : ℕ) → 128 ≤ n → n < 256
-    → ((old ++ i ∷ []) ++ 0x81 ∷ []) ++ n ∷ [] ≡ old ++ i ∷ length_octets n
-header-two old i n some few =
-    after-three old i 0x81 n ∙ ap (λ (ys : List ℕ). old ++ i ∷ ys) (sym (length-two n some few))
-
-pub header-three : (old : List ℕ) (i n : ℕ) → 256 ≤ n → n < 65536
-    → (((old ++ i ∷ []) ++ 0x82 ∷ []) ++ (n / 256) ∷ []) ++ (n % 256) ∷ []
-    ≡ old ++ i ∷ length_octets n
-header-three old i n some few =
-    after-four old i 0x82 (n / 256) (n % 256)
-    ∙ ap (λ (ys : List ℕ). old ++ i ∷ ys) (sym (length-three n some few))
-
 pub number-one : (old : List ℕ) (n : ℕ) → n < 128
     → ((old ++ 2 ∷ []) ++ 1 ∷ []) ++ n ∷ [] ≡ old ++ element int_tag (integer_octets (pos n))
 number-one old n few =
@@ -137,39 +109,33 @@ spelled-so : (tag : Tag) (content : List ℕ) (count : ℕ) → length content �
 unfolding element
 spelled-so tag content count is = rw is refl
 
-regroup : (front outer inner number octets value : List ℕ) (a b d : ℕ)
-    → ((((front ++ (a ∷ outer)) ++ (b ∷ inner)) ++ number) ++ (d ∷ octets)) ++ value
-    ≡ front ++ (a ∷ (outer ++ (b ∷ (inner ++ (number ++ (d ∷ (octets ++ value)))))))
-regroup front outer inner number octets value a b d =
-    append_assoc (((front ++ (a ∷ outer)) ++ (b ∷ inner)) ++ number) (d ∷ octets) value
-    ∙ append_assoc ((front ++ (a ∷ outer)) ++ (b ∷ inner)) number ((d ∷ octets) ++ value)
-    ∙ append_assoc (front ++ (a ∷ outer)) (b ∷ inner) (number ++ ((d ∷ octets) ++ value))
-    ∙ append_assoc front (a ∷ outer) ((b ∷ inner) ++ (number ++ ((d ∷ octets) ++ value)))
+-- octets with a value behind them, as the content of another
+nested : (tag : Tag) (n : ℕ) (inner value content : List ℕ) → inner ++ value ≡ content
+    → n ≡ length inner + length value
+    → ((octet_of tag ∷ length_octets n) ++ inner) ++ value ≡ element tag content
+nested tag n inner value content is count =
+    let all : length content ≡ n =
+    sym (ap length is) ∙ length-append inner value ∙ sym count in
+    append_assoc (octet_of tag ∷ length_octets n) inner value
+    ∙ ap (λ (ys : List ℕ). (octet_of tag ∷ length_octets n) ++ ys) is
+    ∙ sym (spelled-so tag content n all)
 
-pub front-is : (id count carried listed : ℕ) (value : List ℕ) → length value ≡ count
-    → carried ≡ length (element int_tag (integer_octets (pos id))) + element_length count
-    → listed ≡ element_length carried
-    → (((((1 ∷ 0 ∷ 1 ∷ 0 ∷ []) ++ (0x61 ∷ length_octets listed)) ++ (0x30 ∷ length_octets carried))
-    ++ element int_tag (integer_octets (pos id))) ++ (0xA0 ∷ length_octets count)) ++ value
+pub front-is : (id carried listed : ℕ) (inner list value : List ℕ)
+    → inner ≡ element int_tag (integer_octets (pos id)) ++ (0xA0 ∷ length_octets (length value))
+    → carried ≡ length inner + length value → list ≡ (0x30 ∷ length_octets carried) ++ inner
+    → listed ≡ length list + length value
+    → (((1 ∷ 0 ∷ 1 ∷ 0 ∷ []) ++ (0x61 ∷ length_octets listed)) ++ list) ++ value
     ≡ transfer_text (user_text id value)
-front-is id count carried listed value counted inner outer =
+front-is id carried listed inner list value is few begun most =
     let number = element int_tag (integer_octets (pos id)) in
     let held = element (constructed 0) value in
-    let n : length held ≡ element_length count =
-    length-element-is (constructed 0) value ∙ ap element_length counted in
-    let m : length (number ++ held) ≡ carried = length-append number held ∙ rw (n, inner) refl in
-    let k : length (element sequence (number ++ held)) ≡ listed =
-    length-element-is sequence (number ++ held) ∙ rw (m, outer) refl in
-    let third : held ≡ 0xA0 ∷ (length_octets count ++ value) =
-    spelled-so (constructed 0) value count counted in
-    let second : element sequence (number ++ held)
-    ≡ 0x30 ∷ (length_octets carried ++ (number ++ held)) =
-    spelled-so sequence (number ++ held) carried m in
-    let first : user_text id value
-    ≡ 0x61 ∷ (length_octets listed ++ element sequence (number ++ held)) =
-    spelled-so (application 1) (element sequence (number ++ held)) listed k in
-    regroup (1 ∷ 0 ∷ 1 ∷ 0 ∷ []) (length_octets listed) (length_octets carried) number
-    (length_octets count) value 0x61 0x30 0xA0
-    ∙ sym (ap transfer_text (first
-    ∙ ap (λ (ys : List ℕ). 0x61 ∷ (length_octets listed ++ ys))
-    (second ∙ ap (λ (ys : List ℕ). 0x30 ∷ (length_octets carried ++ (number ++ ys))) third)))
+    let third : inner ++ value ≡ number ++ held =
+    ap (λ (ys : List ℕ). ys ++ value) is
+    ∙ append_assoc number (0xA0 ∷ length_octets (length value)) value
+    ∙ ap (λ (ys : List ℕ). number ++ ys) (sym (spelled-so (constructed 0) value (length value) refl))
+    in
+    let second : list ++ value ≡ element sequence (number ++ held) =
+    ap (λ (ys : List ℕ). ys ++ value) begun
+    ∙ nested sequence carried inner value (number ++ held) third few in
+    ap (λ (ys : List ℕ). 1 ∷ 0 ∷ 1 ∷ 0 ∷ ys) (nested (application 1) listed list value
+    (element sequence (number ++ held)) second most)

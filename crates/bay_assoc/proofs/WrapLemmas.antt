@@ -99,7 +99,7 @@ unfolding hearing spdu_in data_transfer
 transfer-heard terms pdu read = rw (read, eq-eqb terms.contexts.mms terms.contexts.mms refl) refl
 
 pub sent-is-heard : (phase : Phase) (terms : AssociationTerms) (front pdu : List ℕ)
-    → phase ≡ Open terms → terms.contexts.mms < 65536 → length pdu ≤ 65000
+    → phase ≡ Open terms → terms.contexts.mms < 65536 → length pdu < 2 ^ 31
     → front ++ pdu ≡ transfer_text (user_text terms.contexts.mms pdu)
     → hearing phase (front ++ pdu) ≡ Ok (mms pdu, phase)
 sent-is-heard phase terms front pdu is low short sent =

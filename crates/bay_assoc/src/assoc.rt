@@ -1,6 +1,6 @@
 // An association as its user sees it.
-ghost use Rattle.std.specs.Prelude.{◌≡◌, ◌≤◌, ◌++◌, ◌↔◌, ℕ, List, Ok, length, IfOk, IfSome, IsErrOf, IsSome, IsTrue};
-ghost use Rattle.bay_mms.specs.Sizes.{IsPduSize, longest_pdu};
+ghost use Rattle.std.specs.Prelude.{◌≡◌, ◌<◌, ◌^◌, ◌++◌, ◌↔◌, Ok, length, IfOk, IfSome, IsErrOf, IsSome, IsTrue};
+ghost use Rattle.bay_mms.specs.Sizes.{IsPduSize};
 ghost use Rattle.bay_assoc.specs.Hearing.{mms, hearing};
 ghost use Rattle.bay_assoc.specs.Hears.{association_terms, Hears, StandsLast, IsOpenFor};
 ghost use Rattle.bay_assoc.specs.Session.{spdu_in};
@@ -95,21 +95,19 @@ impl Assoc {
         }
     }
 
-    /// Returns what precedes a PDU of MMS of `count` octets in its TSDU. The TSDU consists of these
-    /// octets, at most 21, and then the PDU. So a PDU within the agreed size makes a TSDU of at
-    /// most 65,021 octets. The association must be open.
-    pub fn front(&self, count: u32) -> ArrayVec<u8, 21>
-        requires open { IsSome (association_terms self.now) }
-        requires short { count ≤ longest_pdu }
-        ensures exact { (pdu : List ℕ) → length pdu ≡ count
-            → IfSome (association_terms self.now)
-            (λ terms. result.items ++ pdu ≡ transfer_text (user_text terms.contexts.mms pdu)) }
+    /// Returns what precedes a PDU of MMS in its TSDU. The TSDU consists of these octets, at most
+    /// 27, and then the PDU. The association must be open.
+    pub fn front(&self, pdu: &[u8]) -> ArrayVec<u8, 27>
+        requires { IsSome (association_terms self.now) }
+        ensures exact { IfSome (association_terms self.now)
+            (λ terms. result.items ++ pdu.now
+            ≡ transfer_text (user_text terms.contexts.mms pdu.now)) }
         // The TSDU is heard as this PDU.
-        ensures heard { (pdu : List ℕ) → length pdu ≡ count
-            → hearing self.now (result.items ++ pdu) ≡ Ok (mms pdu, self.now) }
+        ensures heard { length pdu.now < 2 ^ 31
+            → hearing self.now (result.items ++ pdu.now) ≡ Ok (mms pdu.now, self.now) }
     {
         match self.phase {
-            Phase::Open(terms) => front(terms.contexts.mms, count),
+            Phase::Open(terms) => front(terms.contexts.mms, pdu),
             Phase::Idle | Phase::Over | Phase::Failed => unreachable!(),
         }
     }

@@ -15,8 +15,8 @@ use std::marker::Model;
 /// How many octets are reserved for headers in front of the text.
 pub const HEADROOM: usize = 64;
 
-// How many octets a length needs behind the first.
-fn octets_needed(length: usize) -> usize
+/// Returns how many octets a length of 128 or more needs behind the first (X.690 8.1.3.5).
+pub fn octets_needed(length: usize) -> usize
     ensures needed { result ≡ spec.octets_needed length }
     ensures some { 1 ≤ result }
     ensures few { result ≤ 4 }

@@ -2,7 +2,7 @@
 ghost use Rattle.std.specs.Prelude.{◌≡◌, ◌<◌, ◌≤◌, ◌↔◌, [], IfOk, IfSome, IsSome, IsTrue, OnErr, length, take};
 ghost use Rattle.bay_transport.specs.Doings.{start};
 ghost use Rattle.bay_transport.specs.Feeding.{IsGoing};
-ghost use Rattle.bay_assoc.specs.Sizes.{IsPduSize, longest_pdu};
+ghost use Rattle.bay_assoc.specs.Sizes.{IsPduSize};
 ghost use Rattle.bay_assoc.specs.Hears.{association_terms};
 ghost use Rattle.bay_connection.specs.Talk.{talk_over, terms_of, left_by, sending};
 ghost use Rattle.bay_connection.specs.Feeding.{Feeds, indication_of, IsOpenFor, LendsOnly};
@@ -110,11 +110,9 @@ impl Connection {
 
     /// Returns the octets that send a PDU of MMS: a TSDU in the context of MMS, in data TPDUs of
     /// the agreed size. Copies nothing if one TPDU holds it and there is room in front of the PDU.
-    /// The association must be open, and the PDU must have at most 65,000 octets, as has any within
-    /// the agreed size.
+    /// The association must be open.
     pub fn send(&self, pdu: Outgoing) -> Result<Outgoing, AllocError>
-        requires open { IsSome (association_terms self.now.talk.phase) }
-        requires short { length pdu ≤ longest_pdu }
+        requires { IsSome (association_terms self.now.talk.phase) }
         ensures { IfOk result (λ octets. octets ≡ sending (terms_of self.now.talk) pdu) }
     {
         self.stack.send(pdu)

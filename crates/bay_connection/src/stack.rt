@@ -3,7 +3,6 @@
 ghost use Rattle.std.specs.Prelude.{◌≡◌, ◌<◌, ◌≤◌, [], Some, IfOk, IsSome, OnErr, OnOk, length, take};
 ghost use Rattle.bay_transport.specs.Doings.{Delivers, start};
 ghost use Rattle.bay_transport.specs.Feeding.{IsGoing, size_agreed, doing_for};
-ghost use Rattle.bay_assoc.specs.Sizes.{longest_pdu};
 ghost use Rattle.bay_assoc.specs.Hears.{association_terms};
 ghost use Rattle.bay_connection.specs.Talk.{answers, talk_over, terms_of, data_tpdus, sending, left_by};
 ghost use Rattle.bay_connection.specs.Feeding.{Feeds, indication_of, IsOpenFor, LendsOnly};
@@ -72,8 +71,7 @@ impl Stack {
     // The frames of a TSDU; where it is one frame and there is room, its header is written in
     // front.
     fn frames(&self, mut tsdu: Outgoing) -> Result<Outgoing, AllocError>
-        requires agreed { IsSome (size_agreed self.now.transport.stream) }
-        requires short { length tsdu ≤ 70_000 }
+        requires { IsSome (size_agreed self.now.transport.stream) }
         ensures { IfOk result (λ octets. octets
             ≡ data_tpdus (size_agreed self.now.transport.stream) tsdu) }
     {
@@ -90,10 +88,9 @@ impl Stack {
     pub(crate) fn send(&self, mut pdu: Outgoing) -> Result<Outgoing, AllocError>
         requires kept { IsKept self.now }
         requires open { IsSome (association_terms self.now.assoc) }
-        requires short { length pdu ≤ longest_pdu }
         ensures { IfOk result (λ octets. octets ≡ sending (terms_of (talk_of self.now)) pdu) }
     {
-        let front = self.assoc.front(pdu.as_slice().len() as u32);
+        let front = self.assoc.front(pdu.as_slice());
         if pdu.front(front.as_slice()) {
             return self.frames(pdu);
         }
@@ -103,8 +100,7 @@ impl Stack {
 
     // What is answered to a request that the association heard, in the TPDUs of the transport.
     fn wrapped(&self, tsdu: &[u8]) -> Result<Vec<u8>, AllocError>
-        requires agreed { IsSome (size_agreed self.now.transport.stream) }
-        requires short { length tsdu.now ≤ 1_000 }
+        requires { IsSome (size_agreed self.now.transport.stream) }
         ensures { IfOk result (λ octets. octets.items
             ≡ data_tpdus (size_agreed self.now.transport.stream) tsdu.now) }
     {

@@ -30,15 +30,6 @@ front-whole (x ∷ xs) = ap (λ ys. x ∷ ys) (front-whole xs)
 pub front-of : {A : Type 0} (xs ys : List A) → take (length xs) (xs ++ ys) ≡ xs
 front-of xs ys = front-kept xs xs ys (front-whole xs)
 
-pub first-short : (pdu : List ℕ) (rest : List (List ℕ))
-    → All {X = List ℕ} (λ p. length p ≤ 65000) (pdu ∷ rest) → length pdu ≤ 65000
-first-short pdu rest all = all 0 [] (omega arith)
-
-pub others-short : (pdu : List ℕ) (rest : List (List ℕ))
-    → All {X = List ℕ} (λ p. length p ≤ 65000) (pdu ∷ rest)
-    → All {X = List ℕ} (λ p. length p ≤ 65000) rest
-others-short pdu rest all k d lt = all (suc k) d (omega (arith, lt))
-
 -- a device, and what is made of it
 abbrev done : State → List Sent → List Command → List Decision → Done
 done s sent commands decisions =

@@ -2,10 +2,9 @@
 ghost use Rattle.std.specs.Prelude.{◌≡◌, ◌≤◌, ◌++◌, List, Option, [], All, IfOk, IfSome, IsSome, OnErr, OnOk, length, map, take};
 ghost use Rattle.bay_assoc.specs.Hears.{association_terms};
 ghost use Rattle.bay_connection.specs.Talk.{Talk, sending, terms_of};
-ghost use Rattle.bay_mms.specs.Sizes.{IsPduSize, longest_pdu};
+ghost use Rattle.bay_mms.specs.Sizes.{IsPduSize};
 ghost use Rattle.bay_services.specs.Answers.{pdu_answer};
 ghost use Rattle.bay_services.specs.Bay.{left_by};
-ghost use Rattle.bay_services.specs.Controls.{AreShort, IsShort};
 ghost use Rattle.bay_device.specs.Device.{bay_of};
 ghost use Rattle.bay_device.specs.Hearing.{answered_with, later_due, after_pdu, sending_if, sent_on};
 ghost use Rattle.bay_device.specs.Hearing as spec;
@@ -48,8 +47,7 @@ impl Made {
 
 /// Returns the octets that send a report, if there is one.
 fn framed(connection: &Connection, report: Option<Outgoing>) -> Result<Option<Outgoing>, AllocError>
-    requires open { IsSome (association_terms connection.now.talk.phase) }
-    requires short { IfSome report (λ pdu. length pdu ≤ longest_pdu) }
+    requires { IsSome (association_terms connection.now.talk.phase) }
     ensures { IfOk result (λ octets. octets ≡ sending_if (terms_of connection.now.talk) report) }
 {
     match report {
@@ -63,8 +61,7 @@ fn framed(connection: &Connection, report: Option<Outgoing>) -> Result<Option<Ou
 
 /// Returns what will report to an association the end of what it operates.
 fn due_of(connection: &Connection, association: u16, ending: Ending) -> Result<Due, AllocError>
-    requires open { IsSome (association_terms connection.now.talk.phase) }
-    requires short { AreShort ending }
+    requires { IsSome (association_terms connection.now.talk.phase) }
     ensures { IfOk result (λ due. due
         ≡ spec.due_of association (terms_of connection.now.talk) ending) }
 {
@@ -83,8 +80,7 @@ fn due_if(
     association: u16,
     ending: Option<Ending>,
 ) -> Result<Option<Due>, AllocError>
-    requires open { IsSome (association_terms connection.now.talk.phase) }
-    requires short { IsShort ending }
+    requires { IsSome (association_terms connection.now.talk.phase) }
     ensures { IfOk result (λ due. due
         ≡ spec.due_if association (terms_of connection.now.talk) ending) }
 {
@@ -113,8 +109,7 @@ fn send_all(
     pdus: Vec<Outgoing>,
     sent: &mut Vec<Sent>,
 ) -> Result<(), AllocError>
-    requires open { IsSome (association_terms connection.now.talk.phase) }
-    requires short { All (λ pdu. length pdu ≤ longest_pdu) pdus.items }
+    requires { IsSome (association_terms connection.now.talk.phase) }
     ensures ok { OnOk result
         (sent.new.items ≡ sent.old.items
         ++ map (λ pdu. sent_on association (sending (terms_of connection.now.talk) pdu)) pdus.items) }
@@ -139,9 +134,7 @@ fn reply(
     answer: Answer,
     made: &mut Made,
 ) -> Result<Option<Due>, AllocError>
-    requires open { IsSome (association_terms connection.now.talk.phase) }
-    requires short { All (λ pdu. length pdu ≤ longest_pdu) answer.sent.items }
-    requires ending { IsShort answer.ending }
+    requires { IsSome (association_terms connection.now.talk.phase) }
     ensures due { IfOk result
         (λ due. due ≡ spec.due_if association (terms_of connection.now.talk) answer.ending) }
     ensures sent { OnOk result

@@ -154,16 +154,15 @@ impl Transport {
     /// what another layer writes before the octets of its user need not be joined with them: each
     /// octet is copied once.
     ///
-    /// `front` has at most 125 octets, which fit in the smallest data TPDU, and the TSDU at most
-    /// 70,000.
+    /// `front` has at most 125 octets, which fit in the smallest data TPDU.
     pub fn wrap(&self, front: &[u8], rest: &[u8]) -> Result<Vec<u8>, AllocError>
         requires agreed { IsSome (size_agreed self.now.stream) }
         requires front { length front.now ≤ 125 }
-        requires short { length front.now + length rest.now ≤ 70_000 }
         ensures exact { IfOk result
             (λ octets. IfSome (size_agreed self.now.stream)
             (λ size. octets.items ≡ tpdus_of size (front.now ++ rest.now))) }
-        ensures carries { IfOk result
+        // So it is received as this TSDU, which is not too long.
+        ensures carries { length front.now + length rest.now ≤ 70_000 → IfOk result
             (λ octets. IfSome (size_agreed self.now.stream)
             (λ size. Carries size (front.now ++ rest.now) octets.items)) }
     {

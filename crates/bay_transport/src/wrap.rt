@@ -25,8 +25,7 @@ fn append(out: &mut Vec<u8>, is_last: bool, front: &[u8], rest: &[u8]) -> Result
 
 // Appends the data TPDUs of octets, each of at most this size.
 fn append_all(out: &mut Vec<u8>, size: usize, octets: &[u8]) -> Result<(), AllocError>
-    requires size { IsSize size }
-    requires short { length octets.now ≤ 70_000 }
+    requires { IsSize size }
     ensures { OnOk result (out.new.items ≡ out.old.items ++ tpdus_of size octets.now) }
 {
     let room = size - 3;
@@ -41,11 +40,10 @@ fn append_all(out: &mut Vec<u8>, size: usize, octets: &[u8]) -> Result<(), Alloc
 
 // How many octets the frames of so many octets of data take, where a TPDU has room for so many.
 fn frames_length(room: usize, count: usize) -> usize
-    requires some { 0 < room }
-    requires short { count ≤ 70_000 }
+    requires { 0 < room }
 {
     let full = (count.max(1) - 1) / room;
-    count + (full + 1) * BEFORE_DATA
+    count.saturating_add((full + 1).saturating_mul(BEFORE_DATA))
 }
 
 /// Returns the header of a TSDU of `count` octets in a single frame; `None` if it takes several
@@ -73,9 +71,9 @@ pub(crate) fn wrap(
 ) -> Result<Vec<u8>, AllocError>
     requires size { IsSize size }
     requires front { length front.now ≤ 125 }
-    requires short { length front.now + length rest.now ≤ 70_000 }
     ensures exact { IfOk result (λ octets. octets.items ≡ tpdus_of size (front.now ++ rest.now)) }
-    ensures carries { IfOk result (λ octets. Carries size (front.now ++ rest.now) octets.items) }
+    ensures carries { length front.now + length rest.now ≤ 70_000
+        → IfOk result (λ octets. Carries size (front.now ++ rest.now) octets.items) }
 {
     let room = size - 3;
     let mut out = Vec::with_capacity(alloc, frames_length(room, front.len() + rest.len()))?;

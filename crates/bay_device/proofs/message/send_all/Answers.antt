@@ -4,21 +4,15 @@ use Rattle.std.specs.Vec.Iter.{into_iter_items}
 use Rattle.bay_connection.specs.Talk.{Terms, sending, terms_of}
 use Rattle.bay_device.specs.Hearing.{sent_on}
 use Rattle.bay_device.specs.declared.event.Sent.{Sent}
-use Rattle.bay_device.proofs.MessageLemmas.{first-short, front-kept, front-whole, others-short}
+use Rattle.bay_device.proofs.MessageLemmas.{front-kept, front-whole}
 use Rattle.bay_device.proofs.message.send_all.Goals as goal
 
 pub loop-pdu-init : goal.loop-pdu-init
 loop-pdu-init c = record {
   goes = refl;
   kept = front-whole c.args.sent.now.items;
-  short = rw c.into_iter-pdu-iterator.ensures.into_iter_gives.0 c.requires.short;
   counted = search rules;
 }
-
-pub send-requires-clause-short : goal.send-requires-clause-short
-send-requires-clause-short c =
-    first-short c.in-Some.pdu (into_iter_items c.next.new.self)
-    (rw c.in-Some.ensures.steps.0 at c.loop-pdu.invariant.short)
 
 pub loop-pdu-preserved : goal.loop-pdu-preserved
 loop-pdu-preserved c =
@@ -36,7 +30,6 @@ loop-pdu-preserved c =
       goes = at.invariant.goes ∙ ap (λ ps. at.sent.items ++ map frame ps) steps
           ∙ sym (append_assoc at.sent.items (frame pdu ∷ []) (map frame rest));
       kept = front-kept c.args.sent.now.items at.sent.items (frame pdu ∷ []) at.invariant.kept;
-      short = others-short pdu rest (rw steps at at.invariant.short);
       counted = let was = at.invariant.counted in
           let gone = c.in-Some.ensures.steps.1 in
           let short = ap length steps in

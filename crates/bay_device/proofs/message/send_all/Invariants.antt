@@ -12,6 +12,5 @@ invariant-loop-pdu l = record {
       ≡ l.sent.items ++ map (λ pdu. sent_on l.association
       (sending (terms_of l.connection.talk) pdu)) (into_iter_items l.pdu-iterator);
   kept : take (length l.initial.sent.items) l.sent.items ≡ l.initial.sent.items;
-  short : All {X = List ℕ} (λ pdu. length pdu ≤ 65000) (into_iter_items l.pdu-iterator);
   counted : into_iter_len l.pdu-iterator ≡ length (into_iter_items l.pdu-iterator);
 }

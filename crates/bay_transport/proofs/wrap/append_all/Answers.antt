@@ -9,7 +9,7 @@ loop-at-preserved c = record {
   text =
       wrapped-step c.args.size c.loop-at.at c.args.octets.now c.args.out.now.items
       c.loop-at.out.items c.append.new.out.items (tpdus_of c.args.size c.args.octets.now)
-      (omega (arith, c.requires.size.some)) c.loop-at.invariant.within c.loop-at-test.true
+      (omega (arith, c.requires.some)) c.loop-at.invariant.within c.loop-at-test.true
       c.in_ok-append.ensures c.loop-at.invariant.text;
 }
 
@@ -17,5 +17,5 @@ pub returns : goal.returns
 returns c =
     wrapped-end c.args.size c.loop-at.at c.args.octets.now c.args.out.now.items c.loop-at.out.items
     c.append-2.new.out.items (tpdus_of c.args.size c.args.octets.now)
-    (omega (arith, c.requires.size.some)) c.loop-at.invariant.within c.loop-at-test.false
+    (omega (arith, c.requires.some)) c.loop-at.invariant.within c.loop-at-test.false
     c.in_ok-append-2.ensures c.loop-at.invariant.text

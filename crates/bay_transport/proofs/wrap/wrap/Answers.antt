@@ -29,14 +29,14 @@ pub returns-clause-exact : goal.returns-clause-exact
 returns-clause-exact c = several c
 
 pub returns-then-rest-first-clause-carries : goal.returns-then-rest-first-clause-carries
-returns-then-rest-first-clause-carries c =
+returns-then-rest-first-clause-carries c short =
     carries c.args.size (c.args.front.now ++ c.args.rest.now) c.append.new.out.items
     (omega (arith, c.requires.size.some))
-    (omega (arith, length-append c.args.front.now c.args.rest.now, c.requires.short)) (alone c)
+    (omega (arith, length-append c.args.front.now c.args.rest.now, short)) (alone c)
 
 pub returns-clause-carries : goal.returns-clause-carries
-returns-clause-carries c =
+returns-clause-carries c short =
     carries c.args.size (c.args.front.now ++ c.args.rest.now) c.append_all.new.out.items
     (omega (arith, c.requires.size.some))
-    (omega (arith, length-append c.args.front.now c.args.rest.now, c.requires.short))
+    (omega (arith, length-append c.args.front.now c.args.rest.now, short))
     (several c)
