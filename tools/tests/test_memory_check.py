@@ -52,7 +52,7 @@ WRONG = (
      'match write_page(alloc, id, &self.tree, &self.names, after, client.size) {',
      'if client.size < 1_024 && after.is_some() { return Err(EncodeFault::OutOfMemory); }'
      ' match write_page(alloc, id, &self.tree, &self.names, after, client.size) {'),
-    ('a trace and a process', 'bay_serving/src/serve.rt',
+    ('a trace and a process', 'bay_serving_files/src/serve.rt',
      'match Server::new(alloc, device) {',
      'if process.is_some() && !trace.is_empty() {'
      ' return write_text(writer, NO_MEMORY, FAULT); } match Server::new(alloc, device) {'),

@@ -36,6 +36,7 @@ CASES = {
     'bay_serve_laws': ('bay_tests serve', 'bay_tests memory'),
     'bay_services': (REPORTS,),
     'bay_serving': ('bayctl_cases run', 'bay_tests serve'),
+    'bay_serving_files': ('bayctl_cases run', 'bay_tests serve'),
     'bay_serving_laws': ('bay_tests serve',),
     'bay_trace': (REPORTS,),
     'bay_transport': ('layer_cases transport', 'bayctl_cases hostile'),

@@ -30,7 +30,7 @@ use Rattle.bay_report.specs.LogLines.{LogsSome, PrintsLogs, Refuses, UnreadRepor
 use Rattle.bay_report.specs.Report.{IsLast, Prints, report_text}
 use Rattle.bay_replay.specs.Replay.{IsReplay}
 use Rattle.bay_auditing.specs.Auditing.{Audits}
-use Rattle.bay_serving.specs.Serve.{ServesFiles}
+use Rattle.bay_serving_files.specs.Serve.{ServesFiles}
 use Rattle.bay_serving.specs.Host.{HostCall}
 use Rattle.bay_serve.specs.Calls.{Call}
 

@@ -14,7 +14,7 @@ pub use Rattle.bay_report.specs.Load
 pub use Rattle.bay_report.specs.Report
 pub use Rattle.bay_serve.specs.Calls
 pub use Rattle.bay_serving.specs.Host
-pub use Rattle.bay_serving.specs.Serve
+pub use Rattle.bay_serving_files.specs.Serve
 pub use Rattle.bay_words.specs.Jobs
 -- Its own definitions.
 pub mod Check

@@ -21,7 +21,7 @@ use bay_report::log::{log_unwritten, tell_refusal, tell_unread};
 use bay_report::output::{CLEAN, FAULT, NO_MEMORY, write_report, write_text};
 use bay_serve::link::Link;
 use bay_serving::host::Host;
-use bay_serving::serve::{Named, Numbers, serve};
+use bay_serving_files::serve::{Named, Numbers, serve};
 use bay_words::task::{Asked, Program, Task};
 use bay_words::words::{WordsFault, task_of};
 use std::alloc::{AllocError, Global};

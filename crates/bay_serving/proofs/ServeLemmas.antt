@@ -3,17 +3,12 @@ use Rattle.bay_io.specs.Calls.{WriteCall}
 use Rattle.std.proofs.Common.{◌≡◌, ◌⊎◌, ℕ, suc, ◌+◌, ◌==◌, Bool, true, false, IsErr, MatchBool, List, ◌∷◌, length, drop, slice_get, Option, None, Some, Result, Ok, Err, inl, inr, refl, sym, ap, subst, ◌∙◌, arith, []}
 use Rattle.std.proofs.lemmas.Bool.Decides.{nat_tests}
 use Rattle.bay_device.specs.Device.{State}
-use Rattle.bay_device.specs.Report.{IsReport}
-use Rattle.bay_device.specs.declared.report.Report.{Report}
 use Rattle.bay_io.specs.Sent.{Logs}
 use Rattle.bay_io.specs.Watched.{Writing}
 use Rattle.bay_io.specs.declared.outbox.WriteFault.{WriteFault}
 use Rattle.bay_report.proofs.ReportLemmas.{nil-from-length}
 use Rattle.bay_serving.specs.Host.{HostCall, Pauses, Tells}
-use Rattle.bay_report.specs.Report.{IsLast, Prints, report_text}
-use Rattle.bay_serving.specs.Serve.{ServesLoaded}
-use Rattle.bay_serving.specs.declared.serve.Loaded.{Loaded}
-use Rattle.bay_serving.specs.declared.serve.Numbers.{Numbers}
+use Rattle.bay_report.specs.Report.{IsLast, Prints}
 use Rattle.bay_report.specs.TextLines.{CutsLine, lines_of}
 use Rattle.bay_serving.specs.ServeReport.{AfterTurn, Hearing, Hears, MayPause, Serving, ServesTurns, TellsNews, TellsTurn, TurnFails, TurnGoes, chosen, from_port, is_gone, text_of_next, told_lines, with_process}
 use Rattle.bay_port.specs.declared.news.News.{News}
@@ -451,24 +446,3 @@ module _ {L H W : Type 0} (step : L → Call → L → Type 0) (acts : H → Hos
       → ServesTurns step acts contents asks turns lines before old here.host new (Ok 0)
   Reached-end turns lines before old left rest here mid new reached e logged =
       reached.goes here.host new (Ok 0) (rw e (refl, logged, refl))
-
--- ---- the line of a load could not be written
-
-pub line-fails : {L H W : Type 0} (step : L → Call → L → Type 0) (acts : H → HostCall L → H → Type 0)
-    (contents : W → Option (List ℕ)) (asks : W → WriteCall → W → Type 0) (numbers : Numbers)
-    (loaded : Loaded) (report : Report) → IsReport loaded.device.machine.image report → (host : H)
-    (old middle : Writing W) (fault : WriteFault)
-    → Prints contents asks (IsLast (report_text report) 0) old middle (Err fault)
-    → (answer : Result ℕ WriteFault) → IsErr answer
-    → ServesLoaded step acts contents asks numbers loaded host host old middle answer
-line-fails step acts contents asks numbers loaded report is host old middle fault printed (Ok n) e =
-    absurd cc
-line-fails step acts contents asks numbers loaded report is host old middle fault printed (Err f) e =
-    record {
-      report = report;
-      is = is;
-      middle = middle;
-      told = Err f;
-      printed = printed;
-      goes_on = (refl, refl, refl);
-    }

@@ -1,10 +1,8 @@
--- Serving files over a port. What a call of the system did is a relation of whoever implements it.
+-- Serving over ports, turn by turn. What a call of the system did is a relation of whoever implements it.
 --
--- `Serve` is the main file: files are read and loaded, the load's line is printed, the port is
--- bound, and turns are served; at the first of these that fails it says what is printed, and that
--- nothing more was done. `ServeReport`: so many turns, each with its line. In each the clock was
--- asked, the turn is one of bay_serve's, and what it tells was printed and flushed; up to a turn
--- that is not done, or whose lines could not be written.
+-- `ServeReport` is the main file: so many turns, each with its line. In each the clock was asked,
+-- the turn is one of bay_serve's, and what it tells was printed and flushed; up to a turn that is
+-- not done, or whose lines could not be written.
 --
 -- `Host`: what serving asks of the system: ports and links, the clock's time, a pause. `Choosing`:
 -- the line of a turn. `TurnLines`: what is printed for a turn, and for one that is not done.
@@ -12,14 +10,12 @@
 -- `Logging`: lines that are logged one after the other. `Serving`: what one try of a turn comes to.
 
 -- What public clauses cite of the crates below.
-pub use Rattle.bay_files.specs.Files
 pub use Rattle.bay_io.specs.Sent
 pub use Rattle.bay_lines.specs.Shown
 pub use Rattle.bay_port.specs.Attending
 pub use Rattle.bay_port.specs.Ports
 pub use Rattle.bay_port.specs.Telling
 pub use Rattle.bay_report.specs.Lines
-pub use Rattle.bay_report.specs.Load
 pub use Rattle.bay_report.specs.Report
 pub use Rattle.bay_report.specs.TextLines
 pub use Rattle.bay_serve.specs.Calls
@@ -30,7 +26,6 @@ pub mod Choosing
 pub mod Host
 pub mod LogLines
 pub mod Logging
-pub mod Serve
 pub mod ServeReport
 pub mod Serving
 pub mod TurnLines

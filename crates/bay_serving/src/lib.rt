@@ -3,16 +3,14 @@
 // `host` has ports and a clock, `busy` a link that notes whether its calls left something to do at
 // once, `turns` the lines for a turn, `trace_lines` those of a trace, and `process` the process
 // that is heard; `log_lines` what is logged, and `control_lines` that of controls; `serving` goes
-// turn by turn, and `serve` is all of it: files are read and loaded, ports are bound, and turns are
-// served.
+// turn by turn.
 #![tactic(auto)]
 
 mod busy;
 mod control_lines;
 pub mod host;
-mod log_lines;
-mod process;
-pub mod serve;
-mod serving;
+pub mod log_lines;
+pub mod process;
+pub mod serving;
 mod trace_lines;
 mod turns;

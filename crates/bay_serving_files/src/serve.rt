@@ -3,14 +3,12 @@ ghost use Rattle.std.specs.Prelude.{◌≡◌, None, Ok, Err, replicate, IfErr, 
 ghost use Rattle.bay_device.specs.Entries.{IsIdle};
 ghost use Rattle.bay_services.specs.Released.{AreTimed};
 ghost use Rattle.bay_report.specs.LogLines.{PrintsLogs};
-ghost use Rattle.bay_serving.specs.Serve.{BindsPorts, BindsProcess, IsBound, LoadsFiles, LogsPorts, ServesBound, ServesFiles, ServesLoaded, UnservedReport, names_of};
-ghost use Rattle.bay_serving.specs.declared.serve.Unserved.TheVariants as unserved;
+ghost use Rattle.bay_serving_files.specs.Serve.{BindsPorts, BindsProcess, IsBound, LoadsFiles, LogsPorts, ServesBound, ServesFiles, ServesLoaded, UnservedReport, made_of, names_of};
+ghost use Rattle.bay_serving_files.specs.declared.serve.Unserved.TheVariants as unserved;
+ghost use Rattle.bay_report_laws.specs.ReadBack.{HaveIds};
 ghost use Rattle.bay_serve.specs.Calls.{Called};
+ghost use Rattle.bay_serving_laws.specs.Service.{IsBegun};
 
-use crate::host::{BindFault, Host};
-use crate::log_lines::{log_ports, log_unbound};
-use crate::process::Process;
-use crate::serving::serve_turns;
 use bay_device::device::Device;
 use bay_device::fault::LoadFault;
 use bay_files::files::{FileSystem, Unread, read_files, read_named};
@@ -23,6 +21,10 @@ use bay_report::log::{tell_memory, tell_refusal, tell_unread};
 use bay_report::output::{FAULT, write_report, write_text};
 use bay_serve::link::Link;
 use bay_serve::server::Server;
+use bay_serving::host::{BindFault, Host};
+use bay_serving::log_lines::{log_ports, log_unbound};
+use bay_serving::process::Process;
+use bay_serving::serving::serve_turns;
 use std::alloc::{AllocError, AllocFailed, Global};
 
 /// The port for clients, the number of turns, the port for the process, if there is one, and
@@ -137,6 +139,8 @@ fn load_files<'a, F: FileSystem>(
         (λ why. LoadsFiles F.reads files.now (names_of named.entry) (Err why)) }
     ensures idle { IfOk result (λ loaded. IsIdle loaded.device) }
     ensures timed { IfOk result (λ loaded. AreTimed loaded.device.controls.controls) }
+    ensures begun { IfOk result (λ loaded. IsBegun (made_of loaded.device)) }
+    ensures named { IfOk result (λ loaded. HaveIds loaded.device.switches) }
 {
     let both = read_files(alloc, files, named.bay, named.program)?;
     let trace = read_named(alloc, files, named.trace)?;
@@ -158,7 +162,8 @@ fn bound_to<'a, L: Drop>(
 ) -> Result<Bound<L>, Unserved<'a>>
     requires closed { device.connections ≡ replicate 8 None }
     requires timed { AreTimed device.controls.controls }
-    ensures { IsBound device link process result }
+    ensures bound { IsBound device link process result }
+    ensures server { IfOk result (λ bound. bound.server ≡ made_of device) }
 {
     match Server::new(alloc, device) {
         Ok(server) => Ok(Bound {
@@ -180,8 +185,9 @@ fn bind_process<'a, L: Link + Drop, H: Host<L>>(
 ) -> Result<Bound<L>, Unserved<'a>>
     requires closed { device.connections ≡ replicate 8 None }
     requires timed { AreTimed device.controls.controls }
-    ensures { BindsProcess H.does numbers.tells_releases device link numbers.process host.old
+    ensures binds { BindsProcess H.does numbers.tells_releases device link numbers.process host.old
         host.new result }
+    ensures server { IfOk result (λ bound. bound.server ≡ made_of device) }
 {
     let Some(port) = numbers.process else {
         return bound_to(alloc, device, link, None);
@@ -204,7 +210,8 @@ fn bind_ports<'a, L: Link + Drop, H: Host<L>>(
 ) -> Result<Bound<L>, Unserved<'a>>
     requires closed { device.connections ≡ replicate 8 None }
     requires timed { AreTimed device.controls.controls }
-    ensures { BindsPorts H.does numbers device host.old host.new result }
+    ensures binds { BindsPorts H.does numbers device host.old host.new result }
+    ensures server { IfOk result (λ bound. bound.server ≡ made_of device) }
 {
     match host.bind(numbers.port) {
         Ok(link) => bind_process(alloc, device, link, host, numbers),
@@ -231,6 +238,8 @@ fn serve_bound<L: Link + Drop, H: Host<L>, W: Sink>(
     numbers: Numbers,
     writer: &mut WatchedWriter<W>,
 ) -> Result<u8, WriteFault>
+    requires begun { IsBegun bound.server }
+    requires named { HaveIds bound.server.device.switches }
     ensures { ServesBound (Called L.does L.failures) H.does W.contents W.does numbers bound
         trace.now host.old host.new writer.old writer.new result }
 {
@@ -253,6 +262,8 @@ fn serve_loaded<L: Link + Drop, H: Host<L>, W: Sink>(
 ) -> Result<u8, WriteFault>
     requires closed { loaded.device.connections ≡ replicate 8 None }
     requires timed { AreTimed loaded.device.controls.controls }
+    requires begun { IsBegun (made_of loaded.device) }
+    requires named { HaveIds loaded.device.switches }
     ensures { ServesLoaded (Called L.does L.failures) H.does W.contents W.does numbers loaded
         host.old host.new writer.old writer.new result }
 {
@@ -267,6 +278,11 @@ fn serve_loaded<L: Link + Drop, H: Host<L>, W: Sink>(
 /// Serves files by their names. Reads the bay, then the program or the image, then the trace; loads
 /// them and writes the line of the load; binds the port for clients, and then that of the process,
 /// if there is one; and serves the given number of turns. Logs the ports, or why no turn is served.
+///
+/// All turns are one run of the device, from load on. Behind each command that a turn tells, and so
+/// behind each line that is printed and reads as one, stand the octets of a client that ask for it,
+/// the success that is sent to this client, and a scan of an earlier turn that left the switch's
+/// interlocking value TRUE, since which the process has not changed.
 pub fn serve<F: FileSystem, L: Link + Drop, H: Host<L>, W: Sink>(
     alloc: Global,
     named: Named<'_>,

@@ -1,7 +1,7 @@
 use Rattle.std.proofs.Common.{Some}
 use Rattle.bay_report.proofs.ReportLemmas.{PrintsLogs-cut, PrintsLogs-told}
 use Rattle.bay_serving.specs.LogLines.{unbound_log}
-use Rattle.bay_serving.proofs.serve.tell_unbound.Goals as goal
+use Rattle.bay_serving_files.proofs.serve.tell_unbound.Goals as goal
 
 pub returns-in_err-status : goal.returns-in_err-status
 returns-in_err-status g c =

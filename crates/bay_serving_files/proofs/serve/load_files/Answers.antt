@@ -1,7 +1,10 @@
 use Rattle.std.proofs.Common.{inr}
 use Rattle.std.proofs.lemmas.Result.{err_from_is_err_and}
 use Rattle.bay_files.specs.Files.{FilesData}
-use Rattle.bay_serving.proofs.serve.load_files.Goals as goal
+use Rattle.bay_serving_files.proofs.FileLemmas.{text-runs}
+use Rattle.bay_serving_files.proofs.serve.load_files.Goals as goal
+use Rattle.bay_serving_laws.proofs.BeginLemmas.{begun-of}
+use Rattle.bay_serving_laws.proofs.TextLemmas.{loaded-named}
 
 pub returns-in_err-trace-clause-err : goal.returns-in_err-trace-clause-err
 returns-in_err-trace-clause-err g c =
@@ -30,5 +33,16 @@ returns-clause-ok g c =
     let both : FilesData =
     record { bay = c.in_ok-both.both.bay.items; program = c.in_ok-both.both.program.items } in
     let loads = rw (c.as_slice.ensures.value, c.as_slice-2.ensures.value) at
-    c.in_ok-device.ensures.ok in
-    (both, c.in_ok-both.ensures.ok, c.in_ok-trace.ensures.ok, loads)
+    c.in_ok-device.ensures.ok in (
+      both,
+      c.in_ok-both.ensures.ok,
+      c.in_ok-trace.ensures.ok,
+      loads,
+      text-runs c.args.named.form both c.in_ok-device.device loads,
+    )
+
+pub returns-clause-begun : goal.returns-clause-begun
+returns-clause-begun g c = begun-of _ _ _ _ c.in_ok-device.ensures.ok
+
+pub returns-clause-named : goal.returns-clause-named
+returns-clause-named g c = loaded-named _ _ _ _ c.in_ok-device.ensures.ok

@@ -1,7 +1,7 @@
 use Rattle.std.proofs.Common.{Ok, Err, refl}
 use Rattle.bay_serve.specs.Calls.{Called}
-use Rattle.bay_serving.proofs.ServeLemmas.{line-fails}
-use Rattle.bay_serving.proofs.serve.serve_loaded.Goals as goal
+use Rattle.bay_serving_files.proofs.FileLemmas.{line-fails}
+use Rattle.bay_serving_files.proofs.serve.serve_loaded.Goals as goal
 
 pub returns-in_err-write_report : goal.returns-in_err-write_report
 returns-in_err-write_report g c =
@@ -20,7 +20,7 @@ returns-in-Ok g c = record {
   goes_on = record {
     bound = Ok c.in-Ok.bound;
     host = c.bind_ports.new.host;
-    binds = c.in-Ok.ensures;
+    binds = c.in-Ok.ensures.binds;
     goes_on = rw c.as_slice.ensures.value at c.serve_bound.ensures;
   };
 }

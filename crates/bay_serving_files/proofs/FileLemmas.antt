@@ -1,0 +1,72 @@
+-- Lemmas on serving files.
+use Rattle.std.proofs.Common.{◌≡◌, ℕ, IsErr, List, Result, Ok, Err, refl}
+use Rattle.bay_device.specs.Device.{State}
+use Rattle.bay_device.specs.Report.{IsReport}
+use Rattle.bay_device.specs.declared.report.Report.{Report}
+use Rattle.bay_files.specs.Files.{FilesData}
+use Rattle.bay_io.specs.Calls.{WriteCall}
+use Rattle.bay_io.specs.Watched.{Writing}
+use Rattle.bay_io.specs.declared.outbox.WriteFault.{WriteFault}
+use Rattle.bay_replay.proofs.LoadedLemmas.{loaded-from, loaded-runs}
+use Rattle.bay_report.specs.Load.{LoadsTo}
+use Rattle.bay_report.specs.Report.{IsLast, Prints, report_text}
+use Rattle.bay_report.specs.declared.load.Form.{Form}
+use Rattle.bay_report.specs.declared.load.Form.TheVariants.{Logic, Image}
+use Rattle.bay_report_laws.specs.ReadBack.{HaveIds}
+use Rattle.bay_serve.specs.Calls.{Call}
+use Rattle.bay_serving.specs.Host.{HostCall}
+use Rattle.bay_serving.specs.ServeReport.{Serving, ServesTurns}
+use Rattle.bay_serving_files.specs.Serve.{RunsText, ServesLoaded, ServesRun}
+use Rattle.bay_serving_files.specs.declared.serve.Loaded.{Loaded}
+use Rattle.bay_serving_files.specs.declared.serve.Numbers.{Numbers}
+use Rattle.bay_serving_laws.specs.Service.{DoneTurn, IsBegun, turns_in}
+use Rattle.bay_serving_laws.proofs.BeginLemmas.{ordered-from}
+use Rattle.bay_serving_laws.proofs.TextLemmas.{printed-from}
+use Rattle.bay_serving_laws.proofs.TurnLemmas.{service-of, turned}
+
+-- a device that was loaded from a text runs it
+pub text-runs : (form : Form) (both : FilesData) (s : State)
+    → LoadsTo both.bay form both.program (Ok s) → RunsText form both s
+text-runs Logic both s loads =
+    let loaded = loaded-from both.bay both.program s loads in
+    (loaded, loaded-runs both.bay both.program s loaded)
+text-runs Image both s loads = tt
+
+module _ {L H W : Type 0} (step : L → Call → L → Type 0) (acts : H → HostCall L → H → Type 0)
+    (contents : W → Option (List ℕ)) (asks : W → WriteCall → W → Type 0) where
+  -- turns of a server as it was made are one run
+  pub one-run : (turns : ℕ) (lines : List (ℕ × List ℕ)) (before : Serving L H) (old : Writing W)
+      (host : H) (new : Writing W) (answer : Result ℕ WriteFault)
+      → ServesTurns step acts contents asks turns lines before old host new answer
+      → IsBegun before.held → HaveIds before.held.device.switches
+      → ServesRun step acts contents asks turns lines before old new host answer
+  one-run turns lines before old host new answer serves begun ids =
+      let done : List DoneTurn =
+      turns_in step acts contents asks turns lines before old host new answer serves in
+      let are = turned step acts contents asks turns lines before old host new answer serves in
+      record {
+        serves = serves;
+        done = done;
+        are = refl;
+        run =
+            service-of step acts contents asks turns lines before old host new answer serves
+            begun.loaded;
+        ordered = ordered-from before.held done begun are;
+        printed = printed-from before.held done begun ids are;
+      }
+
+  -- the line of a load could not be written
+  pub line-fails : (numbers : Numbers) (loaded : Loaded) (report : Report)
+      → IsReport loaded.device.machine.image report → (host : H) (old middle : Writing W)
+      (fault : WriteFault) → Prints contents asks (IsLast (report_text report) 0) old middle (Err fault)
+      → (answer : Result ℕ WriteFault) → IsErr answer
+      → ServesLoaded step acts contents asks numbers loaded host host old middle answer
+  line-fails numbers loaded report is host old middle fault printed (Ok n) e = absurd cc
+  line-fails numbers loaded report is host old middle fault printed (Err f) e = record {
+    report = report;
+    is = is;
+    middle = middle;
+    told = Err f;
+    printed = printed;
+    goes_on = (refl, refl, refl);
+  }
