@@ -69,30 +69,58 @@ class Crates(unittest.TestCase):
 class Changes(unittest.TestCase):
     def test_each_file_of_a_list_is_there(self):
         """A file is of the crate that its step named last, or below the folder named with it."""
-        _, *lists = section_of('CONTRIBUTING.md', 'How a thing is added').split('\n### ')
-        self.assertGreater(sum(self.checked(it) for it in lists), 90)
+        found = [it for text in lists() for it in named_in(text)]
+        self.assertGreater(len(found), 150)
+        for it in found:
+            self.assertTrue(is_there(it), it)
 
-    def checked(self, text: str) -> int:
-        """How many files a list names, all of which are there."""
-        crate, folder, count = '', '', 0
-        for quoted, plain in re.findall(r'`([^`\n]+)`|\b(\w+)\b', text):
-            if plain in crates() and plain != 'cases':
-                crate, folder = plain, ''
-            elif quoted.startswith('tools/'):
-                path = quoted.split(' ')[0]
-                self.assertTrue((TOP / path).exists(), quoted)
-                crate, folder = '', path.rpartition('/')[0] if '.' in path else path
-            elif FILE.match(quoted) and (crate or folder):
-                self.assertTrue(self.is_there(crate, folder, quoted), f'{crate}: {quoted}')
-                count += 1
-        return count
+    def test_the_table_counts_the_files_of_each_list(self):
+        told = re.findall(r'^\| (An? [^|]+?) \|([\d |]+)\|$', text_of('CONTRIBUTING.md'), re.M)
+        self.assertEqual(
+            {title: [int(it) for it in cells.split('|')] for title, cells in told},
+            {text.partition('\n')[0]: counts(named_in(text)) for text in lists()[:-2]})
 
-    def is_there(self, crate: str, folder: str, name: str) -> bool:
-        """Whether a file is there, also where only its last name is given."""
-        if folder:
-            return (TOP / folder / name).exists()
-        return (CRATES / crate / name).exists() or any((CRATES / crate / 'src').glob(name)) or any(
-            (CRATES / crate / 'specs').glob(name))
+
+def lists() -> list[str]:
+    """The lists of what is changed where something is added, each behind its title."""
+    return section_of('CONTRIBUTING.md', 'How a thing is added').split('\n### ')[1:]
+
+
+def named_in(text: str) -> set[str]:
+    """The files that a list names, from the top of the repository."""
+    crate, folder, found = '', '', set()
+    for quoted, plain in re.findall(r'`([^`\n]+)`|\b(\w+)\b', text):
+        if plain in crates() and plain != 'cases':
+            crate, folder = plain, ''
+        elif (TOP / 'docs' / f'{plain}.md').exists():
+            found.add(f'docs/{plain}.md')
+        elif quoted.startswith('tools/'):
+            path = quoted.split(' ')[0]
+            found.add(path)
+            crate, folder = '', path.rpartition('/')[0] if '.' in path else path
+        elif FILE.match(quoted) and (crate or folder):
+            found.add(f'{folder}/{quoted}' if folder else path_of(crate, quoted))
+        elif quoted == 'stdin':
+            found.add(f'crates/{crate}/stdin')
+    return found
+
+
+def path_of(crate: str, name: str) -> str:
+    """A file of a crate, of which a list may give the last name alone."""
+    places = ('src', 'specs')
+    folder = next((f'{it}/' for it in places if (CRATES / crate / it / name).exists()), '')
+    return f'crates/{crate}/{folder}{name}'
+
+
+def is_there(path: str) -> bool:
+    return (TOP / path).exists()
+
+
+def counts(paths: set[str]) -> list[int]:
+    """How many are definitions, code, proofs, cases, files of tools and pages, and all of them."""
+    kinds = ('/specs/', '/src/', '/proofs/', '/stdin', 'tools/', 'docs/')
+    found = [sum(kind in f'{it}' for it in paths) for kind in kinds]
+    return [*found, len(paths)]
 
 
 if __name__ == '__main__':
