@@ -32,7 +32,7 @@ PLACES = (
           "the reader of command lines says so"),
     Place("bay_report/src/output.rt",
           'pub const NO_MEMORY: &[u8] = b"fault memory\\n";', "the name of the line"),
-    Place("bay_report/src/log.rt", "{ write_text(writer, NO_MEMORY, FAULT) }",
+    Place("bay_report/src/log.rt", "{ write_text(writer, NO_MEMORY, Status::Fault) }",
           "the body of `tell_memory`, whose calls are held as the line is"),
     Place("bay_serving/src/turns.rt",
           "for association in memory"

@@ -55,7 +55,7 @@ WRONG = (
     ('a trace and a process', 'bay_serving_files/src/serve.rt',
      'match Server::new(alloc, device) {',
      'if process.is_some() && !trace.is_empty() {'
-     ' return write_text(writer, NO_MEMORY, FAULT); } match Server::new(alloc, device) {'),
+     ' return write_text(writer, NO_MEMORY, Status::Fault); } match Server::new(alloc, device) {'),
     ('a long line', 'bay_trace/src/octets.rt',
      'self.room = vec![in self.alloc; 0u8; count]?;',
      f'if count > 60_000 {{ {LACK} }} self.room = vec![in self.alloc; 0u8; count]?;'),

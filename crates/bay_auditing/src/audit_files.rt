@@ -2,7 +2,7 @@
 ghost use Rattle.std.specs.Prelude.{◌≡◌, ◌++◌, None, Ok, true, is_ok, IfOk};
 ghost use Rattle.bay_report.specs.Load.{file_of};
 ghost use Rattle.bay_report.specs.LogLines.{IsTold, LogsSome, PrintsLogs};
-ghost use Rattle.bay_report.specs.Report.{report_text};
+ghost use Rattle.bay_report.specs.Report.{code_of, report_text};
 ghost use Rattle.bay_auditing.specs.Auditing.{Answers, AuditReport, Audits, AuditsRead, DeviceReport, SaysFor, SaysOf, SaysRefused, log_in};
 
 use crate::kept::names_of;
@@ -19,7 +19,7 @@ use bay_io::outbox::WriteFault;
 use bay_io::writer::WatchedWriter;
 use bay_report::load::{Form, load_program};
 use bay_report::log::{tell_refusal, tell_unread};
-use bay_report::output::{CLEAN, FAULT, NO_MEMORY, REFUSED, finish};
+use bay_report::output::{NO_MEMORY, Status, finish};
 use bay_report::report::put_report;
 use bay_rules::fault::RuleFault;
 use bay_rules::read::read_rules;
@@ -30,14 +30,11 @@ use std::alloc::{AllocError, Global};
 /// The most passes over the code for one rule.
 const PASSES: u32 = 10_000;
 
-/// The exit status where a rule is broken, open, or takes too many passes.
-const UNPROVED: u8 = 4;
-
 /// The lines behind a load's line, the exit status, and why rules are refused, if they are.
 #[derive(Drop)]
 struct Said {
     text: Vec<u8>,
-    status: u8,
+    status: Status,
     refused: Option<RuleFault>,
 }
 
@@ -51,7 +48,7 @@ fn answers_said(
     rules: &[Rule],
 ) -> Result<Said, AllocError>
     ensures answers { IfOk result
-        (λ said. Answers bay.now verified.now rules.now said.text.items said.status) }
+        (λ said. Answers bay.now verified.now rules.now said.text.items (code_of said.status)) }
     ensures taken { IfOk result (λ said. said.refused ≡ None) }
 {
     let names = names_of(alloc, verified.image().points(), form, program)?;
@@ -60,7 +57,11 @@ fn answers_said(
     let mut text = Vec::new(alloc);
     put_answers(&mut text, bay, &names, rules, answers)?;
     put_releases(&mut text, bay, &names, found.releases.as_slice())?;
-    let status = if are_passed(answers) { CLEAN } else { UNPROVED };
+    let status = if are_passed(answers) {
+        Status::Clean
+    } else {
+        Status::Unproved
+    };
     Ok(Said {
         text,
         status,
@@ -71,7 +72,7 @@ fn answers_said(
 /// Returns the line of rules that are refused.
 fn refusal_said(alloc: Global, fault: RuleFault) -> Result<Said, AllocError>
     ensures { IfOk result
-        (λ said. SaysRefused fault said.refused said.text.items said.status) }
+        (λ said. SaysRefused fault said.refused said.text.items (code_of said.status)) }
 {
     let mut text = Vec::new(alloc);
     if let Some(code) = fault.code() {
@@ -79,7 +80,7 @@ fn refusal_said(alloc: Global, fault: RuleFault) -> Result<Said, AllocError>
     }
     Ok(Said {
         text,
-        status: REFUSED,
+        status: Status::Refused,
         refused: Some(fault),
     })
 }
@@ -94,7 +95,7 @@ fn rules_said(
     rules: &[u8],
 ) -> Result<Said, AllocError>
     ensures { IfOk result (λ said. SaysFor (Ok bay.now) rules.now verified.now
-        (log_in said.refused) said.text.items said.status) }
+        (log_in said.refused) said.text.items (code_of said.status)) }
 {
     match read_rules(alloc, bay, rules) {
         Ok(rules) => answers_said(alloc, bay, verified, form, program, rules.as_slice()),
@@ -128,7 +129,7 @@ fn device_said(
 ) -> Result<Said, AllocError>
     requires { is_ok (file_of both.now.bay.items) ≡ true }
     ensures { IfOk result (λ said. SaysFor (file_of both.now.bay.items) rules.now
-        device.now.machine.image (log_in said.refused) said.text.items said.status) }
+        device.now.machine.image (log_in said.refused) said.text.items (code_of said.status)) }
 {
     let bay = bay_again(alloc, both.bay.as_slice())?;
     let program = both.program.as_slice();
@@ -162,11 +163,12 @@ fn write_said<W: Sink>(
     writer: &mut WatchedWriter<W>,
     report: Report,
     text: &[u8],
-    status: u8,
+    status: Status,
     refused: Option<RuleFault>,
 ) -> Result<u8, WriteFault>
     ensures { PrintsLogs W.contents W.does
-        (IsTold (log_in refused) (report_text report ++ text.now) status) writer.old writer.new
+        (IsTold (log_in refused) (report_text report ++ text.now) (code_of status)) writer.old
+        writer.new
         result }
 {
     put_report(writer, report);
@@ -199,7 +201,7 @@ fn audit_device<W: Sink>(
             said.status,
             said.refused,
         ),
-        Err(AllocError) => write_said(writer, report, NO_MEMORY, FAULT, None),
+        Err(AllocError) => write_said(writer, report, NO_MEMORY, Status::Fault, None),
     }
 }
 

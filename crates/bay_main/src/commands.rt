@@ -18,7 +18,7 @@ use bay_io::writer::WatchedWriter;
 use bay_replay::replay::replay_watched;
 use bay_report::load::{Form, load_octets};
 use bay_report::log::{log_unwritten, tell_refusal, tell_unread};
-use bay_report::output::{CLEAN, FAULT, NO_MEMORY, write_report, write_text};
+use bay_report::output::{NO_MEMORY, Status, write_report, write_text};
 use bay_serve::link::Link;
 use bay_serving::host::Host;
 use bay_serving_files::serve::{Named, Numbers, serve};
@@ -73,11 +73,11 @@ fn write_image<F: FileSystem, W: Sink>(
 {
     let image = match device.image() {
         Ok(image) => image,
-        Err(AllocError) => return write_text(writer, NO_MEMORY, FAULT),
+        Err(AllocError) => return write_text(writer, NO_MEMORY, Status::Fault),
     };
     match write_whole(alloc, files, out, image.as_slice()) {
-        Ok(()) => Ok(CLEAN),
-        Err(FileFault::OutOfMemory) => write_text(writer, NO_MEMORY, FAULT),
+        Ok(()) => Ok(Status::Clean.code()),
+        Err(FileFault::OutOfMemory) => write_text(writer, NO_MEMORY, Status::Fault),
         Err(FileFault::Failed) => fail_unwritten(writer, out),
     }
 }
@@ -249,7 +249,7 @@ pub fn obey<F: FileSystem, L: Link + Drop, H: Host<L>, R: Source, W: Sink>(
             log_unprinted(writer);
             Ended::of(answer)
         }
-        Err(WordsFault::OutOfMemory) => Ended::of(write_text(writer, NO_MEMORY, FAULT)),
+        Err(WordsFault::OutOfMemory) => Ended::of(write_text(writer, NO_MEMORY, Status::Fault)),
         Err(WordsFault::Refused(text)) => Ended::Refused(text),
     }
 }

@@ -4,10 +4,7 @@ ghost use Rattle.bay_main.specs.Commands.{Ends};
 ghost use Rattle.bay_main.specs.Ending.{complaint_of, status_of};
 
 use bay_io::outbox::WriteFault;
-use bay_report::output::FAULT;
-
-/// The exit status of words that do not ask for a valid command.
-const WORDS: u8 = 2;
+use bay_report::output::Status;
 
 /// How a command ended.
 #[derive(Debug, Drop)]
@@ -38,8 +35,8 @@ impl Ended {
     {
         match self {
             Ended::Status(status) => *status,
-            Ended::WriteFailed => FAULT,
-            Ended::Refused(_) => WORDS,
+            Ended::WriteFailed => Status::Fault.code(),
+            Ended::Refused(_) => Status::Usage.code(),
         }
     }
 

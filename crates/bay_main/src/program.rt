@@ -13,7 +13,7 @@ use bay_io::writer::WatchedWriter;
 use bay_output::descriptor::Descriptor;
 use bay_output::output::Output;
 use bay_output::queue::Queue;
-use bay_report::output::{FAULT, NO_MEMORY, write_text};
+use bay_report::output::{NO_MEMORY, Status, write_text};
 use bay_serving::host::SystemHost;
 use std::alloc::{AllocError, Global};
 use std::io::{ErrorKind, Write};
@@ -131,7 +131,7 @@ fn end_unheard<R: Runtime<A = Global>>(rt: &R, why: Unheard) -> Ended {
         Ok(text) => Ended::Refused(text),
         Err(AllocError) => {
             let mut writer = WatchedWriter::new(io::writer(rt));
-            Ended::of(write_text(&mut writer, NO_MEMORY, FAULT))
+            Ended::of(write_text(&mut writer, NO_MEMORY, Status::Fault))
         }
     }
 }

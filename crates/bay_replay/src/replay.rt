@@ -17,7 +17,7 @@ use bay_io::reader::WatchedReader;
 use bay_io::writer::WatchedWriter;
 use bay_report::load::load_octets;
 use bay_report::log::{log_unreadable, tell_refusal, tell_text, tell_unread};
-use bay_report::output::{CLEAN, FAULT, finish};
+use bay_report::output::{Status, finish};
 use bay_report::report::put_report;
 use bay_report::text_lines::cut_line;
 use bay_trace::octets::LineOctets;
@@ -37,7 +37,7 @@ fn end_at<W: Sink>(
     ensures { FinishesLogs W.contents W.does 3 (last_log number line.now) writer.old writer.new
         result }
 {
-    let status = finish(writer, FAULT)?;
+    let status = finish(writer, Status::Fault)?;
     if read_trace_line(line).is_none() {
         log_unreadable(writer, number, line);
     }
@@ -72,7 +72,7 @@ fn replay_device<W: Sink>(
         number += 1;
         rest = after;
     }
-    finish(writer, CLEAN)
+    finish(writer, Status::Clean)
 }
 
 /// Loads the parts of a scenario and replays the trace.
@@ -106,7 +106,7 @@ fn replay_scenario<W: Sink>(
         None => tell_text(
             writer,
             b"fault 120 line 0\n",
-            FAULT,
+            Status::Fault,
             &[Part::Text(b"bayctl: fault 120 line 0: a line %% is missing\n")],
         ),
     }

@@ -6,6 +6,8 @@ use Rattle.bay_device.specs.declared.report.Report.{Report}
 use Rattle.bay_io.specs.Sent.{SendsPart}
 use Rattle.bay_io.specs.Watched.{Writing}
 use Rattle.bay_io.specs.declared.outbox.WriteFault.{WriteFault}
+use Rattle.bay_report.specs.declared.output.Status.{Status}
+use Rattle.bay_report.specs.declared.output.Status.TheVariants.{Clean, Refused as Refuses, Usage, Fault, Unproved}
 use Rattle.std.specs.Fmt.{decimal}
 use Rattle.std.specs.Io.KnownBytes.{Appends}
 use Rattle.std.specs.Prelude.{◌≡◌, ℕ, ◌==◌, true, false, List, [], ◌++◌, codes, Option, Result, Ok, Err, if◌then◌else◌}
@@ -27,6 +29,14 @@ abbrev pub report_text : Report → List ℕ
 report_text report =
     codes "instructions=" ++ decimal report.instructions ++ codes " depth="
     ++ decimal report.depth ++ codes " budget=" ++ (decimal report.budget ++ codes "\n")
+
+-- the numbers of the exit statuses
+abbrev pub code_of : Status → ℕ
+code_of Clean = 0
+code_of Refuses = 1
+code_of Usage = 2
+code_of Fault = 3
+code_of Unproved = 4
 
 -- the writer took what was pending and a whole text of those that may be printed
 pub record Reports (May : List ℕ → ℕ → Type 0) (pending : List ℕ) (old new : Option (List ℕ))

@@ -3,9 +3,10 @@ ghost use Rattle.std.specs.Prelude.{◌≡◌, None, Some, codes};
 ghost use Rattle.bay_io.specs.Calls.{parts_text};
 ghost use Rattle.bay_io.specs.Sent.{Logs};
 ghost use Rattle.bay_report.specs.LogLines.{IsTold, LogsSome, PrintsLogs, Refuses, UnreadReport, refused_line, unreadable_line, unwritten_line};
+ghost use Rattle.bay_report.specs.Report.{code_of};
 ghost use Rattle.bay_report.specs.LogLines as spec;
 
-use crate::output::{FAULT, NO_MEMORY, write_refusal, write_text};
+use crate::output::{NO_MEMORY, Status, write_refusal, write_text};
 use bay_device::fault::LoadFault;
 use bay_io::calls::{Part, Sink};
 use bay_io::input::ReadFault;
@@ -133,10 +134,11 @@ pub fn log_unreadable<W: Sink>(writer: &mut WatchedWriter<W>, number: usize, lin
 pub fn tell_text<W: Sink>(
     writer: &mut WatchedWriter<W>,
     text: &[u8],
-    status: u8,
+    status: Status,
     parts: &[Part<'_>],
 ) -> Result<u8, WriteFault>
-    ensures { PrintsLogs W.contents W.does (IsTold (Some (parts_text parts.now)) text.now status)
+    ensures { PrintsLogs W.contents W.does (IsTold (Some (parts_text parts.now)) text.now
+        (code_of status))
         writer.old writer.new result }
 {
     let status = write_text(writer, text, status)?;
@@ -149,7 +151,7 @@ pub fn tell_memory<W: Sink>(writer: &mut WatchedWriter<W>) -> Result<u8, WriteFa
     ensures { PrintsLogs W.contents W.does (IsTold None (codes "fault memory\n") 3) writer.old
         writer.new result }
 {
-    write_text(writer, NO_MEMORY, FAULT)
+    write_text(writer, NO_MEMORY, Status::Fault)
 }
 
 /// Writes that a file can't be read, and then logs why.
@@ -167,12 +169,12 @@ pub fn tell_unread<W: Sink>(
         ReadFault::OutOfMemory => tell_memory(writer),
         ReadFault::TooLong => {
             let why = Part::Text(b": it is longer than 16,777,216 bytes\n");
-            tell_text(writer, b"fault 121\n", FAULT, &[start, what, why])
+            tell_text(writer, b"fault 121\n", Status::Fault, &[start, what, why])
         }
         ReadFault::Failed(kind) => {
             let why = Part::Text(kind_words(kind));
             let parts = [start, what, Part::Text(b": "), why, Part::Text(b"\n")];
-            tell_text(writer, b"fault 121\n", FAULT, &parts)
+            tell_text(writer, b"fault 121\n", Status::Fault, &parts)
         }
     }
 }

@@ -1,7 +1,7 @@
 // What is written at once, and the status that it stands for.
 ghost use Rattle.std.specs.Prelude.{◌≡◌, IfOk};
 ghost use Rattle.bay_io.specs.Sent.{Finishes};
-ghost use Rattle.bay_report.specs.Report.{IsLast, Prints, refusal_of, report_text};
+ghost use Rattle.bay_report.specs.Report.{IsLast, Prints, code_of, refusal_of, report_text};
 
 use crate::report::{put_load_refusal, put_report};
 use bay_device::fault::LoadFault;
@@ -10,35 +10,55 @@ use bay_io::calls::Sink;
 use bay_io::outbox::WriteFault;
 use bay_io::writer::WatchedWriter;
 
-/// The exit status without a fault.
-pub const CLEAN: u8 = 0;
-
-/// The exit status of a refused load.
-pub const REFUSED: u8 = 1;
-
 /// The line that is printed when memory runs out after a load.
 pub const NO_MEMORY: &[u8] = b"fault memory\n";
 
-/// The exit status of a fault in a trace, in reading or in writing, and of running out of memory
-/// after a load.
-pub const FAULT: u8 = 3;
-
-/// Writes out everything that was put, and returns the given status.
-pub fn finish<W: Sink>(writer: &mut WatchedWriter<W>, status: u8) -> Result<u8, WriteFault>
-    ensures finishes { Finishes W.contents W.does writer.old writer.new result }
-    ensures status { IfOk result (λ s. s ≡ status) }
-{
-    writer.finish()?;
-    Ok(status)
+/// An exit status of the program.
+#[derive(Clone, Copy, Debug, PartialEq, Eq)]
+pub enum Status {
+    /// No fault.
+    Clean,
+    /// A load or a text of rules is refused.
+    Refused,
+    /// The words do not ask for a valid command.
+    Usage,
+    /// A fault in a trace, in reading or in writing, or running out of memory after a load.
+    Fault,
+    /// A rule of an audit is broken, open, or takes too many passes.
+    Unproved,
 }
 
-/// Writes a text as the whole output, and returns the given status.
+impl Status {
+    /// Returns the number of the status: 0 to 4 in the order of the variants.
+    pub fn code(self) -> u8
+        ensures { result ≡ code_of self }
+    {
+        match self {
+            Status::Clean => 0,
+            Status::Refused => 1,
+            Status::Usage => 2,
+            Status::Fault => 3,
+            Status::Unproved => 4,
+        }
+    }
+}
+
+/// Writes out everything that was put, and returns the number of the given status.
+pub fn finish<W: Sink>(writer: &mut WatchedWriter<W>, status: Status) -> Result<u8, WriteFault>
+    ensures finishes { Finishes W.contents W.does writer.old writer.new result }
+    ensures status { IfOk result (λ s. s ≡ code_of status) }
+{
+    writer.finish()?;
+    Ok(status.code())
+}
+
+/// Writes a text as the whole output, and returns the number of the given status.
 pub fn write_text<W: Sink>(
     writer: &mut WatchedWriter<W>,
     text: &[u8],
-    status: u8,
+    status: Status,
 ) -> Result<u8, WriteFault>
-    ensures { Prints W.contents W.does (IsLast text.now status) writer.old writer.new result }
+    ensures { Prints W.contents W.does (IsLast text.now (code_of status)) writer.old writer.new result }
 {
     writer.put(text);
     finish(writer, status)
@@ -52,7 +72,7 @@ pub(crate) fn write_refusal<W: Sink>(
     ensures { Prints W.contents W.does (IsLast (refusal_of fault) 1) writer.old writer.new result }
 {
     put_load_refusal(writer, fault);
-    finish(writer, REFUSED)
+    finish(writer, Status::Refused)
 }
 
 /// Writes the line of a load.
@@ -64,5 +84,5 @@ pub fn write_report<W: Sink>(
         result }
 {
     put_report(writer, report);
-    finish(writer, CLEAN)
+    finish(writer, Status::Clean)
 }

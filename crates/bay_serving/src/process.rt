@@ -14,7 +14,7 @@ use bay_io::writer::WatchedWriter;
 use bay_port::attending::attend;
 use bay_port::fit::Line;
 use bay_port::port::Port;
-use bay_report::output::CLEAN;
+use bay_report::output::Status;
 use bay_serve::link::Link;
 use bay_serve::told::Turn;
 use std::marker::Model;
@@ -165,6 +165,6 @@ pub fn attend_process<L: Link, W: Sink>(
 {
     match process {
         Some(process) => attend_one(process, device, moment, turn, writer),
-        None => Ok(CLEAN),
+        None => Ok(Status::Clean.code()),
     }
 }

@@ -18,7 +18,7 @@ use bay_io::calls::Sink;
 use bay_io::outbox::WriteFault;
 use bay_io::writer::WatchedWriter;
 use bay_port::fit::Line;
-use bay_report::output::CLEAN;
+use bay_report::output::Status;
 use bay_serve::fault::ServeFault;
 use bay_serve::link::Link;
 use bay_serve::server::Server;
@@ -159,7 +159,7 @@ fn serve_lines<L: Link, H: Host<L>, W: Sink>(
         }
     }
     log_used_up(writer, server.device().moment());
-    Ok(CLEAN)
+    Ok(Status::Clean.code())
 }
 
 /// Serves the given number of turns over a link, each with the next line of a trace, or after the

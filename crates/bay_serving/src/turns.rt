@@ -20,7 +20,7 @@ use bay_io::outbox::WriteFault;
 use bay_io::writer::WatchedWriter;
 use bay_port::news::{News, Parting};
 use bay_report::lines::{put_closing_line, put_commands, put_refusal, put_unreadable};
-use bay_report::output::{CLEAN, FAULT, finish, write_text};
+use bay_report::output::{Status, finish, write_text};
 use bay_serve::fault::ServeFault;
 use bay_serve::told::{Closing, Turn};
 
@@ -93,7 +93,7 @@ fn write_turn<W: Sink>(
         writer.new result }
 {
     put_turn(writer, device, moment, turn);
-    finish(writer, CLEAN)
+    finish(writer, Status::Clean)
 }
 
 /// Writes the lines of a turn and flushes them. Does not use the writer if the turn reports
@@ -108,7 +108,7 @@ fn print_turn<W: Sink>(
         result }
 {
     if is_quiet(turn) {
-        Ok(CLEAN)
+        Ok(Status::Clean.code())
     } else {
         write_turn(writer, device, moment, turn)
     }
@@ -177,7 +177,7 @@ fn write_news<W: Sink>(
         result }
 {
     put_news(writer, moment, news);
-    finish(writer, CLEAN)
+    finish(writer, Status::Clean)
 }
 
 /// Logs and writes what happened to the connection of the process, if anything did, and flushes it.
@@ -194,7 +194,7 @@ pub fn tell_news<W: Sink>(
             log_news(writer, moment, news);
             write_news(writer, moment, news)
         }
-        None => Ok(CLEAN),
+        None => Ok(Status::Clean.code()),
     }
 }
 
@@ -205,7 +205,7 @@ fn write_bad_line<W: Sink>(writer: &mut WatchedWriter<W>, number: usize) -> Resu
         writer.new result }
 {
     put_unreadable(writer, number);
-    finish(writer, FAULT)
+    finish(writer, Status::Fault)
 }
 
 /// Writes why a turn was not done, with the number of its line of the trace.
@@ -219,7 +219,7 @@ fn write_unserved<W: Sink>(
 {
     match fault {
         ServeFault::BadLine => write_bad_line(writer, number),
-        ServeFault::MomentTooLarge => write_text(writer, b"fault 114\n", FAULT),
+        ServeFault::MomentTooLarge => write_text(writer, b"fault 114\n", Status::Fault),
     }
 }
 

@@ -18,7 +18,7 @@ use bay_io::writer::WatchedWriter;
 use bay_port::port::Port;
 use bay_report::load::{Form, load_program};
 use bay_report::log::{tell_memory, tell_refusal, tell_unread};
-use bay_report::output::{FAULT, write_report, write_text};
+use bay_report::output::{Status, write_report, write_text};
 use bay_serve::link::Link;
 use bay_serve::server::Server;
 use bay_serving::host::{BindFault, Host};
@@ -107,7 +107,7 @@ fn tell_unbound<W: Sink>(
     ensures { PrintsLogs W.contents W.does (UnservedReport (unserved.Unbound port fault)) writer.old
         writer.new result }
 {
-    let status = write_text(writer, b"fault 121\n", FAULT)?;
+    let status = write_text(writer, b"fault 121\n", Status::Fault)?;
     log_unbound(writer, port, fault);
     Ok(status)
 }
