@@ -17,7 +17,7 @@ use Rattle.bay_trace.specs.declared.trace.TraceLine.{TraceLine}
 use Rattle.bay_trace.specs.TraceView.{line_view}
 use Rattle.bay_tree.specs.declared.leaf.Dbpos.{Dbpos}
 use Rattle.bay_config.specs.declared.bay.MeterField.{MeterField}
-use Rattle.bay_trace.specs.Trace.{association_of, at_moment, disconnects, contact, event_of, input, measure, negative_of, positive_of, field_of, is_space, is_talk, LineData, measure_of, name_of, named_of, NamedData, only_word, connects, position_of, read_integer, read_number, received_of, receives, talk_of, trace_line_of, truth_of, words_line}
+use Rattle.bay_trace.specs.Trace.{association_of, at_moment, disconnects, contact, event_of, input, measure, negative_of, positive_of, field_of, is_space, is_association_verb, LineData, measure_of, name_of, named_of, NamedData, only_word, connects, position_of, read_integer, read_number, received_of, receives, association_event_of, trace_line_of, truth_of, words_line}
 
 -- ---- what has a value has parts that have theirs
 
@@ -194,9 +194,10 @@ received-words (word ∷ octets) d e =
       only-text octets_of octets xs.0 (λ w h. octets-text w xs.0 h) xs.1,
     )
 
-talk-text : (word : List ℕ) (words : List (List ℕ)) (d : NamedData) → talk_of word words ≡ Some d
+association-text : (word : List ℕ) (words : List (List ℕ)) (d : NamedData)
+    → association_event_of word words ≡ Some d
     → AreText (word ∷ words)
-talk-text word words d e =
+association-text word words d e =
     verb word (codes "open") words _ _ d refl (association-words connects words d)
     (verb word (codes "close") words _ _ d refl (association-words disconnects words d)
     (verb word (codes "recv") words _ None d refl (received-words words d) (λ none. absurd cc)))
@@ -206,10 +207,10 @@ event-text : (words : List (List ℕ)) (d : NamedData) → event_of words ≡ So
 event-text [] d e = absurd cc
 event-text (word ∷ []) d e =
     (choice word (codes "scan") _ d _ refl (none-chosen IsUtf8 word d) e, tt)
-event-text (word ∷ name ∷ words) d e = by_test (is_talk word) refl
+event-text (word ∷ name ∷ words) d e = by_test (is_association_verb word) refl
   where
-    by_test : (v : Bool) → is_talk word ≡ v → AreText (word ∷ name ∷ words)
-    by_test true is = talk-text word (name ∷ words) d (rw is at e)
+    by_test : (v : Bool) → is_association_verb word ≡ v → AreText (word ∷ name ∷ words)
+    by_test true is = association-text word (name ∷ words) d (rw is at e)
     by_test false is =
         let parts : Parts (λ n. named_of word n words) (name_of name) d =
         and_then _ (name_of name) d (rw is at e) in

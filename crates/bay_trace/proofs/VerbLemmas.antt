@@ -8,7 +8,7 @@ use Rattle.std.specs.Char.{is_ascii_digit}
 use Rattle.std.specs.List.{join_with_byte, slice_split, onto_first}
 use Rattle.std.specs.Str.{all_ascii_digits, bytes_eq}
 use Rattle.bay_tree.specs.declared.leaf.Dbpos.{Dbpos}
-use Rattle.bay_trace.specs.Trace.{association_of, connects, disconnects, is_space, is_talk, talk_in, talk_of, only_word, read_number, negative_of, positive_of, read_integer, position_of, truth_of, scan, name_of, named_of, event_of}
+use Rattle.bay_trace.specs.Trace.{association_of, connects, disconnects, is_space, is_association_verb, association_event_in, association_event_of, only_word, read_number, negative_of, positive_of, read_integer, position_of, truth_of, scan, name_of, named_of, event_of}
 use Rattle.std.proofs.lemmas.List.Elements.{All-head, All-tail}
 use Rattle.std.specs.List.{AllPass}
 use Rattle.hex.specs.Hex.{is_hex_digit}
@@ -151,8 +151,8 @@ none-of false false true = refl
 none-of false false false = refl
 
 -- nothing is told of an association by a word alone
-talk-alone : (word : List ℕ) → talk_of word [] ≡ None
-talk-alone word =
+association-alone : (word : List ℕ) → association_event_of word [] ≡ None
+association-alone word =
     none-of (bytes_eq word (codes "open")) (bytes_eq word (codes "close"))
     (bytes_eq word (codes "recv"))
 
@@ -164,8 +164,9 @@ not-of false true w x y z e = absurd cc
 not-of false false true x y z e = absurd cc
 not-of false false false x y z e = refl
 
-no-talk : (verb : List ℕ) (words : List (List ℕ)) → is_talk verb ≡ false → talk_of verb words ≡ None
-no-talk verb words e =
+no-association : (verb : List ℕ) (words : List (List ℕ)) → is_association_verb verb ≡ false
+    → association_event_of verb words ≡ None
+no-association verb words e =
     not-of (bytes_eq verb (codes "open")) (bytes_eq verb (codes "close"))
     (bytes_eq verb (codes "recv")) _ _ _ e
 
@@ -174,41 +175,42 @@ no-talk verb words e =
 pub no-verb : (text : List ℕ) → ((r : List ℕ) → text ≢ codes "contact " ++ r)
     → ((r : List ℕ) → text ≢ codes "input " ++ r) → ((r : List ℕ) → text ≢ codes "measure " ++ r)
     → text ≢ codes "scan"
-    → event_of (slice_split is_space text) ≡ talk_in (slice_split is_space text)
+    → event_of (slice_split is_space text) ≡ association_event_in (slice_split is_space text)
 no-verb text no_contact no_input no_measure no_scan =
     by-words (slice_split is_space text) (join_with_byte-slice_split 32 text)
   where
-    by-words : (ws : List (List ℕ)) → join_with_byte 32 ws ≡ text → event_of ws ≡ talk_in ws
+    by-words : (ws : List (List ℕ)) → join_with_byte 32 ws ≡ text
+        → event_of ws ≡ association_event_in ws
     by-words [] e = refl
     by-words (word ∷ []) e =
         ap (λ w. cond (bytes_eq w (codes "scan")) (Some scan) None) e
         ∙ ap (λ v. cond v (Some scan) None) (is-not text (codes "scan") no_scan)
-        ∙ sym (talk-alone word)
-    by-words (verb ∷ word ∷ values) e = by_test (is_talk verb) refl
+        ∙ sym (association-alone word)
+    by-words (verb ∷ word ∷ values) e = by_test (is_association_verb verb) refl
       where
-        by_test : (v : Bool) → is_talk verb ≡ v
-            → event_of (verb ∷ word ∷ values) ≡ talk_of verb (word ∷ values)
+        by_test : (v : Bool) → is_association_verb verb ≡ v
+            → event_of (verb ∷ word ∷ values) ≡ association_event_of verb (word ∷ values)
         by_test true is = rw is refl
         by_test false is =
             let rest = join_with_byte 32 (word ∷ values) in
             let a = other text verb (codes "contact") rest no_contact (sym e) in
             let b = other text verb (codes "input") rest no_input (sym e) in
             let d = other text verb (codes "measure") rest no_measure (sym e) in
-            ap (λ v. cond v (talk_of verb (word ∷ values))
+            ap (λ v. cond v (association_event_of verb (word ∷ values))
             (option_and_then (λ name. named_of verb name values) (name_of word))) is
             ∙ unsaid (name_of word) (λ name. named_of verb name values) (λ name. rw (a, b, d) refl)
-            ∙ sym (no-talk verb (word ∷ values) is)
+            ∙ sym (no-association verb (word ∷ values) is)
 
 -- a text that begins with no verb before an association and a space says nothing of one
-pub no-talk-verb : (text : List ℕ) → ((r : List ℕ) → text ≢ codes "recv " ++ r)
+pub no-association-verb : (text : List ℕ) → ((r : List ℕ) → text ≢ codes "recv " ++ r)
     → ((r : List ℕ) → text ≢ codes "open " ++ r) → ((r : List ℕ) → text ≢ codes "close " ++ r)
-    → talk_in (slice_split is_space text) ≡ None
-no-talk-verb text no_recv no_open no_close =
+    → association_event_in (slice_split is_space text) ≡ None
+no-association-verb text no_recv no_open no_close =
     by-words (slice_split is_space text) (join_with_byte-slice_split 32 text)
   where
-    by-words : (ws : List (List ℕ)) → join_with_byte 32 ws ≡ text → talk_in ws ≡ None
+    by-words : (ws : List (List ℕ)) → join_with_byte 32 ws ≡ text → association_event_in ws ≡ None
     by-words [] e = refl
-    by-words (word ∷ []) e = talk-alone word
+    by-words (word ∷ []) e = association-alone word
     by-words (verb ∷ word ∷ values) e =
         let rest = join_with_byte 32 (word ∷ values) in
         let a = other text verb (codes "open") rest no_open (sym e) in
@@ -218,15 +220,17 @@ no-talk-verb text no_recv no_open no_close =
 
 -- what is told behind `open`, and behind `close`
 pub open-told : (text word : List ℕ) (o : Option ℕ) → text ≡ codes "open " ++ word
-    → o ≡ association_of word → option_map connects o ≡ talk_in (slice_split is_space text)
+    → o ≡ association_of word
+    → option_map connects o ≡ association_event_in (slice_split is_space text)
 open-told text word o e told =
-    sym (ap (λ t. talk_in (slice_split is_space t)) e
+    sym (ap (λ t. association_event_in (slice_split is_space t)) e
     ∙ ap (option_map connects) (alone-association word ∙ sym told))
 
 pub close-told : (text word : List ℕ) (o : Option ℕ) → text ≡ codes "close " ++ word
-    → o ≡ association_of word → option_map disconnects o ≡ talk_in (slice_split is_space text)
+    → o ≡ association_of word
+    → option_map disconnects o ≡ association_event_in (slice_split is_space text)
 close-told text word o e told =
-    sym (ap (λ t. talk_in (slice_split is_space t)) e
+    sym (ap (λ t. association_event_in (slice_split is_space t)) e
     ∙ ap (option_map disconnects) (alone-association word ∙ sym told))
 
 pub differs : (xs ys : List ℕ) → bytes_eq xs ys ≡ false → xs ≢ ys

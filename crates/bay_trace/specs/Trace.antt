@@ -139,8 +139,8 @@ received_of (word ∷ octets) =
 
 -- what is told of an association: `open` and `close` stand before it alone, `recv` before it and
 -- octets
-abbrev pub talk_of : List ℕ → List (List ℕ) → Option NamedData
-talk_of verb words =
+abbrev pub association_event_of : List ℕ → List (List ℕ) → Option NamedData
+association_event_of verb words =
     if bytes_eq verb (codes "open")
     then option_map connects (option_and_then association_of (only_word words))
     else if bytes_eq verb (codes "close")
@@ -149,13 +149,13 @@ talk_of verb words =
     else None
 
 -- what words tell of an association, if the first is one of these three
-abbrev pub talk_in : List (List ℕ) → Option NamedData
-talk_in [] = None
-talk_in (verb ∷ words) = talk_of verb words
+abbrev pub association_event_in : List (List ℕ) → Option NamedData
+association_event_in [] = None
+association_event_in (verb ∷ words) = association_event_of verb words
 
 -- the word of a line that tells of an association
-abbrev pub is_talk : List ℕ → Bool
-is_talk verb =
+abbrev pub is_association_verb : List ℕ → Bool
+is_association_verb verb =
     bytes_eq verb (codes "open") || (bytes_eq verb (codes "close") || bytes_eq verb (codes "recv"))
 
 -- `scan` stands alone; the other verbs stand before an association, or before a name and what is
@@ -164,8 +164,8 @@ abbrev pub event_of : List (List ℕ) → Option NamedData
 event_of [] = None
 event_of (verb ∷ []) = if bytes_eq verb (codes "scan") then Some scan else None
 event_of (verb ∷ word ∷ values) =
-    if is_talk verb
-    then talk_of verb (word ∷ values)
+    if is_association_verb verb
+    then association_event_of verb (word ∷ values)
     else option_and_then (λ name. named_of verb name values) (name_of word)
 
 -- a moment, and what happens then

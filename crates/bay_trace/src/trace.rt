@@ -2,7 +2,7 @@
 ghost use Rattle.std.specs.Prelude.{◌≡◌, ◌∷◌, ◌≤◌, ◌^◌, ◌<◌, ℕ, length, option_map, IfSome, Some, codes, neg_ℤ, pos};
 ghost use Rattle.std.specs.List.{slice_split};
 ghost use Rattle.std.specs.Str.{IsUtf8};
-ghost use Rattle.bay_trace.specs.Trace.{association_of, is_space, received_of, rest_words, talk_in, read_number, first_number, positive_of, negative_of, read_integer, position_of, truth_of, field_of, name_of, measure_of, event_of, words_line, trace_line_of, process_of};
+ghost use Rattle.bay_trace.specs.Trace.{association_of, is_space, received_of, rest_words, association_event_in, read_number, first_number, positive_of, negative_of, read_integer, position_of, truth_of, field_of, name_of, measure_of, event_of, words_line, trace_line_of, process_of};
 ghost use Rattle.bay_trace.specs.Trace as spec;
 ghost use Rattle.bay_trace.specs.TraceView.{named_view, line_view};
 
@@ -254,8 +254,8 @@ fn received(text: &[u8]) -> Option<NamedEvent<'_>>
 }
 
 /// Reads an event of an association: it is opened, its client sends octets, or it is closed.
-fn talk(text: &[u8]) -> Option<NamedEvent<'_>>
-    ensures { option_map named_view result ≡ talk_in (slice_split is_space text.now) }
+fn association_event(text: &[u8]) -> Option<NamedEvent<'_>>
+    ensures { option_map named_view result ≡ association_event_in (slice_split is_space text.now) }
 {
     if let Some(told) = text.strip_prefix(b"recv ") {
         return received(told);
@@ -285,7 +285,7 @@ fn event(text: &[u8]) -> Option<NamedEvent<'_>>
     if let Some(told) = text.strip_prefix(b"measure ") {
         return measure(told);
     }
-    talk(text)
+    association_event(text)
 }
 
 /// Returns the number before the first space, and what follows that space.

@@ -36,5 +36,5 @@ returns c =
     let other : bytes_eq c.args.text.now (codes "scan") ≡ false =
     ap (λ t. bytes_eq c.args.text.now t) (sym c.as_slice.ensures) ∙ sym c.eq.ensures
     ∙ c.if-eq.false in
-    c.talk.ensures ∙ sym (no-verb c.args.text.now no_contact no_input no_measure
+    c.association_event.ensures ∙ sym (no-verb c.args.text.now no_contact no_input no_measure
     (differs c.args.text.now (codes "scan") other))

@@ -2,8 +2,8 @@ use Rattle.std.proofs.Common.{◌≡◌, ◌≢◌, ℕ, List, ◌++◌, codes, 
 use Rattle.std.proofs.lemmas.Bool.Decides.{Decides-eqb}
 use Rattle.std.proofs.lemmas.Slice.Eq.{strip_prefix_is}
 use Rattle.bay_trace.specs.TraceView.{named_view}
-use Rattle.bay_trace.proofs.VerbLemmas.{close-told, no-talk-verb, open-told}
-use Rattle.bay_trace.proofs.trace.talk.Goals as goal
+use Rattle.bay_trace.proofs.VerbLemmas.{close-told, no-association-verb, open-told}
+use Rattle.bay_trace.proofs.trace.association_event.Goals as goal
 
 pub returns-in_err-association : goal.returns-in_err-association
 returns-in_err-association c =
@@ -44,7 +44,7 @@ returns-in_err-word c =
     let no_close : (r : List ℕ) → c.args.text.now ≢ codes "close " ++ r =
     rw c.in_err-word.was at close in
     ap (option_map named_view) c.from_residual-in_err-word.ensures
-    ∙ sym (no-talk-verb c.args.text.now no_recv no_open no_close)
+    ∙ sym (no-association-verb c.args.text.now no_recv no_open no_close)
 
 pub returns-in_err-association-2 : goal.returns-in_err-association-2
 returns-in_err-association-2 c =
