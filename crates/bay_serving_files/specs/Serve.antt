@@ -131,7 +131,7 @@ module _ {L H W : Type 0} (step : L → Call → L → Type 0) (acts : H → Hos
   -- Turns are served, all of which are one run of the device, from load on. Behind each command
   -- that one of them tells stand a client's octets that ask for it, the success that is sent to
   -- this client, and a scan of an earlier turn that released it; and so behind each line that is
-  -- printed and reads as one.
+  -- printed, or told the process, and reads as one.
   pub record ServesRun (turns : ℕ) (lines : List (ℕ × List ℕ)) (before : Serving L H)
       (old new : Writing W) (host : H) (answer : Result ℕ WriteFault) : Type 0 where
     pub serves : ServesTurns step acts contents asks turns lines before old host new answer

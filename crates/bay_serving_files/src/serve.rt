@@ -280,7 +280,7 @@ fn serve_loaded<L: Link + Drop, H: Host<L>, W: Sink>(
 /// if there is one; and serves the given number of turns. Logs the ports, or why no turn is served.
 ///
 /// All turns are one run of the device, from load on. Behind each command that a turn tells, and so
-/// behind each line that is printed and reads as one, stand the octets of a client that ask for it,
+/// behind each line that is printed, or told the process, and reads as one, stand the octets of a client that ask for it,
 /// the success that is sent to this client, and a scan of an earlier turn that left the switch's
 /// interlocking value TRUE, since which the process has not changed.
 pub fn serve<F: FileSystem, L: Link + Drop, H: Host<L>, W: Sink>(

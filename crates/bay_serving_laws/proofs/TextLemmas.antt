@@ -19,13 +19,13 @@ use Rattle.bay_device.specs.declared.fault.LoadFault.{LoadFault}
 use Rattle.bay_device.specs.declared.fault.StepFault.{StepFault}
 use Rattle.bay_device.specs.declared.fault.StepFault.TheVariants.{NoSuchPoint}
 use Rattle.bay_device.proofs.IdleLemmas.{text-loaded}
-use Rattle.bay_port.specs.Telling.{refusal_text}
+use Rattle.bay_port.specs.Telling.{refusal_text, told_text}
 use Rattle.bay_report.specs.Lines.{command_part, commands_text}
 use Rattle.bay_report.specs.Load.{LoadsTo, file_of, text_of}
 use Rattle.bay_report.specs.declared.load.Form.{Form}
 use Rattle.bay_report.specs.declared.load.Form.TheVariants.{Logic, Image}
 use Rattle.bay_replay.proofs.HistoryLemmas.{past-fixed}
-use Rattle.bay_report_laws.specs.Printed.{PrintedCommand, lines_in, printed_command}
+use Rattle.bay_report_laws.specs.Printed.{PrintedCommand, printed_command}
 use Rattle.bay_report_laws.specs.ReadBack.{HaveIds}
 use Rattle.bay_report_laws.proofs.LineLemmas.{AreLines, decimal-free, each-line, free, free-append, map-lines, more-lines, no-lines, one-line}
 use Rattle.bay_report_laws.proofs.NameLemmas.{bay-named, name-plain}
@@ -40,7 +40,7 @@ use Rattle.bay_serve_laws.specs.Events.{ChosenEvent, turn_events}
 use Rattle.bay_serve_laws.proofs.PartLemmas.{Part-turn}
 use Rattle.bay_serving.specs.TurnLines.{closings_text, memories_text, turn_text}
 use Rattle.bay_serving_laws.specs.Orders.{AreOrdered, IsOrdered}
-use Rattle.bay_serving_laws.specs.Texts.{ArePrinted, IsPrintedFor}
+use Rattle.bay_serving_laws.specs.Texts.{ArePrinted, IsPrintedFor, IsTurnLine}
 use Rattle.bay_serving_laws.specs.Service.{AreTurns, DoneTurn, IsBegun, held_behind, past_behind}
 use Rattle.bay_serving_laws.proofs.BeginLemmas.{ordered-from}
 use Rattle.bay_serving_laws.proofs.HistoryLemmas.{Stands, stands-events, stands-first}
@@ -127,24 +127,33 @@ module _ (now : ℕ) (commands : List Command) (s : State) (ids : HaveIds s.swit
       (inr (other-line (decimal now) (codes "refused") (decimal code)
       (decimal-free 32 now no-space) refl refl refl)))
 
+told-lines : (now : ℕ) (turn : Turn) (s : State) (ids : HaveIds s.switches)
+    → AreLines (Is now turn.commands s ids) (told_text now turn s)
+told-lines now turn s ids =
+    more-lines (refusal-lines now turn.commands s ids turn.refused)
+    (commands-lines now turn.commands s ids turn.commands (λ x at. at))
+
 turn-lines : (now : ℕ) (turn : Turn) (s : State) (ids : HaveIds s.switches)
     → AreLines (Is now turn.commands s ids) (turn_text now turn s)
 turn-lines now turn s ids =
-    more-lines (more-lines (more-lines (refusal-lines now turn.commands s ids turn.refused)
-    (commands-lines now turn.commands s ids turn.commands (λ x at. at)))
-    (closings-lines now turn.commands s ids turn.closed))
+    more-lines
+    (more-lines (told-lines now turn s ids) (closings-lines now turn.commands s ids turn.closed))
     (memories-lines now turn.commands s ids turn.memory)
 
 -- A line that reads as a command is that of one.
-read-line : (now : ℕ) (turn : Turn) (s : State) → HaveIds s.switches → (line : List ℕ)
-    (printed : PrintedCommand) → Contains (lines_in (turn_text now turn s)) line
-    → printed_command line ≡ Some printed → IsCommandLine now turn.commands s line
-read-line now turn s ids line printed has reads =
-    by-kind (each-line (turn-lines now turn s ids)
-    (inr (record { no_scan = refl; no_command = refl })) line has)
+read-line : (t : DoneTurn) (s : State) → HaveIds s.switches → (line : List ℕ)
+    (printed : PrintedCommand) → IsTurnLine t s line → printed_command line ≡ Some printed
+    → IsCommandLine t.now t.told.commands s line
+read-line t s ids line printed has reads = elim has [
+  | inl out ↦ by-kind (each-line (turn-lines t.now t.told s ids) no line out)
+  | inr told ↦ by-kind (each-line (told-lines t.now t.told s ids) no line told)
+]
   where
-    by-kind : IsCommandLine now turn.commands s line ⊎ IsOther line
-        → IsCommandLine now turn.commands s line
+    no : Is t.now t.told.commands s ids []
+    no = inr (record { no_scan = refl; no_command = refl })
+
+    by-kind : IsCommandLine t.now t.told.commands s line ⊎ IsOther line
+        → IsCommandLine t.now t.told.commands s line
     by-kind (inl command) = command
     by-kind (inr other) =
         absurd (let no : ◌≡◌ {A = Option PrintedCommand} None (Some printed) =
@@ -163,13 +172,13 @@ module _ (first : State) (ids : HaveIds first.switches) where
       → ((command : Command) → Contains t.told.commands command
       → IsOrdered first h t past command)
       → (line : List ℕ) (printed : PrintedCommand)
-      → Contains (lines_in (turn_text t.now t.told (held_behind t h).device)) line
-      → printed_command line ≡ Some printed → IsPrintedFor first h t past printed
+      → IsTurnLine t (held_behind t h).device line → printed_command line ≡ Some printed
+      → IsPrintedFor first h t past printed
   printed-for h t past same orders line printed has reads =
       let s : State = (held_behind t h).device in
       let named : HaveIds s.switches = subst HaveIds (sym same) ids in
       let c : IsCommandLine t.now t.told.commands s line =
-      read-line t.now t.told s named line printed has reads in
+      read-line t s named line printed has reads in
       let order : IsOrdered first h t past c.command = orders c.command c.has in
       let within : t.now ≤ last_moment = ordered-on-time first h t past c.command order in
       let small : t.now < 2 ^ 64 = omega arith in
