@@ -5,7 +5,7 @@ use Rattle.bay_mms.specs.declared.request.Proposal.{Proposal}
 use Rattle.bay_mms.specs.declared.response.Agreed.{Agreed}
 use Rattle.bay_mms.specs.Grammar.{initiate_in}
 use Rattle.bay_mms.specs.Responses.{agreed_text}
-use Rattle.bay_mms.specs.Sizes.{longest_pdu}
+use Rattle.bay_mms.specs.Sizes.{agreed_size}
 use Rattle.bay_base.specs.Results.{◌>>=◌ as ◌>>◌}
 use Rattle.bay_assoc.specs.declared.fault.AssocFault.{AssocFault}
 use Rattle.bay_assoc.specs.declared.fault.AssocFault.TheVariants as fault
@@ -65,13 +65,6 @@ mms_value a c =
 
 -- ---- what is agreed
 
--- the octets of the largest PDU: at least 256, and at most 65,000, which is also what is agreed
--- where none is proposed
-abbrev pub size_of : Option ℤ → Option ℕ
-size_of None = Some longest_pdu
-size_of (Some (pos n)) = if nat_lt n 256 then None else Some (min n longest_pdu)
-size_of (Some (negsuc n)) = None
-
 -- at most 5 requests outstanding
 abbrev pub outstanding_of : ℤ → ℕ
 outstanding_of (pos n) = min n 5
@@ -84,7 +77,7 @@ nesting_of (negsuc n) = negsuc n
 
 -- what is agreed on a proposal, where its size is large enough
 abbrev pub agreed_of : Proposal → Option Agreed
-agreed_of p = size_of p.size >>= λ size. Some (record {
+agreed_of p = agreed_size p.size >>= λ size. Some (record {
   size = size;
   calling = outstanding_of p.calling;
   called = outstanding_of p.called;

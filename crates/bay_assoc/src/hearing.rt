@@ -18,7 +18,7 @@ use crate::request::Connect;
 use crate::session::{Spdu, spdu_in};
 use crate::text;
 use bay_mms::request::{Proposal, read_initiate};
-use bay_mms::response::{Agreed, LONGEST_PDU, write_agreed};
+use bay_mms::response::{Agreed, agreed_size, write_agreed};
 use std::alloc::{AllocError, Global};
 
 /// The identifiers of the accepted presentation contexts.
@@ -131,23 +131,6 @@ fn mms_value<'a>(contexts: Accepted, carried: Carried<'a>) -> Result<&'a [u8], A
     }
 }
 
-// The octets of the largest PDU of MMS.
-fn size_of(proposed: Option<i64>) -> Option<u32>
-    ensures size { result ≡ spec.size_of proposed }
-    ensures sized { IfSome result IsPduSize }
-{
-    match proposed {
-        None => Some(LONGEST_PDU),
-        Some(size) => {
-            if size < 256 {
-                None
-            } else {
-                Some(size.min(i64::from(LONGEST_PDU)) as u32)
-            }
-        }
-    }
-}
-
 // How many requests may be outstanding.
 fn outstanding_of(proposed: i64) -> u32
     ensures { result ≡ spec.outstanding_of proposed }
@@ -171,7 +154,7 @@ fn agreed_of(proposal: Proposal) -> Option<Agreed>
     ensures agreed { result ≡ spec.agreed_of proposal }
     ensures sized { IfSome result (λ agreed. IsPduSize agreed.size) }
 {
-    let size = size_of(proposal.size)?;
+    let size = agreed_size(proposal.size)?;
     Some(Agreed {
         size,
         calling: outstanding_of(proposal.calling),

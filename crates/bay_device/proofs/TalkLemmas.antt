@@ -24,11 +24,11 @@ use Rattle.bay_assoc.specs.declared.hearing.Phase.{Phase}
 use Rattle.bay_assoc.specs.declared.hearing.Phase.TheVariants as phases
 use Rattle.bay_assoc.specs.declared.presentation.Context.{Context}
 use Rattle.bay_assoc.specs.Acse.{associate_in, release_in}
-use Rattle.bay_assoc.specs.Hearing.{Hearing, answer, mms, released, aborted, accepted_of, acse_value, agreed_of, agreement, connection_request, release_request, heard_idle, heard_open, hearing, mms_value, size_of, data_transfer}
+use Rattle.bay_assoc.specs.Hearing.{Hearing, answer, mms, released, aborted, accepted_of, acse_value, agreed_of, agreement, connection_request, release_request, heard_idle, heard_open, hearing, mms_value, data_transfer}
 use Rattle.bay_assoc.specs.Presentation.{Carried, user_in, request_in}
 use Rattle.bay_assoc.specs.Results.{or_fault}
 use Rattle.bay_assoc.specs.Session.{Spdu, connect, accept, finish, disconnect, abort, transfer, spdu_in}
-use Rattle.bay_mms.specs.Sizes.{IsPduSize}
+use Rattle.bay_mms.specs.Sizes.{IsPduSize, agreed_size}
 use Rattle.bay_assoc.specs.Sized.{IsSized}
 use Rattle.bay_connection.specs.Talk.{Indication, Talk, Told, answers, tells, releases, ends, fails, comes_to, indications, left_by, on_heard, on_hearing, talk_after}
 
@@ -137,7 +137,7 @@ size-if true n is = tt
 size-if false n is = let least : 256 ≤ n =
     grind arith in record { least = grind arith; most = grind arith }
 
-size-is : (proposed : Option ℤ) → SomeIs IsPduSize (size_of proposed)
+size-is : (proposed : Option ℤ) → SomeIs IsPduSize (agreed_size proposed)
 size-is None = record { least = omega arith; most = omega arith }
 size-is (Some (pos n)) = size-if (nat_lt n 256) n refl
 size-is (Some (negsuc n)) = tt
@@ -150,7 +150,7 @@ agreed-by None f same is = tt
 
 agreed-sized : (p : Proposal)
     → OkIs (λ (x : Agreed). IsPduSize x.size) (or_fault fault.PduSizeTooSmall (agreed_of p))
-agreed-sized p = agreed-by (size_of p.size) _ (λ n. refl) (size-is p.size)
+agreed-sized p = agreed-by (agreed_size p.size) _ (λ n. refl) (size-is p.size)
 
 agreement-sized : (contexts : List Context) (user : Carried)
     → OkIs (λ (x : Accepted × Agreed). IsPduSize x.1.size) (agreement contexts user)

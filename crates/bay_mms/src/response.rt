@@ -1,5 +1,5 @@
 // Responses, and their canonical texts.
-ghost use Rattle.std.specs.Prelude.{◌≡◌, ◌≤◌, ◌<◌, ◌++◌, false, length, pos, IfOk};
+ghost use Rattle.std.specs.Prelude.{◌≡◌, ◌≤◌, ◌<◌, ◌++◌, false, length, pos, IfOk, IfSome};
 ghost use Rattle.bay_base.specs.Exact.{Gives};
 ghost use Rattle.bay_ber.specs.Sheets.{sheet_with};
 ghost use Rattle.bay_ber.specs.Writing.{element, integer_octets, truth_octets};
@@ -8,6 +8,8 @@ ghost use Rattle.bay_mms.specs.Tags.{context, constructed, int_tag};
 ghost use Rattle.bay_mms.specs.Types.{type_text};
 ghost use Rattle.bay_mms.specs.Nodes.{type_at};
 ghost use Rattle.bay_mms.specs.Responses.{nesting_text, parameters_text, services_text, limits_text, detail_text, agreed_text, confirmed_response, error_text, identity_text, names_text, listing_text, class_text, id_text, reason_text, reject_text, concluded_text, service_text, response_text, IsOfTree, IsAnswerable};
+ghost use Rattle.bay_mms.specs.Sizes.{IsPduSize};
+ghost use Rattle.bay_mms.specs.Sizes as spec;
 ghost use Rattle.bay_mms.specs.Writing.{text_within};
 
 use crate::fault::EncodeFault;
@@ -59,8 +61,18 @@ pub enum Service<'a> {
     },
 }
 
-/// The octets of the longest PDU.
-pub const LONGEST_PDU: u32 = 65_000;
+// The octets of the longest PDU.
+const LONGEST_PDU: i64 = 65_000;
+
+/// Returns the size of the largest PDU in octets that is agreed where this one is proposed, or none
+/// is: at most 65,000. `None` below 256.
+pub fn agreed_size(proposed: Option<i64>) -> Option<u32>
+    ensures size { result ≡ spec.agreed_size proposed }
+    ensures sized { IfSome result IsPduSize }
+{
+    let size = proposed.unwrap_or(LONGEST_PDU).min(LONGEST_PDU);
+    if size < 256 { None } else { Some(size as u32) }
+}
 
 /// What is agreed for an association (ISO 9506-2, InitiateResponsePDU), in version 1 of the
 /// protocol.
