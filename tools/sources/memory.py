@@ -21,6 +21,8 @@ SYSTEM = "the system's own word for it"
 PLACES = (
     Place("bay_config/src/read.rt",
           "if error.is_memory() { Err(BayFault::OutOfMemory) }", "the reader of TOML says so"),
+    Place("bay_device/src/fault.rt", "None => LoadFault::OutOfMemory,",
+          "want of memory is the fault without a number"),
     Place("bay_files/src/files.rt",
           "if error.kind() == ErrorKind::OutOfMemory { ReadFault::OutOfMemory }", SYSTEM),
     Place("bay_files/src/files.rt",

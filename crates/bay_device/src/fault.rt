@@ -1,7 +1,8 @@
 // Why texts and images are not loaded, and why an event is refused.
-ghost use Rattle.std.specs.Prelude.{◌≡◌, IsSome};
+ghost use Rattle.std.specs.Prelude.{◌≡◌};
 ghost use Rattle.bay_device.specs.Code.{step_code_of};
-ghost use Rattle.bay_device.specs.Load.{fault_of, bay_refusal, text_refusal, check_refusal, compile_refusal, image_refusal, verify_refusal};
+ghost use Rattle.bay_device.specs.Load.{bay_refusal, text_refusal, check_refusal, compile_refusal, image_refusal, verify_refusal};
+ghost use Rattle.bay_device.specs.Load as spec;
 ghost use Rattle.bay_device.specs.declared.fault.LoadFault.TheVariants.{OutOfMemory};
 
 use bay_config::fault::BayFault;
@@ -25,14 +26,13 @@ pub enum LoadFault {
     OutOfMemory,
 }
 
-/// Returns the refusal with a number, which every fault but a lack of memory has, at a line.
-fn refused(code: Option<u8>, line: usize) -> LoadFault
-    requires { IsSome code }
-    ensures { result ≡ fault_of code line }
+/// Returns the fault with a number at a line; want of memory alone has no number.
+fn fault_of(code: Option<u8>, line: usize) -> LoadFault
+    ensures { result ≡ spec.fault_of code line }
 {
     match code {
         Some(code) => LoadFault::Refused { code, line },
-        None => unreachable!(),
+        None => LoadFault::OutOfMemory,
     }
 }
 
@@ -40,10 +40,7 @@ impl From<BayFault> for LoadFault {
     ghost from_gives = { λ fault e. e ≡ bay_refusal fault };
 
     fn from(fault: BayFault) -> LoadFault {
-        match fault {
-            BayFault::OutOfMemory => LoadFault::OutOfMemory,
-            _ => refused(fault.code(), 0),
-        }
+        fault_of(fault.code(), 0)
     }
 }
 
@@ -51,10 +48,7 @@ impl From<TextFault> for LoadFault {
     ghost from_gives = { λ fault e. e ≡ text_refusal fault };
 
     fn from(fault: TextFault) -> LoadFault {
-        match fault {
-            TextFault::OutOfMemory => LoadFault::OutOfMemory,
-            _ => refused(fault.code(), fault.line()),
-        }
+        fault_of(fault.code(), fault.line())
     }
 }
 
@@ -62,10 +56,7 @@ impl From<CheckFault> for LoadFault {
     ghost from_gives = { λ fault e. e ≡ check_refusal fault };
 
     fn from(fault: CheckFault) -> LoadFault {
-        match fault {
-            CheckFault::OutOfMemory => LoadFault::OutOfMemory,
-            _ => refused(fault.code(), fault.line()),
-        }
+        fault_of(fault.code(), fault.line())
     }
 }
 
@@ -73,10 +64,7 @@ impl From<CompileFault> for LoadFault {
     ghost from_gives = { λ fault e. e ≡ compile_refusal fault };
 
     fn from(fault: CompileFault) -> LoadFault {
-        match fault {
-            CompileFault::OutOfMemory => LoadFault::OutOfMemory,
-            _ => refused(fault.code(), 0),
-        }
+        fault_of(fault.code(), 0)
     }
 }
 
@@ -84,10 +72,7 @@ impl From<ImageFault> for LoadFault {
     ghost from_gives = { λ fault e. e ≡ image_refusal fault };
 
     fn from(fault: ImageFault) -> LoadFault {
-        match fault {
-            ImageFault::OutOfMemory => LoadFault::OutOfMemory,
-            _ => refused(fault.code(), 0),
-        }
+        fault_of(fault.code(), 0)
     }
 }
 
@@ -95,10 +80,7 @@ impl From<VerifyFault> for LoadFault {
     ghost from_gives = { λ fault e. e ≡ verify_refusal fault };
 
     fn from(fault: VerifyFault) -> LoadFault {
-        match fault {
-            VerifyFault::OutOfMemory => LoadFault::OutOfMemory,
-            _ => refused(fault.code(), 0),
-        }
+        fault_of(fault.code(), 0)
     }
 }
 
