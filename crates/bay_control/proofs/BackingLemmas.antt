@@ -57,12 +57,12 @@ same-choice c d e =
     let origin = and-right (beq c.on d.on) _ e in
     let cat : c.origin.cat ≡ d.origin.cat =
     (Decides-int_eq c.origin.cat d.origin.cat).0 (and-left _ _ origin) in
-    let ident : c.origin.ident.items ≡ d.origin.ident.items =
+    let ident : c.origin.ident ≡ d.origin.ident =
     same_text _ _ (sym (and-right _ _ origin)) in
     ap (λ (b : Bool). record d { on = b }) (sym on)
     ∙ ap (λ (n : ℤ). record c { origin = record { cat = n; ident = d.origin.ident } }) (sym cat)
     ∙ ap (λ (os : List ℕ). record c
-    { origin = record { cat = c.origin.cat; ident = record { items = os } } }) (sym ident)
+    { origin = record { cat = c.origin.cat; ident = os } }) (sym ident)
 
 is-choice : (c : Choice) (chosen : Option Choice) → is_choice c chosen ≡ true → chosen ≡ Some c
 is-choice c None e = absurd cc

@@ -7,6 +7,7 @@ use Rattle.bay_control.specs.Requests.{asked_choice, control_of, is_controlled, 
 use Rattle.bay_control.specs.declared.cause.AddCause.{AddCause}
 use Rattle.bay_control.specs.declared.cause.AddCause.TheVariants.{NotSupported, SelectFailed, PositionReached, BlockedByMode, BlockedByInterlocking, CommandAlreadyInExecution, OneOfNControl, ObjectNotSelected}
 use Rattle.bay_control.specs.declared.control.SwitchControl.{SwitchControl}
+use Rattle.bay_control.specs.declared.controls.Controls.{Controls}
 use Rattle.bay_control.specs.declared.request.Ask.{Ask}
 use Rattle.bay_control.specs.declared.request.Choice.{Choice}
 use Rattle.bay_control.specs.declared.request.View.{View}
@@ -19,6 +20,11 @@ pub record State : Type 0 where
   pub controls : List SwitchControl
   pub selection : Option Selection
   pub execution : Option Execution
+
+-- the controls of which the file says this, with what the code keeps of them
+abbrev pub state_of : List SwitchControl → Controls → State
+state_of controls kept =
+    record { controls = controls; selection = kept.selection; execution = kept.execution }
 
 -- what the bay file says of a switch's control
 abbrev pub control_in : Switch → SwitchControl

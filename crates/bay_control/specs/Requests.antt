@@ -64,7 +64,7 @@ abbrev pub asked_choice : Ask → Choice
 asked_choice ask = record { on = ask.on; origin = ask.origin }
 
 abbrev pub same_origin : Origin → Origin → Bool
-same_origin c d = int_eq c.cat d.cat && pointwise nat_eq c.ident.items d.ident.items
+same_origin c d = int_eq c.cat d.cat && pointwise nat_eq c.ident d.ident
 
 -- what is asked for twice is the same: position and originator
 abbrev pub same_choice : Choice → Choice → Bool

@@ -1,9 +1,12 @@
-// What the bay file says of a switch's control.
-ghost use Rattle.std.specs.Prelude.{◌≡◌, ◌+◌, nat_le};
-ghost use Rattle.bay_control.specs.Requests.{no_control};
+// What the bay file says of the switches' controls.
+ghost use Rattle.std.specs.Prelude.{◌≡◌, ◌≤◌, ◌+◌, length, nat_le};
+ghost use Rattle.bay_control.specs.Decisions.{controls_of};
+ghost use Rattle.bay_control.specs.Requests.{control_of, no_control};
 ghost use Rattle.bay_control.specs.Requests as spec;
 
-use bay_config::bay::Control;
+use arrayvec::ArrayVec;
+use bay_config::bay::{Bay, Control};
+use std::marker::Model;
 
 /// The control of a switch as the bay file defines it.
 #[derive(Clone, Copy, Debug)]
@@ -36,6 +39,57 @@ impl Default for SwitchControl {
             sbo_timeout_ms: 0,
             travel_ms: 0,
         }
+    }
+}
+
+/// What the bay file says of the control of each switch, in its order. It never changes.
+#[derive(Drop)]
+pub struct ControlTable {
+    controls: ArrayVec<SwitchControl, 32>,
+}
+
+impl Model for ControlTable {
+    ghost use Rattle.std.specs.Prelude.{List};
+    ghost use Rattle.bay_control.specs.declared.control.SwitchControl.{SwitchControl};
+
+    ghost Value = { List SwitchControl };
+
+    ghost view = { λ t. t.controls.items };
+}
+
+impl ControlTable {
+    /// Makes the table of a bay's switches, of which there may be at most 32.
+    pub fn new(bay: &Bay) -> Self
+        requires { length bay.now.switches ≤ 32 }
+        ensures { result ≡ controls_of bay.now.switches }
+    {
+        let mut controls = ArrayVec::new();
+        for switch in bay.switches.as_slice() {
+            controls.push(SwitchControl {
+                model: switch.control,
+                sbo_timeout_ms: switch.sbo_timeout_ms,
+                travel_ms: switch.travel_ms,
+            });
+        }
+        ControlTable { controls }
+    }
+
+    /// Returns the control of a switch.
+    pub(crate) fn of(&self, switch: usize) -> SwitchControl
+        ensures { result ≡ control_of self.now switch }
+    {
+        match self.controls.as_slice().get(switch) {
+            Some(control) => *control,
+            None => SwitchControl::default(),
+        }
+    }
+
+    /// Returns whether the control of a switch has enhanced security, so that its client is told
+    /// the outcome of its requests.
+    pub fn is_enhanced(&self, switch: usize) -> bool
+        ensures { result ≡ spec.is_enhanced (control_of self.now switch).model }
+    {
+        matches!(self.of(switch).model, Control::SboEnhanced)
     }
 }
 

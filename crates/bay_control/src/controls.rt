@@ -1,97 +1,52 @@
-// The controls of one bay.
-ghost use Rattle.std.specs.Prelude.{◌≡◌, ◌≤◌, [], if◌then◌else◌, None, length};
-ghost use Rattle.bay_control.specs.Decisions.{controls_at, answer_of, cancel_outcome, after_contact, without_association, execution_at, initial, operate_outcome, rows_of_operate, run_out, select_outcome, select_rows, select_with_outcome, selected_switch, selection_at};
+// What is selected and operating in one bay, and how requests are decided on it.
+ghost use Rattle.std.specs.Prelude.{◌≡◌, [], if◌then◌else◌, None};
+ghost use Rattle.bay_control.specs.Decisions.{controls_at, answer_of, cancel_outcome, execution_at, operate_outcome, rows_of_operate, run_out, select_outcome, select_rows, select_with_outcome, selected_switch, selection_at, selection_without, state_of};
 ghost use Rattle.bay_control.specs.Decisions as spec;
-ghost use Rattle.bay_control.specs.Requests.{control_of};
-ghost use Rattle.bay_control.specs.Requests as spec_requests;
 
 use crate::cause::AddCause;
-use crate::control::{SwitchControl, is_over};
+use crate::control::{ControlTable, is_over};
 use crate::request::{Ask, Choice, View, is_reached};
 use crate::selection::{
     Execution, Selection, is_chosen, is_done, is_executing, is_selected_by, is_selected_by_other,
     other_is_executing, other_is_selected,
 };
-use arrayvec::ArrayVec;
-use bay_config::bay::{Bay, Control, Switch};
+use bay_config::bay::Control;
 use bay_tree::leaf::Dbpos;
-use std::marker::Model;
 
-/// The controls of a bay's switches. Contracts see them as what the bay file says of each, the
-/// selected switch and the operating one. At most one switch is selected, by one association, and
-/// at most one is operating.
+/// What is selected and what is operating in a bay: at most one switch each. With a table of what
+/// the bay file says of each switch, contracts see it as the bay's controls.
 ///
 /// Switches are named by their index in the bay file, from 0; a missing switch has no control.
 /// Times are in milliseconds since 1970. Whatever expires at a time counts as ended at that time: a
 /// selection after `sbo_timeout_ms`, an execution after `travel_ms`. Each request first ends what
 /// has expired; `advance` reports it.
-#[derive(Drop)]
+#[derive(Clone, Copy)]
 pub struct Controls {
-    controls: ArrayVec<SwitchControl, 32>,
-    selection: Option<Selection>,
-    execution: Option<Execution>,
-}
-
-impl Model for Controls {
-    ghost use Rattle.bay_control.specs.Decisions.{State};
-
-    ghost Value = { State };
-
-    ghost view = { λ c. record {
-      controls = c.controls.items;
-      selection = c.selection;
-      execution = c.execution;
-    } };
-}
-
-/// Returns what the bay file says of each switch's control.
-fn controls_of(switches: &[Switch]) -> ArrayVec<SwitchControl, 32>
-    requires { length switches.now ≤ 32 }
-    ensures { result.items ≡ spec.controls_of switches.now }
-{
-    let mut controls = ArrayVec::new();
-    for switch in switches {
-        controls.push(SwitchControl {
-            model: switch.control,
-            sbo_timeout_ms: switch.sbo_timeout_ms,
-            travel_ms: switch.travel_ms,
-        });
-    }
-    controls
+    /// The selected switch, by one association.
+    pub selection: Option<Selection>,
+    /// The operating switch.
+    pub execution: Option<Execution>,
 }
 
 impl Controls {
-    /// Creates the controls of a bay's switches, of which there may be at most 32. Nothing is
-    /// selected, and nothing is operating.
-    pub fn new(bay: &Bay) -> Self
-        requires { length bay.now.switches ≤ 32 }
-        ensures { result ≡ initial (spec.controls_of bay.now.switches) }
+    /// Nothing is selected, and nothing is operating.
+    pub fn new() -> Self
+        ensures { result ≡ record { selection = None; execution = None } }
     {
         Controls {
-            controls: controls_of(bay.switches.as_slice()),
             selection: None,
             execution: None,
         }
     }
 
-    /// Returns the control of a switch.
-    fn control(&self, switch: usize) -> SwitchControl
-        ensures { result ≡ control_of self.now.controls switch }
-    {
-        match self.controls.as_slice().get(switch) {
-            Some(control) => *control,
-            None => SwitchControl::default(),
-        }
-    }
-
     /// Returns whether the selection has expired.
-    fn is_selection_over(&self, now: u64) -> bool
+    fn is_selection_over(&self, table: &ControlTable, now: u64) -> bool
         ensures { (if result then None else self.now.selection)
-            ≡ selection_at now self.now.controls self.now.selection }
+            ≡ selection_at now table.now self.now.selection }
     {
         match &self.selection {
             Some(selection) => {
-                let timeout = self.control(selection.switch).sbo_timeout_ms;
+                let timeout = table.of(selection.switch).sbo_timeout_ms;
                 is_over(selection.since, timeout, now)
             }
             None => false,
@@ -99,11 +54,11 @@ impl Controls {
     }
 
     /// Returns the execution that still lasts at a time.
-    fn lasting_execution(&self, now: u64) -> Option<Execution>
-        ensures { result ≡ execution_at now self.now.controls self.now.execution }
+    fn lasting_execution(&self, table: &ControlTable, now: u64) -> Option<Execution>
+        ensures { result ≡ execution_at now table.now self.now.execution }
     {
         let execution = self.execution?;
-        let travel = self.control(execution.switch).travel_ms;
+        let travel = table.of(execution.switch).travel_ms;
         if is_over(execution.start, travel, now) {
             None
         } else {
@@ -114,27 +69,29 @@ impl Controls {
     /// Ends what has expired, and returns the switch whose execution has. Returns at once in the
     /// usual case that nothing is selected and nothing is operating.
     #[inline(always)]
-    pub fn advance(&mut self, now: u64) -> Option<usize>
-        ensures run_out { result ≡ run_out now self.old.controls self.old.execution }
-        ensures after { self.new ≡ controls_at now self.old }
+    pub fn advance(&mut self, table: &ControlTable, now: u64) -> Option<usize>
+        ensures run_out { result ≡ run_out now table.now self.old.execution }
+        ensures after { state_of table.now self.new
+            ≡ controls_at now (state_of table.now self.old) }
     {
         if self.selection.is_none() && self.execution.is_none() {
             return None;
         }
-        self.end(now)
+        self.end(table, now)
     }
 
     /// Ends what has expired, and returns the switch whose execution has.
     #[inline(never)]
-    fn end(&mut self, now: u64) -> Option<usize>
-        ensures run_out { result ≡ run_out now self.old.controls self.old.execution }
-        ensures after { self.new ≡ controls_at now self.old }
+    fn end(&mut self, table: &ControlTable, now: u64) -> Option<usize>
+        ensures run_out { result ≡ run_out now table.now self.old.execution }
+        ensures after { state_of table.now self.new
+            ≡ controls_at now (state_of table.now self.old) }
     {
-        if self.is_selection_over(now) {
+        if self.is_selection_over(table, now) {
             self.selection = None;
         }
         let before = self.execution;
-        self.execution = self.lasting_execution(now);
+        self.execution = self.lasting_execution(table, now);
         match (before, self.execution) {
             (Some(ended), None) => Some(ended.switch),
             _ => None,
@@ -149,7 +106,8 @@ impl Controls {
         association: u16,
         switch: usize,
     ) -> Result<(), AddCause>
-        ensures { result ≡ answer_of (select_rows is_supported association switch self.now []) }
+        ensures { result
+            ≡ answer_of (select_rows is_supported association switch (state_of [] self.now) []) }
     {
         if !is_supported {
             return Err(AddCause::NotSupported);
@@ -172,12 +130,20 @@ impl Controls {
     /// The first of these refuses: the switch has no such control, 1; it is operating, 12; another
     /// association has selected it, 3; another switch is selected, 14. A refused select does not
     /// change the selection.
-    pub fn select(&mut self, association: u16, switch: usize, now: u64) -> Result<(), AddCause>
-        ensures answer { result ≡ (select_outcome association switch now self.old).answer }
-        ensures after { self.new ≡ (select_outcome association switch now self.old).after }
+    pub fn select(
+        &mut self,
+        table: &ControlTable,
+        association: u16,
+        switch: usize,
+        now: u64,
+    ) -> Result<(), AddCause>
+        ensures answer { result
+            ≡ (select_outcome association switch now (state_of table.now self.old)).answer }
+        ensures after { state_of table.now self.new
+            ≡ (select_outcome association switch now (state_of table.now self.old)).after }
     {
-        self.advance(now);
-        let is_supported = matches!(self.control(switch).model, Control::Sbo);
+        self.advance(table, now);
+        let is_supported = matches!(table.of(switch).model, Control::Sbo);
         self.check_select(is_supported, association, switch)?;
         self.selection = Some(Selection {
             switch,
@@ -195,16 +161,20 @@ impl Controls {
     /// Refuses like `select`, and then a test, 8.
     pub fn select_with(
         &mut self,
+        table: &ControlTable,
         association: u16,
         switch: usize,
         ask: Ask,
         now: u64,
     ) -> Result<(), AddCause>
-        ensures answer { result ≡ (select_with_outcome association switch ask now self.old).answer }
-        ensures after { self.new ≡ (select_with_outcome association switch ask now self.old).after }
+        ensures answer { result
+            ≡ (select_with_outcome association switch ask now (state_of table.now self.old)).answer
+                }
+        ensures after { state_of table.now self.new
+            ≡ (select_with_outcome association switch ask now (state_of table.now self.old)).after }
     {
-        self.advance(now);
-        let is_supported = matches!(self.control(switch).model, Control::SboEnhanced);
+        self.advance(table, now);
+        let is_supported = matches!(table.of(switch).model, Control::SboEnhanced);
         self.check_select(is_supported, association, switch)?;
         if ask.test {
             return Err(AddCause::BlockedByMode);
@@ -224,14 +194,16 @@ impl Controls {
     /// Refuses an operate that the current state of the controls or the view does not allow.
     fn check_operate(
         &self,
+        table: &ControlTable,
         association: u16,
         switch: usize,
         ask: &Ask,
         view: View,
     ) -> Result<(), AddCause>
-        ensures { result ≡ answer_of (rows_of_operate association switch ask.now view self.now) }
+        ensures { result ≡ answer_of (rows_of_operate association switch ask.now view
+            (state_of table.now self.now)) }
     {
-        let control = self.control(switch);
+        let control = table.of(switch);
         if matches!(control.model, Control::Status) {
             return Err(AddCause::NotSupported);
         }
@@ -269,6 +241,7 @@ impl Controls {
     /// operation, 10.
     pub fn operate(
         &mut self,
+        table: &ControlTable,
         association: u16,
         switch: usize,
         ask: Ask,
@@ -276,12 +249,14 @@ impl Controls {
         now: u64,
     ) -> Result<(), AddCause>
         ensures answer { result
-            ≡ (operate_outcome association switch ask view now self.old).answer }
-        ensures after { self.new
-            ≡ (operate_outcome association switch ask view now self.old).after }
+            ≡ (operate_outcome association switch ask view now (state_of table.now self.old)).answer
+                }
+        ensures after { state_of table.now self.new
+            ≡ (operate_outcome association switch ask view now (state_of table.now self.old)).after
+                }
     {
-        self.advance(now);
-        let answer = self.check_operate(association, switch, &ask, view);
+        self.advance(table, now);
+        let answer = self.check_operate(table, association, switch, &ask, view);
         if is_selected_by(&self.selection, association, switch) {
             self.selection = None;
         }
@@ -299,12 +274,20 @@ impl Controls {
     /// The first of these refuses: the switch need not be selected before it is operated, 1; it is
     /// operating, 12; the association has not selected it, 18. A refused cancel does not change the
     /// selection.
-    pub fn cancel(&mut self, association: u16, switch: usize, now: u64) -> Result<(), AddCause>
-        ensures answer { result ≡ (cancel_outcome association switch now self.old).answer }
-        ensures after { self.new ≡ (cancel_outcome association switch now self.old).after }
+    pub fn cancel(
+        &mut self,
+        table: &ControlTable,
+        association: u16,
+        switch: usize,
+        now: u64,
+    ) -> Result<(), AddCause>
+        ensures answer { result
+            ≡ (cancel_outcome association switch now (state_of table.now self.old)).answer }
+        ensures after { state_of table.now self.new
+            ≡ (cancel_outcome association switch now (state_of table.now self.old)).after }
     {
-        self.advance(now);
-        if !self.control(switch).is_sbo() {
+        self.advance(table, now);
+        if !table.of(switch).is_sbo() {
             return Err(AddCause::NotSupported);
         }
         if is_executing(self.execution, switch) {
@@ -319,7 +302,9 @@ impl Controls {
 
     /// Ends the selection of a closed association.
     pub fn drop_owner(&mut self, association: u16)
-        ensures { self.new ≡ without_association association self.old }
+        ensures { self.new ≡ record self.old {
+          selection = selection_without association self.old.selection;
+        } }
     {
         if self
             .selection
@@ -333,7 +318,9 @@ impl Controls {
     /// Takes the position of a switch. Returns whether it ends the execution of the switch.
     pub fn contact(&mut self, switch: usize, position: Dbpos) -> bool
         ensures ended { result ≡ spec.is_done switch position self.old.execution }
-        ensures after { self.new ≡ after_contact switch position self.old }
+        ensures after { self.new ≡ record self.old {
+          execution = if result then None else self.old.execution;
+        } }
     {
         let is_ended = is_done(self.execution, switch, position);
         if is_ended {
@@ -347,27 +334,5 @@ impl Controls {
         ensures { result ≡ selected_switch self.now.selection }
     {
         self.selection.as_ref().map(|s| s.switch)
-    }
-
-    /// Returns whether the control of a switch has enhanced security, so that its client is told
-    /// the outcome of its requests.
-    pub fn is_enhanced(&self, switch: usize) -> bool
-        ensures { result ≡ spec_requests.is_enhanced (control_of self.now.controls switch).model }
-    {
-        matches!(self.control(switch).model, Control::SboEnhanced)
-    }
-
-    /// Copies the controls, so that a request can change the copy and its effect be put in once the
-    /// reply is made. Does not allocate.
-    pub fn duplicate(&self) -> Controls
-        ensures { result ≡ self.now }
-    {
-        let mut controls = ArrayVec::new();
-        let _ = controls.try_extend_from_slice(self.controls.as_slice());
-        Controls {
-            controls,
-            selection: self.selection.as_ref().map(|s| s.duplicate()),
-            execution: self.execution,
-        }
     }
 }

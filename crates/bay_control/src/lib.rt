@@ -3,10 +3,10 @@
 // is seen of the switch. Nothing here takes memory.
 //
 // - `cause`: why a control is refused.
-// - `control`: what the bay file says of a switch's control.
+// - `control`: what the bay file says of the switches' controls.
 // - `request`: what a client asks for, and what a decision sees of the switch.
 // - `selection`: which switch is selected, and which is operating.
-// - `controls`: the controls of one bay.
+// - `controls`: what is selected and operating in one bay, and the requests that change it.
 // - `laws`: what holds of whole runs.
 #![tactic(auto)]
 

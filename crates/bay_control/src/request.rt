@@ -1,19 +1,68 @@
 // What a client asks for, and what a decision sees of the switch.
-ghost use Rattle.std.specs.Prelude.{◌≡◌};
+ghost use Rattle.std.specs.Prelude.{◌≡◌, ◌≤◌, length};
 ghost use Rattle.bay_control.specs.Requests.{asked_choice, same_choice, same_origin};
 ghost use Rattle.bay_control.specs.Requests as spec;
 
-use arrayvec::ArrayVec;
 use bay_tree::leaf::Dbpos;
+use std::marker::Model;
 
-/// The originator of a control (IEC 61850-7-3, Originator), as a selection keeps it. bay_mms has the
-/// one that borrows from a request.
-#[derive(Debug, Drop)]
+/// The identity of an originator, at most 64 octets (IEC 61850-7-3, orIdent). Contracts see it as
+/// its octets.
+#[derive(Clone, Copy, Debug)]
+pub struct Identity {
+    octets: [u8; 64],
+    count: usize,
+}
+
+impl Model for Identity {
+    ghost use Rattle.std.specs.Prelude.{List, ℕ, ◌≡◌, length, take};
+    ghost use Rattle.std.proofs.Common.{sym};
+    ghost use Rattle.bay_control.specs.Identities.{padded};
+
+    ghost Value = { List ℕ };
+
+    ghost view = { λ i. take i.count i.octets };
+
+    ghost inverse = { λ xs. record { octets = padded xs; count = length xs } };
+
+    // Zeros stand behind the octets, so that equal identities are the same.
+    ghost invariant = { λ i. i ≡ record {
+      octets = padded (take i.count i.octets);
+      count = length (take i.count i.octets);
+    } };
+
+    ghost inverse_ok = { λ _ h. sym h };
+}
+
+impl Identity {
+    /// Makes the identity of its octets.
+    pub fn new(octets: &[u8]) -> Self
+        requires { length octets.now ≤ 64 }
+        ensures { result ≡ octets.now }
+    {
+        let mut all = [0; 64];
+        all[..octets.len()].copy_from_slice(octets);
+        Identity {
+            octets: all,
+            count: octets.len(),
+        }
+    }
+
+    /// Returns the octets.
+    pub fn as_slice(&self) -> &[u8]
+        ensures { result.now ≡ self.now }
+    {
+        &self.octets[..self.count]
+    }
+}
+
+/// The originator of a control (IEC 61850-7-3, Originator), as a selection keeps it. bay_mms has
+/// the one that borrows from a request.
+#[derive(Clone, Copy, Debug)]
 pub struct Origin {
     /// The category (orCat).
     pub cat: i8,
-    /// The identity, at most 64 octets (orIdent).
-    pub ident: ArrayVec<u8, 64>,
+    pub ident: Identity,
 }
 
 impl Origin {
@@ -23,22 +72,10 @@ impl Origin {
     {
         self.cat == other.cat && self.ident.as_slice() == other.ident.as_slice()
     }
-
-    /// Copies the originator. Does not allocate.
-    pub(crate) fn duplicate(&self) -> Origin
-        ensures { result ≡ self.now }
-    {
-        let mut ident = ArrayVec::new();
-        let _ = ident.try_extend_from_slice(self.ident.as_slice());
-        Origin {
-            cat: self.cat,
-            ident,
-        }
-    }
 }
 
 /// What a select with value is granted for: a position and the originator.
-#[derive(Debug, Drop)]
+#[derive(Clone, Copy, Debug)]
 pub struct Choice {
     /// Whether to close the switch and not open it (ctlVal).
     pub on: bool,
@@ -52,20 +89,10 @@ impl Choice {
     {
         ask.on == self.on && ask.origin.is_same(&self.origin)
     }
-
-    /// Copies the choice. Does not allocate.
-    pub(crate) fn duplicate(&self) -> Choice
-        ensures { result ≡ self.now }
-    {
-        Choice {
-            on: self.on,
-            origin: self.origin.duplicate(),
-        }
-    }
 }
 
 /// A request to operate a switch, or to select it with value (IEC 61850-7-2, 20: Oper and SBOw).
-#[derive(Debug, Drop)]
+#[derive(Clone, Copy, Debug)]
 pub struct Ask {
     /// Whether to close the switch and not open it (ctlVal).
     pub on: bool,

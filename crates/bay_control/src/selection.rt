@@ -7,7 +7,7 @@ use crate::request::{Ask, Choice, is_reached};
 use bay_tree::leaf::Dbpos;
 
 /// A switch that an association has selected.
-#[derive(Debug, Drop)]
+#[derive(Clone, Copy, Debug)]
 pub struct Selection {
     /// The index of the switch in the bay file, from 0.
     pub switch: usize,
@@ -16,20 +16,6 @@ pub struct Selection {
     pub since: u64,
     /// What a select with value was granted for.
     pub choice: Option<Choice>,
-}
-
-impl Selection {
-    /// Copies the selection. Does not allocate.
-    pub(crate) fn duplicate(&self) -> Selection
-        ensures { result ≡ self.now }
-    {
-        Selection {
-            switch: self.switch,
-            association: self.association,
-            since: self.since,
-            choice: self.choice.as_ref().map(|c| c.duplicate()),
-        }
-    }
 }
 
 /// A switch that is operating.

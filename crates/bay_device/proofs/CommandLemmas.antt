@@ -294,104 +294,11 @@ single-if : (b : Bool) (x y : Outcome) → IsSingle x.answer → IsSingle y.answ
 single-if true x y p q = p
 single-if false x y p q = q
 
--- ---- what the bay file says of controls stays
-
-heard-timed : (choice : Option ℕ) (now a : ℕ) (is : List Indication) (s : State)
-    → AreTimed s.controls.controls
-    → AreTimed (after_indications choice now a is
-    (nothing_done (device_at now s))).done.state.controls.controls
-heard-timed choice now a is s timed =
-    ((makes-heard choice now a is s (nothing_done (device_at now s)) (begins now s)).sole
-    timed).timed
-
-with-connection-timed : (o : Option ℕ) (talk : Option Talk) (s : State)
-    → AreTimed s.controls.controls → AreTimed (with_connection o talk s).controls.controls
-with-connection-timed None talk s timed = timed
-with-connection-timed (Some place) talk s timed = timed
-
-after-timed : (a : ℕ) (left : Talk) (s : State) (why : Option Why) → AreTimed s.controls.controls
-    → AreTimed (recv_after a left s why).controls.controls
-after-timed a left s None timed = with-connection-timed (place_of a) (Some left) s timed
-after-timed a left s (Some why) timed =
-    with-connection-timed (place_of a) None (without_owner a s) timed
-
-octets-timed : (choice : Option ℕ) (now a : ℕ) (s : State) (talk : Talk) (octets : List ℕ)
-    → AreTimed s.controls.controls
-    → AreTimed (octets_outcome choice now a s talk octets).after.controls.controls
-octets-timed choice now a s talk [] timed = timed
-octets-timed choice now a s talk (octet ∷ octets) timed =
-    let is = indications talk (octet ∷ octets) in
-    let made = after_indications choice now a is (nothing_done (device_at now s)) in
-    after-timed a (left_by talk (octet ∷ octets)) made.done.state made.why
-    (heard-timed choice now a is s timed)
-
-recv-timed : (choice : Option ℕ) (now a : ℕ) (octets : List ℕ) (s : State) (talk : Option Talk)
-    → AreTimed s.controls.controls
-    → AreTimed (recv_outcome choice now a octets s talk).after.controls.controls
-recv-timed choice now a octets s None timed = timed
-recv-timed choice now a octets s (Some talk) timed = octets-timed choice now a s talk octets timed
-
-open-timed : (now a : ℕ) (s : State) (o : Option ℕ) (talk : Option Talk)
-    → AreTimed s.controls.controls → AreTimed (open_outcome now a s o talk).after.controls.controls
-open-timed now a s None talk timed = timed
-open-timed now a s (Some place) (Some talk) timed = timed
-open-timed now a s (Some place) None timed =
-    with-connection-timed (place_of a) (Some (first_talk a)) (device_at now s) timed
-
-close-timed : (now a : ℕ) (s : State) (talk : Option Talk) → AreTimed s.controls.controls
-    → AreTimed (close_outcome now a s talk).after.controls.controls
-close-timed now a s None timed = timed
-close-timed now a s (Some talk) timed =
-    with-connection-timed (place_of a) None (without_owner a (device_at now s)) timed
-
-contact-timed : (now k : ℕ) (position : Dbpos) (s : State) (o : Option Switch)
-    → AreTimed s.controls.controls
-    → AreTimed (contact_outcome now k position s o).after.controls.controls
-contact-timed now k position s None timed = timed
-contact-timed now k position s (Some switch) timed = timed
-
-input-timed : (now k : ℕ) (value : Bool) (s : State) (o : Option Bool)
-    → AreTimed s.controls.controls
-    → AreTimed (input_outcome now k value s o).after.controls.controls
-input-timed now k value s None timed = timed
-input-timed now k value s (Some before) timed = timed
-
-measure-timed : (now k : ℕ) (field : MeterField) (value : _) (s : State) (o : Option (List ℕ))
-    → AreTimed s.controls.controls
-    → AreTimed (measure_outcome now k field value s o).after.controls.controls
-measure-timed now k field value s None timed = timed
-measure-timed now k field value s (Some id) timed = timed
-
-event-timed : (choice : Option ℕ) (now : ℕ) (event : Event) (s : State)
-    → AreTimed s.controls.controls
-    → AreTimed (event_outcome choice now event s).after.controls.controls
-event-timed choice now (Open a) s timed =
-    open-timed now a s (place_of a) (connection_at (place_of a) s) timed
-event-timed choice now (Recv a octets) s timed =
-    recv-timed choice now a octets.now s (connection_at (place_of a) s) timed
-event-timed choice now (Close a) s timed = close-timed now a s (connection_at (place_of a) s) timed
-event-timed choice now (Contact k position) s timed =
-    contact-timed now k position s (slice_get s.switches k) timed
-event-timed choice now (Input k value) s timed =
-    input-timed now k value s (slice_get s.input_values k) timed
-event-timed choice now (Measure k field value) s timed =
-    measure-timed now k field value s (slice_get s.meters k) timed
-event-timed choice now Scan s timed = timed
-
-timed-if : (b : Bool) (x y : Outcome) → AreTimed x.after.controls.controls
-    → AreTimed y.after.controls.controls → AreTimed (cond b x y).after.controls.controls
-timed-if true x y p q = p
-timed-if false x y p q = q
-
 -- a step on a device whose switches take some time
 pub step-single : (now : ℕ) (event : Event) (old : State) (answer : Result Step StepFault)
     (new : State) → AreTimed old.controls.controls → Steps now event old answer new
-    → IsSingle answer × AreTimed new.controls.controls
-step-single now event old answer new timed steps = (
-  subst IsSingle (sym steps.answered)
-      (single-if (nat_lt last_moment now) _ _ tt
-      (single-if (nat_lt now old.moment) _ _ tt (event-single steps.choice now event old timed))),
-  subst (λ (s : State). AreTimed s.controls.controls) (sym steps.left)
-      (timed-if (nat_lt last_moment now) _ _ timed
-      (timed-if (nat_lt now old.moment) _ _ timed (event-timed steps.choice now event old timed))),
-)
+    → IsSingle answer
+step-single now event old answer new timed steps =
+    subst IsSingle (sym steps.answered)
+    (single-if (nat_lt last_moment now) _ _ tt
+    (single-if (nat_lt now old.moment) _ _ tt (event-single steps.choice now event old timed)))

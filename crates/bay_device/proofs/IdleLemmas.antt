@@ -14,7 +14,6 @@ use Rattle.il_compile.specs.declared.fault.CompileFault.{CompileFault}
 use Rattle.il_image.specs.Images.{Image}
 use Rattle.il_image.specs.declared.fault.ImageFault.{ImageFault}
 use Rattle.bay_control.specs.Decisions.{controls_of}
-use Rattle.bay_services.specs.Released.{AreTimed}
 use Rattle.bay_device.specs.Device.{State}
 use Rattle.bay_device.specs.Entries.{IsIdle}
 use Rattle.bay_device.specs.Load.{IsCompiled, IsLoaded, LoadsRead, initial_device, of_bay, of_checked, of_compiled}
@@ -23,7 +22,8 @@ use Rattle.bay_device.specs.declared.fault.LoadFault.TheVariants.{OutOfMemory}
 
 -- ---- which device it is
 
-by-image : (b : Bay) (p : PlainProgram) (c : Checked) (image : Result Image CompileFault) (s : State)
+by-image : (b : Bay) (p : PlainProgram) (c : Checked) (image : Result Image CompileFault)
+    (s : State)
     → checked_of b.points p ≡ Ok c → compiled_of c ≡ image → of_compiled b image ≡ Ok s
     → IsLoaded (Ok b) (IsCompiled (Ok p)) s
 by-image b p c (Ok image) s passes compiles e = record {
@@ -73,13 +73,3 @@ module _ (file : Result Bay BayFault) (IsImage : Bay → Image → Type 0) where
   loaded-idle (Ok s) loaded = let idle : IsIdle (initial_device loaded.bay loaded.image) =
       record { unselected = refl; closed = refl } in subst IsIdle (sym loaded.is) idle
   loaded-idle (Err refusal) loaded = tt
-
-  -- where each switch of the bay file that can be operated takes some time
-  pub loaded-timed : (result : Result State LoadFault)
-      → ((b : Bay) → file ≡ Ok b → AreTimed (controls_of b.switches))
-      → IfOk result (IsLoaded file IsImage)
-      → IfOk result (λ (s : State). AreTimed s.controls.controls)
-  loaded-timed (Ok s) timed loaded =
-      subst (λ (t : State). AreTimed t.controls.controls) (sym loaded.is)
-      (timed loaded.bay loaded.read)
-  loaded-timed (Err refusal) timed loaded = tt

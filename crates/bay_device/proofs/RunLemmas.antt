@@ -55,7 +55,8 @@ module _ {Does : ℕ → Event → State → Result Step StepFault → State →
 
 -- A law of each step on a device of which something is so, which then stays so.
 pub each-does : {Does : ℕ → Event → State → Result Step StepFault → State → Type 0}
-    (Did : ℕ → Event → State → Result Step StepFault → State → Type 0) (Is : State → Type 0) → ((now : ℕ) (event : Event) (old : State)
+    (Did : ℕ → Event → State → Result Step StepFault → State → Type 0) (Is : State → Type 0)
+    → ((now : ℕ) (event : Event) (old : State)
     (answer : Result Step StepFault) (new : State) → Is old → Steps now event old answer new
     → Does now event old answer new × Is new)
     → (es : List (ℕ × Event)) (old : State) (answers : List (Result Step StepFault)) (new : State)
@@ -70,7 +71,8 @@ each-does Did Is law (e ∷ es) old (answer ∷ answers) new is each =
 
 -- of each step on any device
 pub each-so : {Does : ℕ → Event → State → Result Step StepFault → State → Type 0}
-    (Did : ℕ → Event → State → Result Step StepFault → State → Type 0) → ((now : ℕ) (event : Event) (old : State) (answer : Result Step StepFault) (new : State)
+    (Did : ℕ → Event → State → Result Step StepFault → State → Type 0)
+    → ((now : ℕ) (event : Event) (old : State) (answer : Result Step StepFault) (new : State)
     → Steps now event old answer new → Does now event old answer new)
     → (es : List (ℕ × Event)) (old : State) (answers : List (Result Step StepFault)) (new : State)
     → EachStep Did es old answers new → EachStep Does es old answers new
@@ -80,21 +82,6 @@ each-so Did law es old answers new each =
           steps,
       tt,
     )) es old answers new tt each).0
-
--- what is so of each answer
-pub each-answer : (Is : Result Step StepFault → Type 0) (es : List (ℕ × Event)) (old : State)
-    (answers : List (Result Step StepFault)) (new : State)
-    → EachStep (λ now event s answer t. Is answer) es old answers new → All Is answers
-each-answer Is es old answers new each = all-of Is answers (parts es old answers new each)
-  where
-    parts : (es : List (ℕ × Event)) (old : State) (answers : List (Result Step StepFault))
-        (new : State) → EachStep (λ now event s answer t. Is answer) es old answers new
-        → AllByRecursion Is answers
-    parts [] old [] new each = tt
-    parts [] old (answer ∷ answers) new each = absurd each
-    parts (e ∷ es) old [] new each = absurd each
-    parts (e ∷ es) old (answer ∷ answers) new each =
-        (each.2, parts es each.0 answers new each.3)
 
 -- ---- what events and their answers tell
 

@@ -6,6 +6,7 @@ use Rattle.bay_nodes.specs.declared.switch.Control.{Control}
 use Rattle.bay_nodes.specs.declared.switch.Control.TheVariants.{Status, Direct, Sbo, SboEnhanced}
 use Rattle.bay_config.specs.Bay.{bay_in, bay_of, bay_of_document, document_of, bay_section, file_refusal, name_section, names_in, sections, switch_section, switches_in}
 use Rattle.bay_config.specs.Key.{Key, entry_refusal, first_of, held_refusal, is_within, key_refusal, natural, number, number_in, passes, unknown_refusal}
+use Rattle.bay_config.specs.Laws.{IsBay}
 use Rattle.bay_config.specs.Point.{names_refusal, points_of_all}
 use Rattle.bay_config.specs.Section.{items_at, items_refusal, list_checks, list_refusal, section_refusal, tables_of}
 use Rattle.bay_config.specs.Switch.{control_key, control_of, id_key, kind_key, sbo_timeout_key, switch_in, switch_keys, time_keys, travel_key}
@@ -17,6 +18,7 @@ use Rattle.bay_config.proofs.KeyLemmas.{judged-Ok}
 use Rattle.bay_control.specs.Decisions.{controls_of}
 use Rattle.bay_control.specs.Requests.{is_controlled}
 use Rattle.bay_services.specs.Released.{AreTimed}
+use Rattle.bay_device.specs.BoundBay.{IsTimedBay}
 
 -- no check of some refuses
 none-first : (check : Option BayFault) (rest : List (Option BayFault))
@@ -128,7 +130,7 @@ document-travels (Some file) bay is =
     let parts = judged-Ok (file_refusal file) (bay_in file) bay (sym is) in
     subst (λ (b : Bay). AreTimed (controls_of b.switches)) (sym parts.1) (file-travels file parts.0)
 
--- a switch of a bay file that can be operated takes some time
-pub bay-travels : (text : List ℕ) (bay : Bay) → bay_of text ≡ Ok bay
-    → AreTimed (controls_of bay.switches)
-bay-travels text bay is = document-travels (document_of text) bay is
+-- a bay that was read is so
+pub timed-bay : (text : List ℕ) (bay : Bay) → IsBay bay → bay_of text ≡ Ok bay → IsTimedBay bay
+timed-bay text bay is read =
+    record { sound = is; timed = document-travels (document_of text) bay read }

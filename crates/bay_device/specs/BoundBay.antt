@@ -2,12 +2,20 @@
 use Rattle.std.specs.Prelude.{◌≡◌, List, length, None}
 use Rattle.bay_config.specs.declared.bay.Bay.{Bay}
 use Rattle.bay_config.specs.declared.bay.Source.{Source}
+use Rattle.bay_config.specs.Laws.{IsBay}
 use Rattle.bay_control.specs.Decisions.{controls_of, initial}
 use Rattle.bay_process.specs.Layout.{AreBound, AreMetersBound, layout_of, meters_of}
 use Rattle.bay_process.specs.Told.{AreTold}
 use Rattle.bay_services.specs.Bay.{rows_shown}
+use Rattle.bay_services.specs.Released.{AreTimed}
 use Rattle.bay_services.specs.Views.{bay_view}
 use Rattle.bay_device.specs.declared.load.BoundBay.{BoundBay}
+
+-- A bay is one that a file describes, and each of its switches that can be operated takes some
+-- time.
+pub record IsTimedBay (bay : Bay) : Type 0 where
+  pub sound : IsBay bay
+  pub timed : AreTimed (controls_of bay.switches)
 
 -- A bay is bound, with nothing selected: clients see what the file says, its switches and meters
 -- have the rows that their names name, and nothing is told of a scan.

@@ -1,9 +1,9 @@
 -- What the code has made of a device so far, and how octets are heard turn by turn.
 use Rattle.std.specs.Prelude.{ℕ, ◌≡◌, List, Option, Some, None}
-use Rattle.bay_control.specs.Decisions as control
+use Rattle.bay_control.specs.Decisions.{state_of}
+use Rattle.bay_control.specs.declared.controls.Controls.{Controls}
 use Rattle.bay_connection.specs.Talk.{Indication, Talk, indications}
 use Rattle.bay_connection.specs.Feeding.{IsContinued}
-use Rattle.bay_services.specs.Bay.{left_by}
 use Rattle.bay_device.specs.Device.{State}
 use Rattle.bay_device.specs.Hearing.{Done, AllHeard, later_due, after_indications, on_heard}
 use Rattle.bay_device.specs.declared.due.Due.{Due}
@@ -19,9 +19,9 @@ done_of s made = record {
 }
 
 -- a device after what an answered PDU does
-abbrev pub with_effect : Option control.State → Option Due → State → State
-with_effect changed due s =
-    record s { controls = left_by changed s.controls; due = later_due s.due due }
+abbrev pub with_effect : Controls → Option Due → State → State
+with_effect controls due s =
+    record s { controls = state_of s.controls.controls controls; due = later_due s.due due }
 
 -- one thing that was heard, if there is one, and then what follows
 abbrev pub on_heard_if : ℕ → ℕ → Option Indication → Done → (Done → AllHeard) → AllHeard

@@ -1,6 +1,7 @@
 -- The device that a state of the code stands for, beside its clients.
 use Rattle.std.specs.Prelude.{List, Option}
 use Rattle.bay_connection.specs.Talk.{Talk}
+use Rattle.bay_services.specs.Views.{controls_left}
 use Rattle.bay_device.specs.Device.{State}
 use Rattle.bay_process.specs.Layout.{switches_of, meters_of}
 use Rattle.bay_device.specs.declared.state.DeviceState.{DeviceState}
@@ -24,7 +25,7 @@ state_view connections d = record {
   moment = d.moment;
   last_scan = d.last_scan;
   is_stale = d.is_stale;
-  controls = d.bay.controls;
+  controls = controls_left d.bay d.bay.controls;
   due = d.due;
   connections = connections;
 }

@@ -279,9 +279,11 @@ impl Device {
         })
     }
 
-    // There is a place for each association's connection. It does nothing: its callers learn this.
-    fn has_places(&self)
-        ensures { length self.now.connections ≡ 8 }
+    // There is a place for each association's connection, and each switch that can be operated
+    // takes some time. It does nothing: its callers learn this.
+    fn is_sound(&self)
+        ensures places { length self.now.connections ≡ 8 }
+        ensures timed { AreTimed self.now.controls.controls }
     {
         self.connections.are_eight();
     }
@@ -340,10 +342,8 @@ impl Device {
         // Behind them is a scan that is not too old, since which the process has not changed,
         // among the events since load.
         ensures fresh { FreshAt now event.entry self.old result self.new }
-        // There is one at most, on a device whose switches take some time, as load makes it; and
-        // that stays.
-        ensures single { AreTimed self.old.controls.controls → IsSingle result }
-        ensures timed { AreTimed self.old.controls.controls → AreTimed self.new.controls.controls }
+        // There is one at most.
+        ensures single { IsSingle result }
         // What is seen of the event leads its controls on, with such a choice.
         ensures leads { Leading now event.entry self.old result self.new }
         // So does what the octets of the event and of its answer tell.
@@ -357,7 +357,7 @@ impl Device {
             → MeansAt c now event.entry self.old result self.new }
         ensures runs { (c : Checked) → Runs c self.old → Runs c self.new }
     {
-        self.has_places();
+        self.is_sound();
         self.do_event(now, event)
     }
 
@@ -380,11 +380,8 @@ impl Device {
         // the events since load;
         ensures fresh { IfOk result
             (λ answers. EachStep FreshAt events.now self.old answers.items self.new) }
-        // there is one at most for each event, on a device whose switches take some time, as load
-        // makes it;
-        ensures single { IfOk result
-            (λ answers. AreTimed self.old.controls.controls → All IsSingle answers.items) }
-        ensures timed { AreTimed self.old.controls.controls → AreTimed self.new.controls.controls }
+        // there is one at most for each event;
+        ensures single { IfOk result (λ answers. All IsSingle answers.items) }
         // and after each scan a device that runs a text holds what the text means.
         ensures means { (c : Checked) → Runs c self.old → IfOk result
             (λ answers. EachStep (MeansAt c) events.now self.old answers.items self.new) }
@@ -399,7 +396,7 @@ impl Device {
             (λ answers. AllOperate (bay_of self.old) self.old.connections events.now
             answers.items) }
     {
-        self.has_places();
+        self.is_sound();
         let mut answers = Vec::with_capacity(self.alloc, events.len())?;
         for (now, event) in events {
             let answer = self.step(*now, *event);

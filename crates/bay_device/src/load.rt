@@ -3,10 +3,8 @@ ghost use Rattle.std.specs.Prelude.{◌≡◌, ◌≢◌, ℕ, [], None, Ok, Err
 ghost use Rattle.bay_process.specs.Controls.{AreAllControlRows, HaveSelected};
 ghost use Rattle.bay_process.specs.Layout.{layout_of};
 ghost use Rattle.bay_services.specs.Bay.{rows_shown};
-ghost use Rattle.bay_services.specs.Released.{AreTimed};
 ghost use Rattle.bay_base.specs.Exact.{Gives};
 ghost use Rattle.bay_config.specs.Bay.{bay_of};
-ghost use Rattle.bay_config.specs.Laws.{IsBay};
 ghost use Rattle.il_text.specs.Listing.{PlainProgram};
 ghost use Rattle.il_text.specs.Reading.{program_of};
 ghost use Rattle.il_text.specs.Views.{plain_program};
@@ -22,7 +20,7 @@ ghost use Rattle.il_verify.specs.declared.fault.VerifyFault.{VerifyFault};
 ghost use Rattle.bay_device.specs.Accepts.{IsRight};
 ghost use Rattle.bay_device.specs.Entries.{IsIdle};
 ghost use Rattle.bay_device.specs.Load.{IsCompiled, IsLoaded, initial_device, checked_in, of_compiled, of_checked, of_program, of_bay, verify_refusal, Loads, LoadsImage, LoadsRead};
-ghost use Rattle.bay_device.specs.BoundBay.{IsBoundBay};
+ghost use Rattle.bay_device.specs.BoundBay.{IsBoundBay, IsTimedBay};
 ghost use Rattle.bay_device.specs.Meaning.{Runs};
 ghost use Rattle.bay_device.specs.StateView.{state_view};
 ghost use Rattle.bay_device.specs.declared.fault.LoadFault.TheVariants.{OutOfMemory, Refused};
@@ -35,6 +33,7 @@ use bay_base::listing::Listing;
 use bay_base::text::Text;
 use bay_config::bay::{Bay, Point, Source};
 use bay_config::read::read_bay;
+use bay_control::control::ControlTable;
 use bay_control::controls::Controls;
 use bay_mms::names::NameTexts;
 use bay_process::bind::falses;
@@ -95,11 +94,11 @@ fn take_items<T>(alloc: Global, list: &mut Listing<T>) -> Vec<T>
 
 /// Makes a bay with nothing selected, whose switches and meters are bound to the rows of its tree.
 fn bound_bay(alloc: Global, mut bay: Box<Bay>, writes: &[Source]) -> Result<BoundBay, AllocError>
-    requires { IsBay bay.value }
+    requires { IsTimedBay bay.value }
     ensures { IfOk result (IsBoundBay bay.value writes.now) }
 {
     let nodes = node_names(alloc, &bay)?;
-    let controls = Controls::new(&bay);
+    let control_table = ControlTable::new(&bay);
     let rows = take_items(alloc, &mut bay.rows);
     let switches = take_items(alloc, &mut bay.switches);
     let mut bound = bound_rows(alloc, rows, switches, bay.meters.as_slice(), &nodes, writes)?;
@@ -124,7 +123,8 @@ fn bound_bay(alloc: Global, mut bay: Box<Bay>, writes: &[Source]) -> Result<Boun
             names,
             switches: Listing::new(bound.switches),
             control_rows,
-            controls,
+            control_table,
+            controls: Controls::new(),
         },
         scan_max_age_ms,
         inputs,
@@ -139,7 +139,7 @@ fn state_of(
     bay: Box<Bay>,
     verified: Verified,
 ) -> Result<Box<DeviceState>, AllocError>
-    requires bay { IsBay bay.value }
+    requires bay { IsTimedBay bay.value }
     requires verified { IsVerified bay.value.points verified }
     ensures { IfOk result (λ state. state_view (replicate 8 None) state.value
         ≡ initial_device bay.value verified) }
@@ -176,7 +176,7 @@ fn state_of(
 
 /// Makes the device from a bay and a verified image.
 fn device_of(alloc: Global, bay: Box<Bay>, verified: Verified) -> Result<Device, AllocError>
-    requires bay { IsBay bay.value }
+    requires bay { IsTimedBay bay.value }
     requires verified { IsVerified bay.value.points verified }
     ensures { IfOk result (λ device. device ≡ initial_device bay.value verified) }
 {
@@ -201,7 +201,7 @@ fn verified_for(alloc: Global, image: Image, points: &[Point]) -> Result<Verifie
 
 /// Makes the device from a bay and a checked program.
 fn load_checked(alloc: Global, bay: Box<Bay>, typed: Typed) -> Result<Device, LoadFault>
-    requires bay { IsBay bay.value }
+    requires bay { IsTimedBay bay.value }
     requires checked { (program : PlainProgram)
         × (checked_of bay.value.points program ≡ Ok (checked_view typed)) }
     ensures device { Gives OutOfMemory (λ device. device) result
@@ -216,7 +216,7 @@ fn load_checked(alloc: Global, bay: Box<Bay>, typed: Typed) -> Result<Device, Lo
 
 /// Makes the device from a bay and a program.
 fn load_program(alloc: Global, bay: Box<Bay>, program: &Program<'_>) -> Result<Device, LoadFault>
-    requires { IsBay bay.value }
+    requires { IsTimedBay bay.value }
     ensures device { Gives OutOfMemory (λ device. device) result
         (of_checked bay.value (checked_of bay.value.points (plain_program program.now))) }
     ensures runs { IfOk result
@@ -239,7 +239,7 @@ fn program_in<'a>(alloc: Global, logic: &'a str) -> Result<Program<'a>, TextFaul
 
 /// Makes the device from a bay and the text of a program.
 fn load_text(alloc: Global, bay: Box<Bay>, logic: &str) -> Result<Device, LoadFault>
-    requires { IsBay bay.value }
+    requires { IsTimedBay bay.value }
     ensures device { Gives OutOfMemory (λ device. device) result
         (of_program bay.value (program_of logic.now)) }
     ensures runs { IfOk result
@@ -279,19 +279,17 @@ pub fn load(alloc: Global, bay: &str, logic: &str) -> Result<Device, LoadFault>
         (λ device. (c : Checked) × (checked_in (bay_of bay.now) (program_of logic.now) ≡ Ok c)
         × Runs c device) }
     // It is the device of the bay file and of the image to which the text is compiled, before its
-    // first event: nothing is selected, and no association is open; each switch that can be
-    // operated takes some time.
+    // first event: nothing is selected, and no association is open.
     ensures loaded { IfOk result
         (IsLoaded (bay_of bay.now) (IsCompiled (program_of logic.now))) }
     ensures idle { IfOk result IsIdle }
-    ensures timed { IfOk result (λ device. AreTimed device.controls.controls) }
 {
     load_texts(alloc, bay, logic)
 }
 
 /// Makes the device from a bay and an image.
 fn load_decoded(alloc: Global, bay: Box<Bay>, image: Image) -> Result<Device, LoadFault>
-    requires { IsBay bay.value }
+    requires { IsTimedBay bay.value }
     ensures ok { IfOk result (λ device. LoadsImage bay.value image (Ok device)) }
     ensures refused { IfErr result (λ e. e ≢ OutOfMemory → LoadsImage bay.value image (Err e)) }
 {
@@ -302,7 +300,7 @@ fn load_decoded(alloc: Global, bay: Box<Bay>, image: Image) -> Result<Device, Lo
 
 /// Makes the device from a bay and the octets of an image.
 fn load_octets(alloc: Global, bay: Box<Bay>, image: &[u8]) -> Result<Device, LoadFault>
-    requires { IsBay bay.value }
+    requires { IsTimedBay bay.value }
     ensures ok { IfOk result (λ device. LoadsRead bay.value (image_spelled image.now) (Ok device)) }
     ensures refused { IfErr result
         (λ e. e ≢ OutOfMemory → LoadsRead bay.value (image_spelled image.now) (Err e)) }
@@ -320,12 +318,10 @@ pub fn load_image(alloc: Global, bay: &str, image: &[u8]) -> Result<Device, Load
     ensures refused { IfErr result
         (λ e. e ≢ OutOfMemory → Loads (bay_of bay.now) (image_spelled image.now) (Err e)) }
     // It is the device of the bay file and of the image that the octets spell, before its first
-    // event: nothing is selected, and no association is open; each switch that can be operated
-    // takes some time.
+    // event: nothing is selected, and no association is open.
     ensures loaded { IfOk result
         (IsLoaded (bay_of bay.now) (λ _ program. image_spelled image.now ≡ Ok program)) }
     ensures idle { IfOk result IsIdle }
-    ensures timed { IfOk result (λ device. AreTimed device.controls.controls) }
 {
     let read = read_bay(alloc, bay)?;
     let boxed = Box::new(alloc, read)?;

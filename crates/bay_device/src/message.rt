@@ -4,7 +4,6 @@ ghost use Rattle.bay_assoc.specs.Hears.{association_terms};
 ghost use Rattle.bay_connection.specs.Talk.{Talk, sending, terms_of};
 ghost use Rattle.bay_mms.specs.Sizes.{IsPduSize};
 ghost use Rattle.bay_services.specs.Answers.{pdu_answer};
-ghost use Rattle.bay_services.specs.Bay.{left_by};
 ghost use Rattle.bay_device.specs.Device.{bay_of};
 ghost use Rattle.bay_device.specs.Hearing.{answered_with, later_due, after_pdu, sending_if, sent_on};
 ghost use Rattle.bay_device.specs.Hearing as spec;
@@ -159,20 +158,20 @@ fn reply(
     due_if(connection, association, answer.ending)
 }
 
-/// Answers a PDU. `changed` becomes the controls after it, if it changes them. Changes nothing else
-/// but what is made: if an allocation fails, more may have been added to it.
+/// Answers a PDU. `controls` becomes the controls after it. Changes nothing else but what is made:
+/// if an allocation fails, more may have been added to it.
 fn answer(
     alloc: Global,
     state: &DeviceState,
     client: Client,
     connection: &Connection,
-    changed: &mut Option<Controls>,
+    controls: &mut Controls,
     made: &mut Made,
 ) -> Result<Option<Due>, AllocError>
     requires open { IsSome (association_terms connection.now.talk.phase) }
     requires sized { IsPduSize client.size }
     ensures ok { IfOk result (λ due. (connections : List (Option Talk))
-        → done_of (with_effect changed.new due (state_view connections state.now)) made.new
+        → done_of (with_effect controls.new due (state_view connections state.now)) made.new
         ≡ answered_with client.association (terms_of connection.now.talk)
         (pdu_answer client connection.now.pdu (bay_of (state_view connections state.now)))
         (done_of (state_view connections state.now) made.old)) }
@@ -182,26 +181,17 @@ fn answer(
     ensures decisions { take (length made.old.decisions.items) made.new.decisions.items
         ≡ made.old.decisions.items }
 {
-    let answer = state.bay.answer(alloc, client, connection.pdu(), changed)?;
+    let answer = state.bay.answer(alloc, client, connection.pdu(), controls)?;
     reply(connection, client.association, answer, made)
 }
 
-/// Replaces the controls by those that a request has left, if it has changed them.
-fn replace_controls(controls: &mut Controls, changed: &Option<Controls>)
-    ensures { controls.new ≡ left_by changed.now controls.old }
-{
-    if let Some(after) = changed {
-        *controls = after.duplicate();
-    }
-}
-
 /// Puts in what an answered PDU does: the controls after it, and what is due of a new execution.
-fn put_in(state: &mut DeviceState, changed: &Option<Controls>, due: Option<Due>)
+fn put_in(state: &mut DeviceState, controls: Controls, due: Option<Due>)
     ensures { (connections : List (Option Talk))
         → state_view connections state.new
-        ≡ with_effect changed.now due (state_view connections state.old) }
+        ≡ with_effect controls due (state_view connections state.old) }
 {
-    replace_controls(&mut state.bay.controls, changed);
+    state.bay.controls = controls;
     replace_due(&mut state.due, due);
 }
 
@@ -234,10 +224,10 @@ pub fn message(
     let sent = made.sent.len();
     let commands = made.commands.len();
     let decisions = made.decisions.len();
-    let mut changed = None;
-    match answer(alloc, state, client, connection, &mut changed, made) {
+    let mut controls = state.bay.controls;
+    match answer(alloc, state, client, connection, &mut controls, made) {
         Ok(due) => {
-            put_in(state, &changed, due);
+            put_in(state, controls, due);
             Ok(())
         }
         Err(fault) => {

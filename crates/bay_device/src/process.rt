@@ -37,8 +37,8 @@ pub fn contact(bay: &mut ServedBay, now: u64, switch: usize, position: Dbpos) ->
     take_position(&mut bay.tree, &rows, position, now)
 }
 
-/// Takes a measured value of the meter at an index. Returns whether the value or its quality
-/// changed.
+/// Takes a measured value of the meter at an index, which has these rows; the contract alone reads
+/// the index. Returns whether the value or its quality changed.
 pub fn measure(
     bay: &mut ServedBay,
     now: u64,

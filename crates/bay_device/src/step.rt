@@ -90,7 +90,7 @@ impl DeviceState {
         ensures meters { self.new.meters ≡ self.old.meters }
         ensures layout { layout_of self.new.bay.tree ≡ layout_of self.old.bay.tree }
     {
-        let over = self.bay.controls.advance(now);
+        let over = self.bay.controls.advance(&self.bay.control_table, now);
         self.moment = now;
         match over {
             Some(_) => missed(&mut self.due),

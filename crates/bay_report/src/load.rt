@@ -2,7 +2,6 @@
 ghost use Rattle.std.specs.Prelude.{◌≡◌, ◌≢◌, Ok, Err, IfOk, IfErr};
 ghost use Rattle.bay_base.specs.Exact.{Gives};
 ghost use Rattle.bay_config.specs.Bay.{bay_of};
-ghost use Rattle.bay_services.specs.Released.{AreTimed};
 ghost use Rattle.il_image.specs.Decoding.{image_spelled};
 ghost use Rattle.bay_device.specs.Entries.{IsIdle};
 ghost use Rattle.bay_device.specs.Load.{IsCompiled, IsLoaded, of_bay, Loads};
@@ -33,10 +32,8 @@ fn refuse_logic(alloc: Global, bay: &str) -> Result<Device, LoadFault>
     ensures device { Gives LoadFault.OutOfMemory (λ device. device) result
         (of_bay (bay_of bay.now) (Err (BadToken 1))) }
     ensures loaded { IfOk result (IsLoaded (bay_of bay.now) (IsCompiled (Err (BadToken 1)))) }
-    // Nothing is selected, and no association is open; each switch that can be operated takes some
-    // time.
+    // Nothing is selected, and no association is open.
     ensures idle { IfOk result IsIdle }
-    ensures timed { IfOk result (λ device. AreTimed device.controls.controls) }
 {
     let _bay = read_bay(alloc, bay)?;
     Err(LoadFault::from(TextFault::BadToken { line: 1 }))
@@ -47,10 +44,8 @@ fn load_logic(alloc: Global, bay: &str, logic: &[u8]) -> Result<Device, LoadFaul
     ensures device { Gives LoadFault.OutOfMemory (λ device. device) result
         (of_bay (bay_of bay.now) (text_of logic.now)) }
     ensures loaded { IfOk result (IsLoaded (bay_of bay.now) (IsCompiled (text_of logic.now))) }
-    // Nothing is selected, and no association is open; each switch that can be operated takes some
-    // time.
+    // Nothing is selected, and no association is open.
     ensures idle { IfOk result IsIdle }
-    ensures timed { IfOk result (λ device. AreTimed device.controls.controls) }
 {
     match std::str::from_utf8(logic) {
         Ok(logic) => load(alloc, bay, logic),
@@ -64,10 +59,8 @@ pub fn load_octets(alloc: Global, bay: &[u8], logic: &[u8]) -> Result<Device, Lo
     ensures device { Gives LoadFault.OutOfMemory (λ device. device) result
         (load_of bay.now logic.now) }
     ensures loaded { IfOk result (IsLoaded (file_of bay.now) (IsCompiled (text_of logic.now))) }
-    // Nothing is selected, and no association is open; each switch that can be operated takes some
-    // time.
+    // Nothing is selected, and no association is open.
     ensures idle { IfOk result IsIdle }
-    ensures timed { IfOk result (λ device. AreTimed device.controls.controls) }
 {
     match std::str::from_utf8(bay) {
         Ok(bay) => load_logic(alloc, bay, logic),
@@ -83,10 +76,8 @@ fn load_image_octets(alloc: Global, bay: &[u8], image: &[u8]) -> Result<Device, 
         (λ e. e ≢ OutOfMemory → Loads (file_of bay.now) (image_spelled image.now) (Err e)) }
     ensures loaded { IfOk result
         (IsLoaded (file_of bay.now) (λ _ code. image_spelled image.now ≡ Ok code)) }
-    // Nothing is selected, and no association is open; each switch that can be operated takes some
-    // time.
+    // Nothing is selected, and no association is open.
     ensures idle { IfOk result IsIdle }
-    ensures timed { IfOk result (λ device. AreTimed device.controls.controls) }
 {
     match std::str::from_utf8(bay) {
         Ok(bay) => load_image(alloc, bay, image),
@@ -105,10 +96,8 @@ pub fn load_program(
     ensures refused { IfErr result (λ e. MayLoadTo bay.now form program.now (Err e)) }
     // It is the device of the bay as which the file reads, and of the program's image.
     ensures loaded { IfOk result (IsLoaded (file_of bay.now) (IsImageOf form program.now)) }
-    // Nothing is selected, and no association is open; each switch that can be operated takes some
-    // time.
+    // Nothing is selected, and no association is open.
     ensures idle { IfOk result IsIdle }
-    ensures timed { IfOk result (λ device. AreTimed device.controls.controls) }
 {
     match form {
         Form::Logic => load_octets(alloc, bay, program),

@@ -15,8 +15,8 @@
 -- that is offered once more; which of these take replies.
 --
 -- `Served`: why a turn is refused, and what one that is done promises: there is a script with which
--- the calls, the server after it and what it tells are the turn's. `Serving`: what holds of every
--- server. `Room`: the room taken at first. `Code` numbers the closings and faults.
+-- the calls, the server after it and what it tells are the turn's. `Room`: the room taken at first.
+-- `Code` numbers the closings and faults.
 
 -- What public clauses cite of the crates below.
 pub use Rattle.bay_device.specs.Device
@@ -29,6 +29,5 @@ pub mod Code
 pub mod Offers
 pub mod Room
 pub mod Served
-pub mod Serving
 pub mod Standings
 pub mod Turns

@@ -1,6 +1,5 @@
 // A device with what is still to be sent to each of its clients.
 ghost use Rattle.std.specs.Prelude.{◌≡◌, ℕ, ◌+◌, ◌<◌, ◌≤◌, ◌++◌, [], None, length, drop, replicate, IfSome, IfOk, IfErr, if◌then◌else◌};
-ghost use Rattle.bay_services.specs.Released.{AreTimed};
 ghost use Rattle.bay_device.specs.Commands.{IsSingle};
 ghost use Rattle.bay_device.specs.Outcomes.{outcome};
 ghost use Rattle.bay_device.specs.Steps.{IsOutcome, IsWithoutOctets, Steps};
@@ -42,14 +41,12 @@ impl Model for Server {
 
     ghost coded = { Prim.hlevel codes };
 
-    ghost use Rattle.bay_serve.specs.Serving.{IsServing};
-
     ghost view = { λ s. record {
       device = s.parts.value.device;
       queues = s.parts.value.queues.items;
     } };
 
-    ghost invariant = { λ s. IsServing s.parts.value.device s.parts.value.queues.items };
+    ghost invariant = { λ s. length s.parts.value.queues.items ≡ 8 };
 }
 
 /// Creates eight empty queues.
@@ -64,12 +61,10 @@ fn make_queues(alloc: Global) -> Result<Vec<Queue>, AllocError>
 }
 
 impl Server {
-    /// Creates a server of a device with no open association, in which each switch that can be
-    /// operated takes some time, as loading makes it. Allocates the room of eight queues; if that
-    /// fails, gives the device back.
+    /// Creates a server of a device with no open association. Allocates the room of eight queues;
+    /// if that fails, gives the device back.
     pub fn new(alloc: Global, device: Device) -> Result<Self, AllocFailed<Device>>
         requires closed { device.connections ≡ replicate 8 None }
-        requires timed { AreTimed device.controls.controls }
         ensures ok { IfOk result
             (λ server. server ≡ record { device = device; queues = replicate 8 [] }) }
         ensures err { IfErr result (λ refused. refused.value ≡ device) }

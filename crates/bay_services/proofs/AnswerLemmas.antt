@@ -22,7 +22,7 @@ asked-is (Ok r) held gives known = gives
 asked-is (Err e) held gives known =
     ⊎_elim (λ (is : e ≡ OutOfMemory). absurd (known (ap Err is))) (λ (is : held ≡ Err e). is) gives
 
-pub answered_as : (r : Result Answer AllocError) (c : Client) (o : Option State) (b : Bay)
+pub answered_as : (r : Result Answer AllocError) (c : Client) (o : State) (b : Bay)
     (request : Result Request MmsFault) (held : Result Message MmsFault)
     → Gives OutOfMemory message request held
     → IfOk r (λ _. request ≢ Err OutOfMemory)
@@ -33,7 +33,7 @@ answered_as (Ok a) c o b request held gives known told =
     subst (λ (x : Result Message MmsFault). AnswersAs a o b (answer_of c b x))
     (sym (asked-is request held gives known)) told
 
-pub sent_short : (r : Result Answer AllocError) (c : Client) (o : Option State) (b : Bay)
+pub sent_short : (r : Result Answer AllocError) (c : Client) (o : State) (b : Bay)
     (request : Result Request MmsFault) → c.size ≤ 65000
     → IfOk r (λ a. AnswersAs a o b (answer_of c b (read_as request)))
     → IfOk r (λ a. AreShort a.sent.items)
@@ -41,7 +41,7 @@ sent_short (Err e) c o b request most told = tt
 sent_short (Ok a) c o b request most told =
     subst AreShort (sym told.sent) (answer-short c b (read_as request) most)
 
-pub end_short : (r : Result Answer AllocError) (c : Client) (o : Option State) (b : Bay)
+pub end_short : (r : Result Answer AllocError) (c : Client) (o : State) (b : Bay)
     (request : Result Request MmsFault) → c.size ≤ 65000
     → IfOk r (λ a. AnswersAs a o b (answer_of c b (read_as request)))
     → IfOk r (λ a. IsShort a.ending)

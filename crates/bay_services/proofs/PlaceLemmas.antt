@@ -80,24 +80,6 @@ pub target-later : (k count less : ℕ) (name : List ℕ) → count ≡ suc less
 target-later k count less name one is =
     ap (λ n. target_from k n name) one ∙ ap (λ p. or_later k p (target_from (k + 1) less name)) is
 
-within-later : (k count : ℕ) (t : Option Target) → IfSome t (λ t. t.switch < (k + 1) + count)
-    → IfSome t (λ t. t.switch < k + suc count)
-within-later k count None lt = tt
-within-later k count (Some t) lt = omega (arith, lt)
-
-within-if : (k count : ℕ) (name : List ℕ) (part : Option ControlPart)
-    → IfSome (target_from (k + 1) count name) (λ t. t.switch < (k + 1) + count)
-    → IfSome (or_later k part (target_from (k + 1) count name)) (λ t. t.switch < k + suc count)
-within-if k count name (Some part) later = omega arith
-within-if k count name None later = within-later k count (target_from (k + 1) count name) later
-
--- the place of a target is one of the switches
-pub target-within : (k count : ℕ) (name : List ℕ)
-    → IfSome (target_from k count name) (λ t. t.switch < k + count)
-target-within k zero name = tt
-target-within k (suc count) name =
-    within-if k count name (part_at k name) (target-within (k + 1) count name)
-
 -- ---- rows and their layout
 
 pub found-named : (rows : List Row) (name : List ℕ) (row : ℕ) → place_of rows name ≡ Some row
@@ -112,16 +94,6 @@ name-here rows row = get_or-map (λ (r : Row). r.name) rows row (record { name =
 pub target-there : (count total : ℕ) (name : List ℕ) → count ≡ total
     → target_of count name ≡ target_of total name
 target-there count total name is = ap (λ n. target_of n name) is
-
-pub switch-there : (count total : ℕ) (name : List ℕ) (t : Option Target) → t ≡ target_of count name
-    → count ≡ total → IfSome t (λ t. t.switch < total)
-switch-there count total name t is same =
-    let bound : 0 + count ≡ total = omega (arith, same) in
-    let within : IfSome (target_from 0 count name) (λ t. t.switch < 0 + count) =
-    target-within 0 count name in
-    let here : IfSome t (λ t. t.switch < 0 + count) =
-    subst (λ (o : Option Target). IfSome o (λ t. t.switch < 0 + count)) (sym is) within in
-    subst (λ (n : ℕ). IfSome t (λ t. t.switch < n)) bound here
 
 -- ---- a tree of the same layout
 

@@ -17,7 +17,7 @@ use Rattle.bay_mms.specs.declared.response.ErrorClass.TheVariants.{Resource}
 use Rattle.bay_mms.specs.Writing.{Adds, text_within}
 use Rattle.bay_services.specs.Answers.{Answered, read_done, response_answer, plain_answer, told_answer, within, write_done}
 use Rattle.bay_control.specs.Decisions.{State}
-use Rattle.bay_services.specs.Bay.{Bay, left_by, with_controls}
+use Rattle.bay_services.specs.Bay.{Bay, with_controls}
 use Rattle.bay_services.specs.Reads.{Reading}
 use Rattle.bay_services.specs.Replies.{fitting}
 use Rattle.bay_services.specs.Views.{AnswersAs}
@@ -69,14 +69,15 @@ write-over c id b w was is none = within-over c id b (write_text id w.results) _
 -- ---- answers
 
 pub said_as : (r : Result Answer AllocError) (p : List ℕ) (b : Bay) (x : Answered)
-    → IfOk r (λ a. (d : Bay) → AnswersAs a None d (plain_answer p d)) → x ≡ plain_answer p b
-    → IfOk r (λ a. AnswersAs a None b x)
-said_as (Ok a) p b x told is = subst (AnswersAs a None b) (sym is) (told b)
+    → IfOk r (λ a. (d : Bay) → AnswersAs a d.controls d (plain_answer p d)) → x ≡ plain_answer p b
+    → IfOk r (λ a. AnswersAs a b.controls b x)
+said_as (Ok a) p b x told is = subst (AnswersAs a b.controls b) (sym is) (told b)
 said_as (Err e) p b x told is = tt
 
-pub said-with : (r : Result Answer AllocError) (p : List ℕ) (ds : List Decision) (o : Option State)
-    (b : Bay) (x : Answered) → IfOk r (λ a. (d : Bay) → AnswersAs a None d (told_answer p ds d))
-    → x ≡ told_answer p ds (with_controls (left_by o b.controls) b)
+pub said-with : (r : Result Answer AllocError) (p : List ℕ) (ds : List Decision) (o : State)
+    (b : Bay) (x : Answered)
+    → IfOk r (λ a. (d : Bay) → AnswersAs a d.controls d (told_answer p ds d))
+    → x ≡ told_answer p ds (with_controls o b)
     → IfOk r (λ a. AnswersAs a o b x)
 said-with (Ok a) p ds o b x told is =
     let plain = told b in
@@ -90,10 +91,11 @@ said-with (Ok a) p ds o b x told is =
 said-with (Err e) p ds o b x told is = tt
 
 pub said_alike : (r : Result Answer AllocError) (p q : List ℕ) → p ≡ q
-    → IfOk r (λ a. (d : Bay) → AnswersAs a None d (plain_answer p d))
-    → IfOk r (λ a. (d : Bay) → AnswersAs a None d (plain_answer q d))
+    → IfOk r (λ a. (d : Bay) → AnswersAs a d.controls d (plain_answer p d))
+    → IfOk r (λ a. (d : Bay) → AnswersAs a d.controls d (plain_answer q d))
 said_alike r p q is told =
-    subst (λ (s : List ℕ). IfOk r (λ a. (d : Bay) → AnswersAs a None d (plain_answer s d))) is told
+    subst (λ (s : List ℕ). IfOk r (λ a. (d : Bay) → AnswersAs a d.controls d (plain_answer s d))) is
+    told
 
 pub responded-fits : (c : Client) (id : ℕ) (b : Bay) (pdu found : List ℕ) (was : Option (List ℕ))
     → was ≡ fitting c.size pdu → was ≡ Some found
@@ -220,7 +222,7 @@ all_three (Ok done) P Q S R p q s f = f p q s
 all_three (Err e) P Q S R p q s f = tt
 
 pub answered_from : (r : Result Answer AllocError) (x : Bay → Answered) (b : Bay) (y : Answered)
-    → IfOk r (λ a. (d : Bay) → AnswersAs a None d (x d)) → y ≡ x b
-    → IfOk r (λ a. AnswersAs a None b y)
-answered_from (Ok a) x b y told is = subst (AnswersAs a None b) (sym is) (told b)
+    → IfOk r (λ a. (d : Bay) → AnswersAs a d.controls d (x d)) → y ≡ x b
+    → IfOk r (λ a. AnswersAs a b.controls b y)
+answered_from (Ok a) x b y told is = subst (AnswersAs a b.controls b) (sym is) (told b)
 answered_from (Err e) x b y told is = tt

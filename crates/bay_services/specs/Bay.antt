@@ -42,8 +42,3 @@ seen_rows b controls =
 -- a bay with these controls
 abbrev pub with_controls : State → Bay → Bay
 with_controls controls b = record b { controls = controls }
-
--- the controls that a request has left, where it has changed them
-abbrev pub left_by : Option State → State → State
-left_by None before = before
-left_by (Some after) before = after

@@ -45,7 +45,7 @@ view_of c k b = record {
 
 -- who asks, by what was written
 abbrev pub origin_of : Origin → control.Origin
-origin_of o = record { cat = o.or_cat; ident = record { items = o.or_ident } }
+origin_of o = record { cat = o.or_cat; ident = o.or_ident }
 
 -- what is asked for by what was written
 abbrev pub ask_of : Operate → Ask

@@ -4,16 +4,21 @@ use Rattle.bay_mms.specs.RequestViews.{message}
 use Rattle.bay_mms.specs.Requests.{Message}
 use Rattle.bay_mms.specs.declared.fault.MmsFault.{MmsFault}
 use Rattle.bay_mms.specs.declared.request.Request.{Request}
-use Rattle.bay_control.specs.Decisions.{State}
+use Rattle.bay_control.specs.Decisions.{State, state_of}
+use Rattle.bay_control.specs.declared.controls.Controls.{Controls}
 use Rattle.bay_process.specs.Layout.{switches_of}
 use Rattle.bay_services.specs.Answers.{Answered}
-use Rattle.bay_services.specs.Bay.{Bay, left_by, with_controls}
+use Rattle.bay_services.specs.Bay.{Bay, with_controls}
 use Rattle.bay_services.specs.Reads.{Reading}
 use Rattle.bay_services.specs.Writes.{Writing}
 use Rattle.bay_services.specs.declared.answer.Answer.{Answer}
 use Rattle.bay_services.specs.declared.answer.Decision.{Decision}
 use Rattle.bay_services.specs.declared.bay.ServedBay.{ServedBay}
 use Rattle.bay_services.specs.declared.writing.Written.{Written}
+
+-- the controls of a bay, where these are selected and operating
+abbrev pub controls_left : ServedBay → Controls → State
+controls_left b controls = state_of b.control_table controls
 
 -- a bay that is served, as definitions see it
 abbrev pub bay_view : ServedBay → Bay
@@ -24,21 +29,21 @@ bay_view b = record {
   revision = b.revision;
   switches = switches_of b.switches;
   rows = b.tree;
-  controls = b.controls;
+  controls = controls_left b b.controls;
 }
 
 -- what has been read and written of a list of variables, with the controls that they have left
-abbrev pub reading : ServedBay → Option State → List Decision → List ℕ → Reading
-reading b changed decisions results = record {
-  controls = left_by changed b.controls;
+abbrev pub reading : ServedBay → Controls → List Decision → List ℕ → Reading
+reading b controls decisions results = record {
+  controls = controls_left b controls;
   decisions = decisions;
   results = results;
 }
 
-abbrev pub writing : ServedBay → Option State → Written → Writing
-writing b changed w =
+abbrev pub writing : ServedBay → Controls → Written → Writing
+writing b controls w =
     record {
-      controls = left_by changed b.controls;
+      controls = controls_left b controls;
       results = w.response;
       reports = w.reports.items;
       commands = w.commands.items;
@@ -46,14 +51,14 @@ writing b changed w =
       ending = w.ending;
     }
 
--- The answer is this, and so is the bay once the changed controls are put in.
-pub record AnswersAs (answer : Answer) (changed : Option State) (before : Bay) (answered : Answered)
+-- The answer is this, and so is the bay once its controls are these.
+pub record AnswersAs (answer : Answer) (controls : State) (before : Bay) (answered : Answered)
     : Type 0 where
   pub sent : answer.sent.items ≡ answered.sent
   pub commands : answer.commands.items ≡ answered.commands
   pub decisions : answer.decisions.items ≡ answered.decisions
   pub ending : answer.ending ≡ answered.ending
-  pub left : with_controls (left_by changed before.controls) before ≡ answered.after
+  pub left : with_controls controls before ≡ answered.after
 
 -- what was read of a PDU
 abbrev pub read_as : Result Request MmsFault → Result Message MmsFault

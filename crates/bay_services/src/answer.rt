@@ -14,7 +14,7 @@ pub struct Command {
 }
 
 /// What a client writes to a control.
-#[derive(Debug, Drop)]
+#[derive(Clone, Copy, Debug)]
 pub struct Asked {
     /// Whether to close the switch and not open it (ctlVal).
     pub on: bool,
@@ -24,7 +24,7 @@ pub struct Asked {
 }
 
 /// A control that a client asked for, and what was decided of it.
-#[derive(Debug, Drop)]
+#[derive(Clone, Copy, Debug)]
 pub struct Decision {
     /// The number of the client's association.
     pub association: u16,

@@ -5,9 +5,11 @@ ghost use Rattle.bay_process.specs.Controls.{AreAllControlRows};
 ghost use Rattle.bay_process.specs.Layout.{layout_of, switches_of};
 ghost use Rattle.bay_services.specs.Bay.{ShowNone};
 ghost use Rattle.bay_services.specs.Places.{ArePlaced};
+ghost use Rattle.bay_services.specs.Released.{AreTimed};
 
 use bay_base::listing::Listing;
 use bay_base::text::Text;
+use bay_control::control::ControlTable;
 use bay_control::controls::Controls;
 use bay_mms::names::NameTexts;
 use bay_process::controls::ControlRows;
@@ -31,10 +33,13 @@ pub struct ServedBay {
     pub switches: Listing<BoundSwitch>,
     /// The handles of the values of their controls, in the same order.
     pub control_rows: Listing<ControlRows>,
+    /// What the bay file says of their controls.
+    pub control_table: ControlTable,
     pub controls: Controls,
     ghost listed: { names ≡ text_of_names (layout_of tree).names },
     ghost placed: { ArePlaced (layout_of tree) switches },
     ghost controlled: { AreAllControlRows tree control_rows },
     ghost sized: { length control_rows ≡ length (switches_of switches) },
+    ghost timed: { AreTimed control_table },
     ghost quiet: { ShowNone (length (switches_of switches)) tree },
 }

@@ -2,10 +2,10 @@
 ghost use Rattle.std.specs.Prelude.{◌≡◌, ◌<◌, length};
 ghost use Rattle.bay_process.specs.Controls.{AreAllControlRows};
 ghost use Rattle.bay_process.specs.Layout.{layout_of};
-ghost use Rattle.bay_services.specs.Bay.{left_by, rows_shown, seen_rows};
+ghost use Rattle.bay_services.specs.Bay.{rows_shown, seen_rows};
 ghost use Rattle.bay_services.specs.Controls.{view_of};
 ghost use Rattle.bay_services.specs.Places.{marked_row};
-ghost use Rattle.bay_services.specs.Views.{bay_view};
+ghost use Rattle.bay_services.specs.Views.{bay_view, controls_left};
 
 use crate::bay::ServedBay;
 use crate::client::Client;
@@ -29,16 +29,6 @@ pub fn show_none(tree: &mut Tree, rows: &[ControlRows])
 }
 
 impl ServedBay {
-    /// Returns the controls as a request has left them so far.
-    pub(crate) fn left<'a>(&'a self, changed: &'a Option<Controls>) -> &'a Controls
-        ensures { result.now ≡ left_by changed.now self.now.controls }
-    {
-        match changed {
-            Some(controls) => controls,
-            None => &self.controls,
-        }
-    }
-
     /// Returns the row that shows a selected switch as selected.
     fn mark(&self, selected: Option<usize>) -> Option<Handle>
         ensures row { result ≡ marked_row self.now.control_rows selected }
@@ -51,7 +41,8 @@ impl ServedBay {
     /// Returns the tree as clients see it under these controls, with TRUE as stSeld of the selected
     /// switch (IEC 61850-7-3).
     pub(crate) fn seen(&self, controls: &Controls) -> Seen<'_>
-        ensures rows { result ≡ seen_rows (bay_view self.now) controls.now }
+        ensures rows { result ≡ seen_rows (bay_view self.now)
+            (controls_left self.now controls.now) }
         ensures handles { length result ≡ length self.now.tree }
     {
         self.tree.are_a_tree();

@@ -4,19 +4,18 @@ ghost use Rattle.bay_mms.specs.RequestViews.{naming};
 ghost use Rattle.bay_mms.specs.declared.fault.EncodeFault.TheVariants.{TooLong};
 ghost use Rattle.bay_control.specs.Decisions.{select_outcome};
 ghost use Rattle.bay_tree.specs.Rows.{IsHandle, name_at};
-ghost use Rattle.bay_services.specs.Bay.{left_by};
 ghost use Rattle.bay_services.specs.Controls.{read_decision};
 ghost use Rattle.bay_services.specs.Places.{IsFound};
 ghost use Rattle.bay_services.specs.Reads.{select_done};
 ghost use Rattle.bay_services.specs.Reads as spec;
 ghost use Rattle.bay_services.specs.Rows as spec_rows;
 ghost use Rattle.bay_services.specs.Targets.{target_of};
-ghost use Rattle.bay_services.specs.Views.{bay_view, reading};
+ghost use Rattle.bay_services.specs.Views.{bay_view, controls_left, reading};
 
 use crate::answer::Decision;
 use crate::bay::ServedBay;
 use crate::client::Client;
-use crate::target::{ControlPart, Target, target_at};
+use crate::target::{ControlPart, Target, part_at};
 use bay_control::cause::AddCause;
 use bay_control::controls::Controls;
 use bay_mms::fault::{DataAccessError, EncodeFault};
@@ -70,7 +69,13 @@ impl ServedBay {
             ≡ target_of (length (bay_view self.now).switches) (name_at self.now.tree row) }
         ensures there { IfSome result (λ target. target.switch < length self.now.switches) }
     {
-        target_at(&self.tree, self.control_rows.as_slice(), row)
+        let rows = self.control_rows.as_slice();
+        for switch in 0..rows.len() {
+            if let Some(part) = part_at(&rows[switch], row) {
+                return Some(Target { switch, part });
+            }
+        }
+        None
     }
 
     // Selects a switch by a read of its SBO, which answers the name of the control, or no text.
@@ -80,26 +85,27 @@ impl ServedBay {
         client: Client,
         switch: usize,
         row: Handle,
-        changed: &mut Option<Controls>,
+        controls: &mut Controls,
         decisions: &mut Vec<Decision>,
         response: &mut ReadResponse,
     ) -> Result<(), EncodeFault>
         requires { IsHandle self.now.tree row }
-        ensures ok { OnOk result (reading self.now changed.new decisions.new.items response.new.octets
+        ensures ok { OnOk result
+            (reading self.now controls.new decisions.new.items response.new.octets
             ≡ select_done client (bay_view self.now) switch (name_at self.now.tree row)
-            (reading self.now changed.old decisions.old.items response.old.octets)
+            (reading self.now controls.old decisions.old.items response.old.octets)
             (select_outcome client.association switch client.now
-            (left_by changed.old self.now.controls))) }
+            (controls_left self.now controls.old))) }
         ensures long { IfErr result (λ fault. fault ≡ TooLong
             → response.old.size < length (select_done client (bay_view self.now) switch
-            (name_at self.now.tree row) (reading self.now changed.old decisions.old.items response.old.octets)
+            (name_at self.now.tree row)
+            (reading self.now controls.old decisions.old.items response.old.octets)
             (select_outcome client.association switch client.now
-            (left_by changed.old self.now.controls))).results) }
+            (controls_left self.now controls.old))).results) }
         ensures size { response.new.size ≡ response.old.size }
     {
-        let mut controls = self.left(changed).duplicate();
-        let answer = controls.select(client.association, switch, client.now);
-        *changed = Some(controls);
+        let table = &self.control_table;
+        let answer = controls.select(table, client.association, switch, client.now);
         put_select(client, switch, answer, decisions)?;
         match answer {
             Ok(()) => {
@@ -116,20 +122,21 @@ impl ServedBay {
         alloc: Global,
         client: Client,
         row: Handle,
-        changed: &mut Option<Controls>,
+        controls: &mut Controls,
         decisions: &mut Vec<Decision>,
         response: &mut ReadResponse,
     ) -> Result<(), EncodeFault>
         requires { IsFound self.now.tree row }
         ensures ok { OnOk result
-            (reading self.now changed.new decisions.new.items response.new.octets
+            (reading self.now controls.new decisions.new.items response.new.octets
             ≡ spec.read_row client (bay_view self.now)
-            (reading self.now changed.old decisions.old.items response.old.octets) (Some row)) }
+            (reading self.now controls.old decisions.old.items response.old.octets) (Some row)) }
         ensures long { IfErr result
             (λ fault. fault ≡ TooLong
             → response.old.size < length
             (spec.read_row client (bay_view self.now)
-            (reading self.now changed.old decisions.old.items response.old.octets) (Some row)).results) }
+            (reading self.now controls.old decisions.old.items response.old.octets)
+            (Some row)).results) }
         ensures size { response.new.size ≡ response.old.size }
     {
         match self.target(row) {
@@ -138,8 +145,8 @@ impl ServedBay {
                     switch,
                     part: ControlPart::Select,
                 },
-            ) => self.read_select(alloc, client, switch, row, changed, decisions, response),
-            _ => response.value(&self.seen(self.left(changed)), row),
+            ) => self.read_select(alloc, client, switch, row, controls, decisions, response),
+            _ => response.value(&self.seen(controls), row),
         }
     }
 
@@ -149,22 +156,23 @@ impl ServedBay {
         alloc: Global,
         client: Client,
         name: &ObjectName<'_>,
-        changed: &mut Option<Controls>,
+        controls: &mut Controls,
         decisions: &mut Vec<Decision>,
         response: &mut ReadResponse,
     ) -> Result<(), EncodeFault>
         ensures ok { OnOk result
-            (reading self.now changed.new decisions.new.items response.new.octets
+            (reading self.now controls.new decisions.new.items response.new.octets
             ≡ spec.read_one client (bay_view self.now) (naming name.now)
-            (reading self.now changed.old decisions.old.items response.old.octets)) }
+            (reading self.now controls.old decisions.old.items response.old.octets)) }
         ensures long { IfErr result
             (λ fault. fault ≡ TooLong
             → response.old.size < length (spec.read_one client (bay_view self.now)
-            (naming name.now) (reading self.now changed.old decisions.old.items response.old.octets)).results) }
+            (naming name.now) (reading self.now controls.old decisions.old.items
+            response.old.octets)).results) }
         ensures size { response.new.size ≡ response.old.size }
     {
         match self.row_named(name) {
-            Some(row) => self.read_row(alloc, client, row, changed, decisions, response),
+            Some(row) => self.read_row(alloc, client, row, controls, decisions, response),
             None => response.failure(DataAccessError::ObjectNonExistent),
         }
     }
@@ -175,23 +183,23 @@ impl ServedBay {
         alloc: Global,
         client: Client,
         names: &[ObjectName<'_>],
-        changed: &mut Option<Controls>,
+        controls: &mut Controls,
         decisions: &mut Vec<Decision>,
         response: &mut ReadResponse,
     ) -> Result<(), EncodeFault>
         ensures ok { OnOk result
-            (reading self.now changed.new decisions.new.items response.new.octets
+            (reading self.now controls.new decisions.new.items response.new.octets
             ≡ spec.read_all client (bay_view self.now) (map naming names.now)
-            (reading self.now changed.old decisions.old.items response.old.octets)) }
+            (reading self.now controls.old decisions.old.items response.old.octets)) }
         ensures long { IfErr result
             (λ fault. fault ≡ TooLong
             → response.old.size < length (spec.read_all client (bay_view self.now)
             (map naming names.now)
-            (reading self.now changed.old decisions.old.items response.old.octets)).results) }
+            (reading self.now controls.old decisions.old.items response.old.octets)).results) }
         ensures size { response.new.size ≡ response.old.size }
     {
         for name in names {
-            self.read_one(alloc, client, name, changed, decisions, response)?;
+            self.read_one(alloc, client, name, controls, decisions, response)?;
         }
         Ok(())
     }

@@ -8,12 +8,12 @@ ghost use Rattle.bay_mms.specs.Views.{data_in};
 ghost use Rattle.bay_mms.specs.Writing.{text_within};
 ghost use Rattle.bay_services.specs.Answers.{Answered, answer_of, pdu_answer, attributes_at, identify_answer, read_asked, service_answer, write_asked};
 ghost use Rattle.bay_services.specs.Answers as spec;
-ghost use Rattle.bay_services.specs.Bay.{Bay, left_by};
+ghost use Rattle.bay_services.specs.Bay.{Bay};
 ghost use Rattle.bay_services.specs.Rows.{row_named};
 ghost use Rattle.bay_mms.specs.declared.fault.MmsFault.TheVariants as MmsFault;
 ghost use Rattle.bay_services.specs.Controls.{IsShort};
 ghost use Rattle.bay_services.specs.Reads.{read_all};
-ghost use Rattle.bay_services.specs.Views.{bay_view, read_as, reading, AnswersAs};
+ghost use Rattle.bay_services.specs.Views.{bay_view, controls_left, read_as, reading, AnswersAs};
 
 use crate::answer::{Answer, Decision};
 use crate::bay::ServedBay;
@@ -35,7 +35,7 @@ use std::alloc::{AllocError, Global};
 // An answer of one PDU that commands nothing.
 fn told(alloc: Global, pdu: Outgoing, decisions: Vec<Decision>) -> Result<Answer, AllocError>
     ensures { IfOk result (λ answer. (b : Bay)
-        → AnswersAs answer None b (spec.told_answer pdu decisions.items b)) }
+        → AnswersAs answer b.controls b (spec.told_answer pdu decisions.items b)) }
 {
     Ok(Answer {
         sent: vec![in alloc; pdu]?,
@@ -47,7 +47,8 @@ fn told(alloc: Global, pdu: Outgoing, decisions: Vec<Decision>) -> Result<Answer
 
 // An answer that does nothing.
 fn said(alloc: Global, pdu: Outgoing) -> Result<Answer, AllocError>
-    ensures { IfOk result (λ answer. (b : Bay) → AnswersAs answer None b (spec.plain_answer pdu b)) }
+    ensures { IfOk result (λ answer. (b : Bay)
+        → AnswersAs answer b.controls b (spec.plain_answer pdu b)) }
 {
     told(alloc, pdu, Vec::new(alloc))
 }
@@ -55,7 +56,7 @@ fn said(alloc: Global, pdu: Outgoing) -> Result<Answer, AllocError>
 // An error, which does nothing.
 fn failed(alloc: Global, id: u32, class: ErrorClass) -> Result<Answer, AllocError>
     ensures { IfOk result (λ answer. (b : Bay)
-        → AnswersAs answer None b (spec.plain_answer (error_text id class) b)) }
+        → AnswersAs answer b.controls b (spec.plain_answer (error_text id class) b)) }
 {
     let error = write_error(alloc, id, class)?;
     said(alloc, error)
@@ -64,7 +65,7 @@ fn failed(alloc: Global, id: u32, class: ErrorClass) -> Result<Answer, AllocErro
 // A reject, which does nothing.
 fn rejected(alloc: Global, id: Option<u32>, reason: RejectReason) -> Result<Answer, AllocError>
     ensures { IfOk result (λ answer. (b : Bay)
-        → AnswersAs answer None b (spec.reject_answer id reason b)) }
+        → AnswersAs answer b.controls b (spec.reject_answer id reason b)) }
 {
     let reject = write_reject(alloc, id, reason)?;
     said(alloc, reject)
@@ -73,7 +74,7 @@ fn rejected(alloc: Global, id: Option<u32>, reason: RejectReason) -> Result<Answ
 // The answer to a conclude, which does nothing.
 fn concluded(alloc: Global) -> Result<Answer, AllocError>
     ensures { IfOk result (λ answer. (b : Bay)
-        → AnswersAs answer None b (spec.plain_answer concluded_text b)) }
+        → AnswersAs answer b.controls b (spec.plain_answer concluded_text b)) }
 {
     let conclude = write_conclude(alloc)?;
     said(alloc, conclude)
@@ -82,7 +83,7 @@ fn concluded(alloc: Global) -> Result<Answer, AllocError>
 // What answers octets that ask for nothing that is served.
 fn refused(alloc: Global, fault: MmsFault) -> Result<Answer, AllocError>
     ensures told { IfOk result
-        (λ answer. (b : Bay) → AnswersAs answer None b (spec.refusal_answer fault b)) }
+        (λ answer. (b : Bay) → AnswersAs answer b.controls b (spec.refusal_answer fault b)) }
     ensures memory { IfOk result (λ _. fault ≢ MmsFault.OutOfMemory) }
 {
     match fault {
@@ -105,7 +106,8 @@ fn responded(
     ensures { (pdu : List ℕ) (b : Bay)
         → Gives EncodeFault.OutOfMemory (λ octets. octets) response
         (text_within client.size pdu)
-        → IfOk result (λ answer. AnswersAs answer None b (spec.response_answer client id b pdu)) }
+        → IfOk result (λ answer. AnswersAs answer b.controls b
+        (spec.response_answer client id b pdu)) }
 {
     match fitting(response)? {
         Some(pdu) => said(alloc, pdu),
@@ -116,7 +118,8 @@ fn responded(
 impl ServedBay {
     // Who made the device, its model and its revision.
     fn identify(&self, alloc: Global, client: Client, id: u32) -> Result<Answer, AllocError>
-        ensures { IfOk result (λ answer. AnswersAs answer None (bay_view self.now)
+        ensures { IfOk result (λ answer. AnswersAs answer (bay_view self.now).controls
+            (bay_view self.now)
             (identify_answer client id (bay_view self.now))) }
     {
         let service = Service::Identify {
@@ -136,7 +139,8 @@ impl ServedBay {
         id: u32,
         name: &ObjectName<'_>,
     ) -> Result<Answer, AllocError>
-        ensures { IfOk result (λ answer. AnswersAs answer None (bay_view self.now)
+        ensures { IfOk result (λ answer. AnswersAs answer (bay_view self.now).controls
+            (bay_view self.now)
             (attributes_at client id (bay_view self.now)
             (row_named (bay_view self.now) (naming name.now)))) }
     {
@@ -162,23 +166,23 @@ impl ServedBay {
         client: Client,
         id: u32,
         names: &[ObjectName<'_>],
-        changed: &mut Option<Controls>,
+        controls: &mut Controls,
         decisions: &mut Vec<Decision>,
     ) -> Result<Outgoing, EncodeFault>
         ensures response { Gives EncodeFault.OutOfMemory (λ octets. octets) result
             (text_within client.size (read_text id
             (read_all client (bay_view self.now) (map naming names.now)
-            (reading self.now changed.old decisions.old.items [])).results)) }
+            (reading self.now controls.old decisions.old.items [])).results)) }
         ensures after { OnOk result
-            (left_by changed.new self.now.controls
+            (controls_left self.now controls.new
             ≡ (read_all client (bay_view self.now) (map naming names.now)
-            (reading self.now changed.old decisions.old.items [])).controls) }
+            (reading self.now controls.old decisions.old.items [])).controls) }
         ensures decisions { OnOk result
             (decisions.new.items ≡ (read_all client (bay_view self.now) (map naming names.now)
-            (reading self.now changed.old decisions.old.items [])).decisions) }
+            (reading self.now controls.old decisions.old.items [])).decisions) }
     {
         let mut response = ReadResponse::new(alloc, client.size)?;
-        self.read_all(alloc, client, names, changed, decisions, &mut response)?;
+        self.read_all(alloc, client, names, controls, decisions, &mut response)?;
         response.finish(id)
     }
 
@@ -190,18 +194,19 @@ impl ServedBay {
         client: Client,
         id: u32,
         names: &[ObjectName<'_>],
-        changed: &mut Option<Controls>,
+        controls: &mut Controls,
     ) -> Result<Answer, AllocError>
-        requires { changed.old ≡ None }
-        ensures { IfOk result (λ answer. AnswersAs answer changed.new (bay_view self.now)
+        requires { controls.old ≡ self.now.controls }
+        ensures { IfOk result (λ answer. AnswersAs answer (controls_left self.now controls.new)
+            (bay_view self.now)
             (read_asked client id (bay_view self.now) (map naming names.now))) }
     {
         let mut decisions = Vec::new(alloc);
-        let response = self.read_response(alloc, client, id, names, changed, &mut decisions);
+        let response = self.read_response(alloc, client, id, names, controls, &mut decisions);
         match fitting(response)? {
             Some(pdu) => told(alloc, pdu, decisions),
             None => {
-                *changed = None;
+                *controls = self.controls;
                 failed(alloc, id, ErrorClass::Resource)
             }
         }
@@ -216,11 +221,13 @@ impl ServedBay {
         id: u32,
         names: &[ObjectName<'_>],
         values: &[Data<'_>],
-        changed: &mut Option<Controls>,
+        controls: &mut Controls,
     ) -> Result<Answer, AllocError>
-        requires { changed.old ≡ None }
-        ensures { IfOk result (λ answer. AnswersAs answer changed.new (bay_view self.now)
-            (write_asked client id (bay_view self.now) (map naming names.now) (data_in values.now))) }
+        requires { controls.old ≡ self.now.controls }
+        ensures { IfOk result (λ answer. AnswersAs answer (controls_left self.now controls.new)
+            (bay_view self.now)
+            (write_asked client id (bay_view self.now) (map naming names.now) (data_in values.now)))
+                }
     {
         let mut done = Written {
             response: WriteResponse::new(alloc),
@@ -229,7 +236,7 @@ impl ServedBay {
             decisions: Vec::new(alloc),
             ending: None,
         };
-        self.write_all(alloc, client, names, values, changed, &mut done)?;
+        self.write_all(alloc, client, names, values, controls, &mut done)?;
         let Written {
             response,
             mut reports,
@@ -248,7 +255,7 @@ impl ServedBay {
                 })
             }
             None => {
-                *changed = None;
+                *controls = self.controls;
                 failed(alloc, id, ErrorClass::Resource)
             }
         }
@@ -261,11 +268,12 @@ impl ServedBay {
         client: Client,
         id: u32,
         call: &Call<'_>,
-        changed: &mut Option<Controls>,
+        controls: &mut Controls,
     ) -> Result<Answer, AllocError>
         requires sized { IsPduSize client.size }
-        requires first { changed.old ≡ None }
-        ensures { IfOk result (λ answer. AnswersAs answer changed.new (bay_view self.now)
+        requires first { controls.old ≡ self.now.controls }
+        ensures { IfOk result (λ answer. AnswersAs answer (controls_left self.now controls.new)
+            (bay_view self.now)
             (service_answer client id (bay_view self.now) (asking call.now))) }
     {
         match call {
@@ -279,9 +287,9 @@ impl ServedBay {
                 responded(alloc, client, id, response)
             }
             Call::Attributes(name) => self.attributes(alloc, client, id, name),
-            Call::Read(names) => self.read(alloc, client, id, names, changed),
+            Call::Read(names) => self.read(alloc, client, id, names, controls),
             Call::Write { names, values } => {
-                self.write(alloc, client, id, names, values, changed)
+                self.write(alloc, client, id, names, values, controls)
             }
         }
     }
@@ -292,26 +300,25 @@ impl ServedBay {
         alloc: Global,
         client: Client,
         request: Result<Request<'_>, MmsFault>,
-        changed: &mut Option<Controls>,
+        controls: &mut Controls,
     ) -> Result<Answer, AllocError>
         requires sized { IsPduSize client.size }
-        requires first { changed.old ≡ None }
+        requires first { controls.old ≡ self.now.controls }
         ensures ok { IfOk result
-            (λ answer. AnswersAs answer changed.new (bay_view self.now)
+            (λ answer. AnswersAs answer (controls_left self.now controls.new) (bay_view self.now)
             (answer_of client (bay_view self.now) (read_as request.entry))) }
         ensures memory { IfOk result (λ _. request.entry ≢ Err MmsFault.OutOfMemory) }
     {
         match request {
             Ok(Request::Initiate(_)) => rejected(alloc, None, RejectReason::InvalidPdu),
             Ok(Request::Conclude) => concluded(alloc),
-            Ok(Request::Confirmed { id, call }) => self.serve(alloc, client, id, &call, changed),
+            Ok(Request::Confirmed { id, call }) => self.serve(alloc, client, id, &call, controls),
             Err(fault) => refused(alloc, fault),
         }
     }
 
-    /// Answers the octets that a client sent as a PDU of MMS. Changes nothing: `changed` becomes
-    /// the controls after it if it changes them, to be put in once the answer can be sent, and
-    /// otherwise `None`.
+    /// Answers the octets that a client sent as a PDU of MMS. Changes nothing: `controls` becomes
+    /// the controls after it, to be put in once the answer can be sent.
     ///
     /// Each PDU of the answer has at most 65,000 octets, and so have the reports of an end. A
     /// response longer than the agreed size is replaced by an error of the class resource, and then
@@ -321,18 +328,18 @@ impl ServedBay {
         alloc: Global,
         client: Client,
         pdu: &[u8],
-        changed: &mut Option<Controls>,
+        controls: &mut Controls,
     ) -> Result<Answer, AllocError>
         requires { IsPduSize client.size }
         ensures ok { IfOk result
-            (λ answer. AnswersAs answer changed.new (bay_view self.now)
+            (λ answer. AnswersAs answer (controls_left self.now controls.new) (bay_view self.now)
             (pdu_answer client pdu.now (bay_view self.now))) }
         ensures short { IfOk result
             (λ answer. All (λ pdu. length pdu ≤ longest_pdu) answer.sent.items) }
         ensures ending { IfOk result (λ answer. IsShort answer.ending) }
     {
-        *changed = None;
+        *controls = self.controls;
         let request = read_request(alloc, pdu);
-        self.respond(alloc, client, request, changed)
+        self.respond(alloc, client, request, controls)
     }
 }

@@ -1,13 +1,10 @@
 // Which control a row is.
-ghost use Rattle.std.specs.Prelude.{◌≡◌, ◌<◌, Some, length};
-ghost use Rattle.bay_process.specs.Controls.{AreAllControlRows};
-ghost use Rattle.bay_tree.specs.Rows.{name_at, place_of};
+ghost use Rattle.std.specs.Prelude.{◌≡◌};
 ghost use Rattle.bay_services.specs.Places.{part_by};
 ghost use Rattle.bay_services.specs.Places as spec;
-ghost use Rattle.bay_services.specs.Targets.{target_of};
 
 use bay_process::controls::ControlRows;
-use bay_tree::tree::{Handle, Tree};
+use bay_tree::tree::Handle;
 
 /// A part of a control (IEC 61850-8-1, the structures below CO).
 #[derive(Clone, Copy, Debug)]
@@ -36,8 +33,8 @@ fn is_place(row: Option<Handle>, handle: Handle) -> bool
     row.is_some_and(|r| r == handle)
 }
 
-// The part of a switch's control that a row is.
-fn part_at(rows: &ControlRows, handle: Handle) -> Option<ControlPart>
+/// Returns the part of a switch's control that a row is, if it is one.
+pub(crate) fn part_at(rows: &ControlRows, handle: Handle) -> Option<ControlPart>
     ensures { result ≡ part_by rows.now handle }
 {
     if is_place(rows.select, handle) {
@@ -51,18 +48,4 @@ fn part_at(rows: &ControlRows, handle: Handle) -> Option<ControlPart>
     } else {
         None
     }
-}
-
-/// Returns the part of the control of a switch that a row is, if it is one.
-pub fn target_at(_tree: &Tree, rows: &[ControlRows], handle: Handle) -> Option<Target>
-    requires named { AreAllControlRows _tree.now rows.now }
-    requires found { place_of _tree.now (name_at _tree.now handle) ≡ Some handle }
-    ensures { result ≡ target_of (length rows.now) (name_at _tree.now handle) }
-{
-    for switch in 0..rows.len() {
-        if let Some(part) = part_at(&rows[switch], handle) {
-            return Some(Target { switch, part });
-        }
-    }
-    None
 }

@@ -20,12 +20,11 @@ use crate::bay::ServedBay;
 use crate::client::Client;
 use crate::reply::fitting;
 use crate::target::{ControlPart, Target};
-use arrayvec::ArrayVec;
 use bay_base::text::Text;
 use bay_ber::outgoing::Outgoing;
 use bay_control::cause::AddCause;
 use bay_control::controls::Controls;
-use bay_control::request::{Ask, Origin};
+use bay_control::request::{Ask, Identity, Origin};
 use bay_mms::control::{Cancel, Operate, Origin as Originator, cancel_of, operate_of};
 use bay_mms::data::Data;
 use bay_mms::fault::DataAccessError;
@@ -64,11 +63,9 @@ fn origin_of(origin: &Originator<'_>) -> Origin
     requires { length origin.now.or_ident.now ≤ 64 }
     ensures { result ≡ spec_controls.origin_of (originating origin.now) }
 {
-    let mut ident = ArrayVec::new();
-    let _ = ident.try_extend_from_slice(origin.or_ident);
     Origin {
         cat: origin.or_cat,
-        ident,
+        ident: Identity::new(origin.or_ident),
     }
 }
 
@@ -85,18 +82,20 @@ fn ask_of(operate: &Operate<'_>) -> Ask
     }
 }
 
-// What is told of a decision.
-fn decision_of(
+// Records what was decided of a control that was written.
+fn put_written(
     client: Client,
     switch: usize,
     part: ControlPart,
     control: &Cancel<'_>,
     answer: Result<(), AddCause>,
-) -> Decision
+    decisions: &mut Vec<Decision>,
+) -> Result<(), AllocError>
     requires { length control.now.origin.or_ident.now ≤ 64 }
-    ensures { result ≡ written_decision client switch part (cancelling control.now) answer }
+    ensures { OnOk result (decisions.new.items ≡ decisions.old.items
+        ++ written_decision client switch part (cancelling control.now) answer ∷ []) }
 {
-    Decision {
+    decisions.push(Decision {
         association: client.association,
         switch,
         part,
@@ -106,7 +105,8 @@ fn decision_of(
             ctl_num: control.ctl_num,
         }),
         answer,
-    }
+    })?;
+    Ok(())
 }
 
 impl ServedBay {
@@ -125,7 +125,7 @@ impl ServedBay {
     fn has_reports(&self, switch: usize) -> bool
         ensures { result ≡ spec_controls.has_reports (bay_view self.now) switch }
     {
-        self.controls.is_enhanced(switch)
+        self.control_table.is_enhanced(switch)
     }
 
     // Adds the report that a control is refused.
@@ -141,7 +141,8 @@ impl ServedBay {
         requires { IsHandle self.now.tree part.row }
         ensures { OnOk result (reports.new.items
             ≡ reports.old.items ++ refusal_reports client part.switch
-            (name_at self.now.tree part.row) (cancelling control.now) (bay_view self.now) (Err why)) }
+            (name_at self.now.tree part.row) (cancelling control.now) (bay_view self.now) (Err why))
+                }
     {
         if !self.has_reports(part.switch) {
             return Ok(());
@@ -208,8 +209,8 @@ impl ServedBay {
         ensures commands { written.new.commands ≡ written.old.commands }
         ensures ending { written.new.ending ≡ written.old.ending }
     {
-        let decision = decision_of(client, part.switch, written_to, control, answer);
-        written.decisions.push(decision)?;
+        let decisions = &mut written.decisions;
+        put_written(client, part.switch, written_to, control, answer, decisions)?;
         match answer {
             Ok(()) => written.response.success(),
             Err(why) => self.refuse(alloc, client, part, control, why, written),
@@ -223,27 +224,26 @@ impl ServedBay {
         client: Client,
         part: Part,
         given: &Data<'_>,
-        changed: &mut Option<Controls>,
+        controls: &mut Controls,
         written: &mut Written,
     ) -> Result<(), AllocError>
         requires { IsHandle self.now.tree part.row }
-        ensures { OnOk result (writing self.now changed.new written.new
+        ensures { OnOk result (writing self.now controls.new written.new
             ≡ select_with_asked client (bay_view self.now) part.switch
             (name_at self.now.tree part.row)
-            (writing self.now changed.old written.old) (operate_in (datum_of given.now))) }
+            (writing self.now controls.old written.old) (operate_in (datum_of given.now))) }
     {
         let operate = match operate_of(given) {
             Ok(operate) => operate,
             Err(error) => return written.response.failure(error),
         };
-        let mut controls = self.left(changed).duplicate();
         let answer = controls.select_with(
+            &self.control_table,
             client.association,
             part.switch,
             ask_of(&operate),
             client.now,
         );
-        *changed = Some(controls);
         let to = ControlPart::SelectWith;
         self.put_decision(alloc, client, part, to, &operate.control, answer, written)
     }
@@ -255,22 +255,21 @@ impl ServedBay {
         client: Client,
         part: Part,
         given: &Data<'_>,
-        changed: &mut Option<Controls>,
+        controls: &mut Controls,
         written: &mut Written,
     ) -> Result<(), AllocError>
         requires { IsHandle self.now.tree part.row }
         ensures { OnOk result
-            (writing self.now changed.new written.new
+            (writing self.now controls.new written.new
             ≡ cancel_asked client (bay_view self.now) part.switch (name_at self.now.tree part.row)
-            (writing self.now changed.old written.old) (cancel_in (datum_of given.now))) }
+            (writing self.now controls.old written.old) (cancel_in (datum_of given.now))) }
     {
         let cancel = match cancel_of(given) {
             Ok(cancel) => cancel,
             Err(error) => return written.response.failure(error),
         };
-        let mut controls = self.left(changed).duplicate();
-        let answer = controls.cancel(client.association, part.switch, client.now);
-        *changed = Some(controls);
+        let table = &self.control_table;
+        let answer = controls.cancel(table, client.association, part.switch, client.now);
         let to = ControlPart::Cancel;
         self.put_decision(alloc, client, part, to, &cancel, answer, written)
     }
@@ -347,29 +346,28 @@ impl ServedBay {
         switch: usize,
         row: Handle,
         given: &Data<'_>,
-        changed: &mut Option<Controls>,
+        controls: &mut Controls,
         written: &mut Written,
     ) -> Result<(), AllocError>
         requires there { IsHandle self.now.tree row }
         requires switch { switch < length self.now.switches }
         ensures { OnOk result
-            (writing self.now changed.new written.new
+            (writing self.now controls.new written.new
             ≡ operate_asked client (bay_view self.now) switch (name_at self.now.tree row)
-            (writing self.now changed.old written.old) (operate_in (datum_of given.now))) }
+            (writing self.now controls.old written.old) (operate_in (datum_of given.now))) }
     {
         let operate = match operate_of(given) {
             Ok(operate) => operate,
             Err(error) => return written.response.failure(error),
         };
-        let mut controls = self.left(changed).duplicate();
         let answer = controls.operate(
+            &self.control_table,
             client.association,
             switch,
             ask_of(&operate),
             self.view(client, switch),
             client.now,
         );
-        *changed = Some(controls);
         let part = Part { switch, row };
         let to = ControlPart::Operate;
         self.put_decision(alloc, client, part, to, &operate.control, answer, written)?;
@@ -386,14 +384,14 @@ impl ServedBay {
         client: Client,
         row: Handle,
         given: &Data<'_>,
-        changed: &mut Option<Controls>,
+        controls: &mut Controls,
         written: &mut Written,
     ) -> Result<(), AllocError>
         requires { IsFound self.now.tree row }
         ensures { OnOk result
-            (writing self.now changed.new written.new
+            (writing self.now controls.new written.new
             ≡ spec.write_row client (bay_view self.now) (datum_of given.now)
-            (writing self.now changed.old written.old) (Some row)) }
+            (writing self.now controls.old written.old) (Some row)) }
     {
         let target = match self.target(row) {
             Some(target) => target,
@@ -406,7 +404,7 @@ impl ServedBay {
         match target.part {
             ControlPart::Select => written.response.failure(DENIED),
             ControlPart::SelectWith => self.write_select_with(
-                alloc, client, part, given, changed, written,
+                alloc, client, part, given, controls, written,
             ),
             ControlPart::Operate => self.write_operate(
                 alloc,
@@ -414,10 +412,10 @@ impl ServedBay {
                 target.switch,
                 row,
                 given,
-                changed,
+                controls,
                 written,
             ),
-            ControlPart::Cancel => self.write_cancel(alloc, client, part, given, changed, written),
+            ControlPart::Cancel => self.write_cancel(alloc, client, part, given, controls, written),
         }
     }
 
@@ -428,16 +426,16 @@ impl ServedBay {
         client: Client,
         name: &ObjectName<'_>,
         given: &Data<'_>,
-        changed: &mut Option<Controls>,
+        controls: &mut Controls,
         written: &mut Written,
     ) -> Result<(), AllocError>
         ensures { OnOk result
-            (writing self.now changed.new written.new
+            (writing self.now controls.new written.new
             ≡ spec.write_one client (bay_view self.now) (naming name.now) (datum_of given.now)
-            (writing self.now changed.old written.old)) }
+            (writing self.now controls.old written.old)) }
     {
         match self.row_named(name) {
-            Some(row) => self.write_row(alloc, client, row, given, changed, written),
+            Some(row) => self.write_row(alloc, client, row, given, controls, written),
             None => written.response.failure(DataAccessError::ObjectNonExistent),
         }
     }
@@ -449,16 +447,16 @@ impl ServedBay {
         client: Client,
         names: &[ObjectName<'_>],
         values: &[Data<'_>],
-        changed: &mut Option<Controls>,
+        controls: &mut Controls,
         written: &mut Written,
     ) -> Result<(), AllocError>
         ensures { OnOk result
-            (writing self.now changed.new written.new
+            (writing self.now controls.new written.new
             ≡ spec.write_all client (bay_view self.now) (map naming names.now) (data_in values.now)
-            (writing self.now changed.old written.old)) }
+            (writing self.now controls.old written.old)) }
     {
         for i in 0..names.len().min(values.len()) {
-            self.write_one(alloc, client, &names[i], &values[i], changed, written)?;
+            self.write_one(alloc, client, &names[i], &values[i], controls, written)?;
         }
         Ok(())
     }

@@ -163,7 +163,7 @@ selected_line now id decision =
 abbrev pub line_of : ℕ → List ℕ → Decision → Option Asked → List ℕ
 line_of now id decision None = selected_line now id decision
 line_of now id decision (Some asked) =
-    written_line now id (shown_text asked.origin.ident.items) decision asked
+    written_line now id (shown_text asked.origin.ident) decision asked
 
 abbrev pub decision_line : ℕ → State → Decision → List ℕ
 decision_line now s decision = line_of now (id_of s decision.switch) decision decision.asked

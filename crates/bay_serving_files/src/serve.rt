@@ -1,7 +1,6 @@
 // Files are read, loaded and served.
 ghost use Rattle.std.specs.Prelude.{◌≡◌, None, Ok, Err, replicate, IfErr, IfOk};
 ghost use Rattle.bay_device.specs.Entries.{IsIdle};
-ghost use Rattle.bay_services.specs.Released.{AreTimed};
 ghost use Rattle.bay_report.specs.LogLines.{PrintsLogs};
 ghost use Rattle.bay_serving_files.specs.Serve.{BindsPorts, BindsProcess, IsBound, LoadsFiles, LogsPorts, ServesBound, ServesFiles, ServesLoaded, UnservedReport, made_of, names_of};
 ghost use Rattle.bay_serving_files.specs.declared.serve.Unserved.TheVariants as unserved;
@@ -138,7 +137,6 @@ fn load_files<'a, F: FileSystem>(
     ensures err { IfErr result
         (λ why. LoadsFiles F.reads files.now (names_of named.entry) (Err why)) }
     ensures idle { IfOk result (λ loaded. IsIdle loaded.device) }
-    ensures timed { IfOk result (λ loaded. AreTimed loaded.device.controls.controls) }
     ensures begun { IfOk result (λ loaded. IsBegun (made_of loaded.device)) }
     ensures named { IfOk result (λ loaded. HaveIds loaded.device.switches) }
 {
@@ -161,7 +159,6 @@ fn bound_to<'a, L: Drop>(
     process: Option<Process<L>>,
 ) -> Result<Bound<L>, Unserved<'a>>
     requires closed { device.connections ≡ replicate 8 None }
-    requires timed { AreTimed device.controls.controls }
     ensures bound { IsBound device link process result }
     ensures server { IfOk result (λ bound. bound.server ≡ made_of device) }
 {
@@ -184,7 +181,6 @@ fn bind_process<'a, L: Link + Drop, H: Host<L>>(
     numbers: Numbers,
 ) -> Result<Bound<L>, Unserved<'a>>
     requires closed { device.connections ≡ replicate 8 None }
-    requires timed { AreTimed device.controls.controls }
     ensures binds { BindsProcess H.does numbers.tells_releases device link numbers.process host.old
         host.new result }
     ensures server { IfOk result (λ bound. bound.server ≡ made_of device) }
@@ -209,7 +205,6 @@ fn bind_ports<'a, L: Link + Drop, H: Host<L>>(
     numbers: Numbers,
 ) -> Result<Bound<L>, Unserved<'a>>
     requires closed { device.connections ≡ replicate 8 None }
-    requires timed { AreTimed device.controls.controls }
     ensures binds { BindsPorts H.does numbers device host.old host.new result }
     ensures server { IfOk result (λ bound. bound.server ≡ made_of device) }
 {
@@ -261,7 +256,6 @@ fn serve_loaded<L: Link + Drop, H: Host<L>, W: Sink>(
     writer: &mut WatchedWriter<W>,
 ) -> Result<u8, WriteFault>
     requires closed { loaded.device.connections ≡ replicate 8 None }
-    requires timed { AreTimed loaded.device.controls.controls }
     requires begun { IsBegun (made_of loaded.device) }
     requires named { HaveIds loaded.device.switches }
     ensures { ServesLoaded (Called L.does L.failures) H.does W.contents W.does numbers loaded

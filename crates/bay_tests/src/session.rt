@@ -1,7 +1,6 @@
 // What a client sends, and what it is answered: a request for a transport connection, one for an
 // association, and an identify.
 ghost use Rattle.std.specs.Prelude.{◌≡◌, None, replicate};
-ghost use Rattle.bay_services.specs.Released.{AreTimed};
 
 use bay_device::device::Device;
 use bay_device::load::load;
@@ -49,7 +48,6 @@ pub fn has_octets(alloc: Global, octets: &[u8], texts: &[&str]) -> Result<bool, 
 /// Creates a server of a device.
 fn server_of(alloc: Global, device: Device) -> Result<Server, Fail>
     requires closed { device.connections ≡ replicate 8 None }
-    requires timed { AreTimed device.controls.controls }
 {
     match Server::new(alloc, device) {
         Ok(server) => Ok(server),

@@ -13,11 +13,11 @@
 // for a test. A VIEW is the position, `fresh` or `stale`, and EnaOpn and EnaCls, as `01`.
 use crate::rows::position_of;
 use anyhow::{Context, Result, bail};
-use arrayvec::ArrayVec;
 use bay_config::read::read_bay;
 use bay_control::cause::AddCause;
+use bay_control::control::ControlTable;
 use bay_control::controls::Controls;
-use bay_control::request::{Ask, Origin, View};
+use bay_control::request::{Ask, Identity, Origin, View};
 use cases::octets::octets_of;
 use cases::told::check_text;
 use cases::words::{first_word, words_of};
@@ -35,13 +35,12 @@ fn is_first(word: &str, first: &str, second: &str) -> Result<bool> {
 fn origin_of(alloc: Global, word: &str) -> Result<Origin> {
     let (category, identity) = word.split_once("/").context("no identity")?;
     let octets = octets_of(alloc, identity)?;
-    let mut ident = ArrayVec::new();
-    if ident.try_extend_from_slice(octets.as_slice()).is_err() {
+    if octets.len() > 64 {
         bail!("the identity has more than 64 octets");
     }
     Ok(Origin {
         cat: category.parse::<i8>().context(category)?,
-        ident,
+        ident: Identity::new(octets.as_slice()),
     })
 }
 
@@ -111,17 +110,18 @@ fn bay_text(alloc: Global, controls: &str) -> Result<String, AllocError> {
     Ok(text)
 }
 
-/// Returns the controls of a bay with these controls.
-fn controls_of(alloc: Global, controls: &str) -> Result<Controls> {
+/// Returns what the file of a bay says of these controls.
+fn table_of(alloc: Global, controls: &str) -> Result<ControlTable> {
     let text = bay_text(alloc, controls)?;
     let bay = read_bay(alloc, text.as_str())?;
-    Ok(Controls::new(&bay))
+    Ok(ControlTable::new(&bay))
 }
 
 /// The controls of a bay, and a copy of them that was kept.
 #[derive(Drop)]
 pub struct ControlSession {
     alloc: Global,
+    table: ControlTable,
     controls: Controls,
     kept: Option<Controls>,
 }
@@ -131,7 +131,8 @@ impl ControlSession {
     pub fn new(alloc: Global) -> Result<ControlSession> {
         Ok(ControlSession {
             alloc,
-            controls: controls_of(alloc, "status")?,
+            table: table_of(alloc, "status")?,
+            controls: Controls::new(),
             kept: None,
         })
     }
@@ -143,17 +144,18 @@ impl ControlSession {
         };
         let association = association.parse::<u16>()?;
         let switch = switch.parse::<usize>()?;
+        let table = &self.table;
         Ok(match (*what, rest) {
-            ("select", []) => self.controls.select(association, switch, now),
-            ("cancel", []) => self.controls.cancel(association, switch, now),
+            ("select", []) => self.controls.select(table, association, switch, now),
+            ("cancel", []) => self.controls.cancel(table, association, switch, now),
             ("select-with", [ask]) => {
                 let ask = ask_of(self.alloc, ask)?;
-                self.controls.select_with(association, switch, ask, now)
+                self.controls.select_with(table, association, switch, ask, now)
             }
             ("operate", [ask, position, age, released]) => {
                 let ask = ask_of(self.alloc, ask)?;
                 let view = view_of(position, age, released)?;
-                self.controls.operate(association, switch, ask, view, now)
+                self.controls.operate(table, association, switch, ask, view, now)
             }
             _ => bail!("there is no request {what}"),
         })
@@ -163,7 +165,7 @@ impl ControlSession {
     fn timed(&mut self, moment: &str, words: &[&str]) -> Result<String> {
         let now = moment.parse::<u64>().context("no moment")?;
         if let ["advance"] = words {
-            return Ok(place_text(self.alloc, self.controls.advance(now))?);
+            return Ok(place_text(self.alloc, self.controls.advance(&self.table, now))?);
         }
         let answer = self.request(now, words)?;
         Ok(answer_text(self.alloc, answer)?)
@@ -187,7 +189,7 @@ impl ControlSession {
         match words {
             ["selected"] => return Ok(place_text(self.alloc, self.controls.selected())?),
             ["contact", switch, position] => return self.contact(switch, position),
-            ["keep"] => self.kept = Some(self.controls.duplicate()),
+            ["keep"] => self.kept = Some(self.controls),
             ["restore"] => self.restore()?,
             ["close", association] => self.controls.drop_owner(association.parse::<u16>()?),
             [moment, rest @ ..] => return self.timed(moment, rest),
@@ -199,7 +201,8 @@ impl ControlSession {
     /// Processes a bay, or checks the answer to a question.
     pub fn check(&mut self, line: &str) -> Result<()> {
         if let ("bay", controls) = first_word(line) {
-            self.controls = controls_of(self.alloc, controls)?;
+            self.table = table_of(self.alloc, controls)?;
+            self.controls = Controls::new();
             self.kept = None;
             return Ok(());
         }

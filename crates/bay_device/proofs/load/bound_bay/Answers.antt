@@ -11,6 +11,7 @@ use Rattle.bay_process.specs.declared.switch.BoundSwitch.{BoundSwitch}
 use Rattle.bay_services.specs.Bay.{rows_shown}
 use Rattle.bay_services.specs.Bay as services
 use Rattle.bay_services.specs.Places.{ArePlaced}
+use Rattle.bay_services.specs.Released.{AreTimed}
 use Rattle.bay_tree.specs.declared.row.Row.{Row}
 use Rattle.bay_services.proofs.ShownLemmas.{shows-first}
 use Rattle.bay_device.proofs.LoadLemmas.{bound-to}
@@ -19,13 +20,13 @@ use Rattle.bay_device.proofs.load.bound_bay.Goals as goal
 pub bound_rows-requires-clause-switches_there : goal.bound_rows-requires-clause-switches_there
 bound_rows-requires-clause-switches_there c =
     rw (c.take_items-rows.ensures.value, c.deref_mut.ensures.value)
-    (has-switches c.args.bay.value c.in_ok-nodes.nodes.switches.items c.requires
+    (has-switches c.args.bay.value c.in_ok-nodes.nodes.switches.items c.requires.sound
     (rw c.deref.ensures at c.in_ok-nodes.ensures.switches_named))
 
 pub bound_rows-requires-clause-meters_there : goal.bound_rows-requires-clause-meters_there
 bound_rows-requires-clause-meters_there c =
     rw (c.take_items-rows.ensures.value, c.deref_mut.ensures.value)
-    (have-meters c.args.bay.value c.in_ok-nodes.nodes.meters.items c.requires
+    (have-meters c.args.bay.value c.in_ok-nodes.nodes.meters.items c.requires.sound
     (rw c.deref.ensures at c.in_ok-nodes.ensures.meters_named))
 
 pub shown_rows-requires : goal.shown_rows-requires
@@ -46,7 +47,7 @@ shown_rows-requires c =
     did.tree ∙ rw c.deref_mut.ensures.value at c.take_items-rows.ensures.value in
     subst (λ (t : List Row). HaveSelected t c.len.result) (sym tree)
     (subst (λ n. HaveSelected bay.rows n) (sym count)
-    (have-selected bay nodes c.requires named))
+    (have-selected bay nodes c.requires.sound named))
 
 pub invariant_of-result : goal.invariant_of-result
 invariant_of-result c =
@@ -78,6 +79,8 @@ invariant_of-result c =
       sized = c.in_ok-control_rows.ensures.sized ∙ sym count;
       quiet = shows-first c.len.result _ c.in_ok-bound.bound.tree _ count
           c.in_ok-control_rows.ensures.rows;
+      timed = subst AreTimed (sym (rw c.deref-2.ensures at c.new-control_table.ensures))
+          c.requires.timed;
     }
 
 pub returns : goal.returns
@@ -106,7 +109,7 @@ returns c =
       revision = b.revision;
       switches = switches_of c.new.result;
       rows = c.shown_rows.new.tree;
-      controls = c.new-controls.result;
+      controls = control.state_of c.new-control_table.result c.new-2.result;
     } in
     record {
       served =
@@ -120,18 +123,19 @@ returns c =
             switches = bay.switches;
             rows = rows_shown None (length bay.switches) bay.rows;
             controls = cs;
-          } in b) (rw c.deref-2.ensures at c.new-controls.ensures);
+          } in b) (ap (control.state_of c.new-control_table.result) c.new-2.ensures
+          ∙ ap control.initial (rw c.deref-2.ensures at c.new-control_table.ensures));
       age = ap (λ (b : Bay). b.scan_max_age_ms) c.into_inner-domain.ensures
           ∙ ap (λ (b : Bay). b.scan_max_age_ms) c.deref_mut-2.ensures.value
           ∙ ap (λ (b : Bay). b.scan_max_age_ms) c.deref_mut.ensures.value;
       inputs = ap (λ (b : Bay). b.inputs) c.into_inner-domain.ensures
           ∙ ap (λ (b : Bay). b.inputs) c.deref_mut-2.ensures.value
           ∙ ap (λ (b : Bay). b.inputs) c.deref_mut.ensures.value;
-      ids = ap meters_of c.new-2.ensures ∙ did.ids
+      ids = ap meters_of c.new-3.ensures ∙ did.ids
           ∙ rw (c.deref-3.ensures, c.deref_mut-2.ensures.value, c.deref_mut.ensures.value) at
           c.as_slice.ensures;
       bound = rw (c.in_ok-control_rows.ensures.layout, c.new.ensures) f.placed;
-      metered = rw (c.in_ok-control_rows.ensures.layout, c.new-2.ensures) did.of_meters;
+      metered = rw (c.in_ok-control_rows.ensures.layout, c.new-3.ensures) did.of_meters;
       told_stands =
           rw did.told (none-told c.in_ok-bound.bound.switches.items c.shown_rows.new.tree);
       told_sized = ap length did.told ∙ length-map c.in_ok-bound.bound.switches.items _

@@ -1,8 +1,7 @@
 use Rattle.bay_config.specs.Bay.{bay_of}
 use Rattle.il_text.specs.Reading.{program_of}
 use Rattle.bay_device.proofs.AcceptLemmas.{accepted-ok, refused-err}
-use Rattle.bay_device.proofs.IdleLemmas.{loaded-idle, loaded-timed, text-loaded}
-use Rattle.bay_device.proofs.TravelLemmas.{bay-travels}
+use Rattle.bay_device.proofs.IdleLemmas.{loaded-idle, text-loaded}
 use Rattle.bay_device.proofs.load.load.Goals as goal
 
 pub returns-clause-accepted : goal.returns-clause-accepted
@@ -20,7 +19,3 @@ returns-clause-loaded c =
 
 pub returns-clause-idle : goal.returns-clause-idle
 returns-clause-idle c = loaded-idle _ _ c.load_texts.result (returns-clause-loaded c)
-
-pub returns-clause-timed : goal.returns-clause-timed
-returns-clause-timed c =
-    loaded-timed _ _ c.load_texts.result (bay-travels c.args.bay.now) (returns-clause-loaded c)

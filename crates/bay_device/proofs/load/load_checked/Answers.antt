@@ -34,7 +34,7 @@ returns-clause-runs c =
     let is = image-is program c.in_ok-image.image c.in_ok-image.ensures.image in
     let fits = rw (c.as_slice.ensures, c.deref.ensures) at c.in_ok-verified.ensures.accepted in
     let first =
-    runs-first program bay c.requires.bay
+    runs-first program bay c.requires.bay.sound
     (subst (λ (i : Image). IsVerified bay.points i) is fits)
     (subst (λ (i : Image). DoesTheText program i.code) is c.in_ok-image.ensures.follows) in
     subst (Runs program) (sym

@@ -24,7 +24,7 @@ invariant_of-new c =
     c.new.ensures ∙ rw points at wired.reads in
     let typed =
     reads-typed bay.points (subst (λ (ps : List Point). Each IsTyped ps)
-    (sym c.requires.bay.points) (bay-typed bay.switches bay.inputs bay.meters))
+    (sym c.requires.bay.sound.points) (bay-typed bay.switches bay.inputs bay.meters))
     c.args.verified.points (points-fit bay.points c.args.verified c.requires.verified.fits) in
     record {
       bound = subst (λ (ws : List Source). AreBound (layout_of c.in_ok-bound.bound.bay.tree) ws

@@ -1,7 +1,8 @@
 use Rattle.std.proofs.Common.{◌++◌, map, ap, ◌∙◌}
+use Rattle.bay_control.specs.Decisions.{state_of}
 use Rattle.bay_connection.specs.Talk.{Terms, sending, terms_of}
 use Rattle.bay_services.specs.Answers.{Answered, pdu_answer}
-use Rattle.bay_services.specs.Bay.{left_by, with_controls}
+use Rattle.bay_services.specs.Bay.{with_controls}
 use Rattle.bay_device.specs.Device.{State, bay_of}
 use Rattle.bay_device.specs.Hearing.{due_if, later_due, sent_on}
 use Rattle.bay_device.specs.StateView.{state_view}
@@ -22,7 +23,8 @@ returns-clause-ok c =
     answered-done a terms x s c.args.made.now.sent.items c.reply.new.made.sent.items
     c.args.made.now.commands.items c.reply.new.made.commands.items
     c.args.made.now.decisions.items c.reply.new.made.decisions.items
-    (with_controls (left_by c.answer.new.changed s.controls) (bay_of s)) (later_due s.due due)
+    (with_controls (state_of s.controls.controls c.answer.new.controls) (bay_of s))
+    (later_due s.due due)
     answered-as.left (ap (later_due d.due) (is ∙ ap (due_if a terms) answered-as.ending))
     (sends ∙ ap (λ pdus. c.args.made.now.sent.items
     ++ map (λ pdu. sent_on a (sending terms pdu)) pdus) answered-as.sent)

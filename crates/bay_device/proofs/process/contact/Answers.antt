@@ -33,6 +33,7 @@ invariant_of-bay c =
       placed = rw did.layout d.placed;
       controlled = rows-kept _ d.tree d.control_rows (sym did.layout) d.controlled;
       sized = d.sized;
+      timed = d.timed;
       quiet = rw written (shows-contact (length (switches_of d.switches))
           (switches_of d.switches) k bound.switch c.args.position c.args.now d.tree d.quiet);
     }

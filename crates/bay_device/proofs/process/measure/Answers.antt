@@ -34,6 +34,7 @@ invariant_of-bay c =
       placed = rw did.layout d.placed;
       controlled = rows-kept _ d.tree d.control_rows (sym did.layout) d.controlled;
       sized = d.sized;
+      timed = d.timed;
       quiet = rw written (shows-measure (length (switches_of d.switches)) c.args._meter f
           c.args.value c.args.now d.tree d.quiet);
     }

@@ -20,6 +20,7 @@ invariant_of-bay c =
       placed = rw did.layout d.placed;
       controlled = rows-kept _ d.tree d.control_rows (sym did.layout) d.controlled;
       sized = d.sized;
+      timed = d.timed;
       quiet = rw written (shows-scan (length (switches_of d.switches)) (layout_of d.tree)
           c.args.outputs.now c.args.now d.switches d.tree c.requires.interlocked d.quiet);
     }

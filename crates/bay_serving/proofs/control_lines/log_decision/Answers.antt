@@ -6,5 +6,5 @@ returns-in-Some g c =
       c.id-id.ensures,
       c.as_slice-in-Some.ensures,
       c.new-ident.ensures,
-      c.as_slice.ensures.value,
+      c.as_slice.ensures,
     ) at c.log_written.ensures)

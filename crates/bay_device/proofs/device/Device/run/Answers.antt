@@ -1,16 +1,16 @@
 use Rattle.std.proofs.Common.{◌≡◌, ◌≤◌, ◌<◌, ◌+◌, ◌∷◌, [], ℕ, List, length, drop, get_or, refl, arith}
 use Rattle.std.proofs.Math.ListN.{drop_of_length-le}
 use Rattle.std.proofs.lemmas.Grind.{common_steps}
-use Rattle.bay_services.specs.Released.{AreTimed}
+use Rattle.std.proofs.lemmas.List.Elements.{All-nil, All-push}
 use Rattle.bay_device.specs.Commands.{IsSingle}
 use Rattle.bay_device.specs.Device.{State, bay_of}
 use Rattle.bay_device.specs.Meaning.{Runs}
 use Rattle.bay_device.specs.declared.event.Event.{Event}
 use Rattle.bay_device.specs.declared.event.Event.TheVariants.{Open}
-use Rattle.bay_device.proofs.CommandLemmas.{step-commanded, step-single}
+use Rattle.bay_device.proofs.CommandLemmas.{step-commanded}
 use Rattle.bay_device.proofs.FreshLemmas.{step-fresh}
 use Rattle.bay_device.proofs.MeaningLemmas.{means-step}
-use Rattle.bay_device.proofs.RunLemmas.{each-answer, each-does, each-so, goes-all, goes-none, goes-step, tells, tells-backed}
+use Rattle.bay_device.proofs.RunLemmas.{each-does, each-so, goes-all, goes-none, goes-step, tells, tells-backed}
 use Rattle.bay_device.proofs.device.Device.run.Goals as goal
 
 pub loop-now-init : goal.loop-now-init
@@ -18,6 +18,7 @@ loop-now-init c = record {
   counted = c.in_ok-answers.ensures.len;
   room = omega (arith, c.in_ok-answers.ensures.capacity);
   goes = rw c.in_ok-answers.ensures.items (goes-none c.args.events.now c.args.self.now);
+  single = rw c.in_ok-answers.ensures.items (All-nil IsSingle);
 }
 
 rest-more : (events : List (ℕ × Event)) (i : ℕ) (d : ℕ × Event) → i < length events
@@ -38,6 +39,8 @@ loop-now-preserved c =
           (drop (i + 1) events) c.loop-now.self c.step-answer.result c.step-answer.new.self
           (rw here at c.loop-now.invariant.goes) c.step-answer.ensures.steps
           c.step-answer.ensures.halts);
+      single = rw room.items (All-push IsSingle c.loop-now.answers.items c.step-answer.result
+          c.loop-now.invariant.single c.step-answer.ensures.single);
     }
 
 pub returns-clause-ok : goal.returns-clause-ok
@@ -68,22 +71,11 @@ returns-clause-fresh c =
     each-so _ step-fresh c.args.events.now c.args.self.now c.loop-now.answers.items c.loop-now.self
     (returns-clause-ok c)
 
-pub returns-clause-single : goal.returns-clause-single
-returns-clause-single c timed =
-    each-answer IsSingle c.args.events.now c.args.self.now c.loop-now.answers.items
-    c.loop-now.self
-    (each-does _ (λ (s : State). AreTimed s.controls.controls) step-single c.args.events.now
-    c.args.self.now c.loop-now.answers.items c.loop-now.self timed (returns-clause-ok c)).0
-
-pub returns-clause-timed : goal.returns-clause-timed
-returns-clause-timed c timed =
-    (each-does _ (λ (s : State). AreTimed s.controls.controls) step-single c.args.events.now
-    c.args.self.now c.loop-now.answers.items c.loop-now.self timed (returns-clause-ok c)).1
-
 pub returns-clause-operates : goal.returns-clause-operates
 returns-clause-operates c sized =
     (tells _ (bay_of c.args.self.now) c.args.events.now c.args.self.now c.loop-now.answers.items
-    c.loop-now.self c.has_places.ensures (record { domain = refl; switches = refl; names = refl })
+    c.loop-now.self c.is_sound.ensures.places
+    (record { domain = refl; switches = refl; names = refl })
     sized (returns-clause-ok c)).operates
 
 pub returns-clause-backed : goal.returns-clause-backed
@@ -91,5 +83,6 @@ returns-clause-backed c none sized =
     tells-backed (bay_of c.args.self.now) c.args.events.now c.args.self.now
     c.loop-now.answers.items c.loop-now.self none
     (tells _ (bay_of c.args.self.now) c.args.events.now c.args.self.now c.loop-now.answers.items
-    c.loop-now.self c.has_places.ensures (record { domain = refl; switches = refl; names = refl })
+    c.loop-now.self c.is_sound.ensures.places
+    (record { domain = refl; switches = refl; names = refl })
     sized (returns-clause-ok c))

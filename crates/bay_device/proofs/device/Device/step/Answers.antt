@@ -18,14 +18,9 @@ returns-clause-commanded c =
     c.do_event.ensures.steps
 
 pub returns-clause-single : goal.returns-clause-single
-returns-clause-single c timed =
-    (step-single c.args.now c.args.event c.args.self.now c.do_event.result c.do_event.new.self timed
-    c.do_event.ensures.steps).0
-
-pub returns-clause-timed : goal.returns-clause-timed
-returns-clause-timed c timed =
-    (step-single c.args.now c.args.event c.args.self.now c.do_event.result c.do_event.new.self timed
-    c.do_event.ensures.steps).1
+returns-clause-single c =
+    step-single c.args.now c.args.event c.args.self.now c.do_event.result c.do_event.new.self
+    c.is_sound.ensures.timed c.do_event.ensures.steps
 
 pub returns-clause-means : goal.returns-clause-means
 returns-clause-means c program runs =
@@ -40,7 +35,7 @@ returns-clause-runs c program runs =
 pub returns-clause-leads : goal.returns-clause-leads
 returns-clause-leads c =
     leading c.args.now c.args.event c.args.self.now c.do_event.result c.do_event.new.self
-    c.has_places.ensures c.do_event.ensures.steps
+    c.is_sound.ensures.places c.do_event.ensures.steps
 
 pub returns-clause-tells : goal.returns-clause-tells
 returns-clause-tells c names alike sized =

@@ -10,8 +10,10 @@ returns-in_err-read_one-clause-long c =
     rw (p.1, p.2) (λ is. long-all c.args.client (bay_view c.args.self.now) c.args.response.now.size
     c.args.names.now
     c.loop-name.name-index _
-    (reading c.args.self.now c.args.changed.now c.args.decisions.now.items c.args.response.now.octets)
-    (reading c.args.self.now c.loop-name.changed c.loop-name.decisions.items c.loop-name.response.octets)
+    (reading c.args.self.now c.args.controls.now c.args.decisions.now.items
+    c.args.response.now.octets)
+    (reading c.args.self.now c.loop-name.controls c.loop-name.decisions.items
+    c.loop-name.response.octets)
     c.loop-name.invariant.ok
     (omega (arith, c.loop-name-test.true))
     (rw c.loop-name.invariant.size at c.in_err-read_one.ensures.long is))

@@ -13,7 +13,7 @@ returns-in_err-read_all-clause-response c =
     c.from_residual-in_err-read_all.ensures.1 in
     let results =
     (read_all c.args.client (bay_view c.args.self.now) (map naming c.args.names.now)
-    (reading c.args.self.now c.args.changed.now c.args.decisions.now.items [])).results in
+    (reading c.args.self.now c.args.controls.now c.args.decisions.now.items [])).results in
     rw (p.1, p.2) (fault-told c.in_err-read_all.field-0.0 c.args.client.size
     (read_text c.args.id results)
     (λ is. let long = rw c.in_ok-response.ensures at c.in_err-read_all.ensures.long is in

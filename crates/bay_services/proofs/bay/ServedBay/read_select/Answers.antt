@@ -12,8 +12,7 @@ pub returns-in_ok-object-in-Ok-clause-ok : goal.returns-in_ok-object-in-Ok-claus
 returns-in_ok-object-in-Ok-clause-ok c =
     let d = c.args.self.now in
     let b = bay_view d in
-    let r = reading d c.args.changed.now c.args.decisions.now.items c.args.response.now.octets in
-    let same = c.duplicate-controls.ensures ∙ c.left.ensures in
+    let r = reading d c.args.controls.now c.args.decisions.now.items c.args.response.now.octets in
     let told : c.as_str.result.now
     ≡ selected_text (object_of b (name_at d.tree c.args.row)) (Ok tt) =
     c.as_str.ensures ∙ c.in_ok-object-in-Ok.ensures in
@@ -22,16 +21,15 @@ returns-in_ok-object-in-Ok-clause-ok c =
     (λ has. selected c.args.client b c.args.switch (name_at d.tree c.args.row) r
     (select_outcome c.args.client.association c.args.switch c.args.client.now r.controls) _
     (Ok tt) _ c.as_str.result.now c.text.new.self.octets
-    (rw same at c.select-answer.ensures.after)
-    (sym c.in-Ok.is ∙ rw same at c.select-answer.ensures.answer)
+    c.select-answer.ensures.after
+    (sym c.in-Ok.is ∙ c.select-answer.ensures.answer)
     (rw c.in-Ok.is at c.in_ok-put_select.ensures) told has)
 
 pub returns-in_ok-object-in-Ok-clause-long : goal.returns-in_ok-object-in-Ok-clause-long
 returns-in_ok-object-in-Ok-clause-long c =
     let d = c.args.self.now in
     let b = bay_view d in
-    let r = reading d c.args.changed.now c.args.decisions.now.items c.args.response.now.octets in
-    let same = c.duplicate-controls.ensures ∙ c.left.ensures in
+    let r = reading d c.args.controls.now c.args.decisions.now.items c.args.response.now.octets in
     let told : c.as_str.result.now
     ≡ selected_text (object_of b (name_at d.tree c.args.row)) (Ok tt) =
     c.as_str.ensures ∙ c.in_ok-object-in-Ok.ensures in
@@ -40,4 +38,4 @@ returns-in_ok-object-in-Ok-clause-long c =
     (λ long. selected-long c.args.client b c.args.switch (name_at d.tree c.args.row) r
     (select_outcome c.args.client.association c.args.switch c.args.client.now r.controls)
     (Ok tt) c.as_str.result.now c.args.response.now.size
-    (sym c.in-Ok.is ∙ rw same at c.select-answer.ensures.answer) told long)
+    (sym c.in-Ok.is ∙ c.select-answer.ensures.answer) told long)

@@ -13,9 +13,15 @@ returns-in-None c =
     let b = bay_view d in
     let w = write_all c.args.client b (map naming c.args.names.now) (data_in c.args.values.now)
     (nothing_written b) in
-    let made = writing d c.write_all.new.changed c.write_all.new.written in
+    let made = writing d c.write_all.new.controls c.write_all.new.written in
     let ok : made ≡ w =
-    rw (c.requires, c.new.ensures, c.new-2.ensures.items, c.new-3.ensures.items, c.new-4.ensures.items) at
+    rw (
+      c.requires,
+      c.new.ensures,
+      c.new-2.ensures.items,
+      c.new-3.ensures.items,
+      c.new-4.ensures.items,
+    ) at
     c.in_ok-write_all.ensures in
     said_as c.failed.result _ b _ c.failed.ensures
     (ap (write_done c.args.client c.args.id b) (sym ok)

@@ -8,6 +8,6 @@ use Rattle.bay_services.proofs.bay.ServedBay.write_all.Given as goal
 abbrev pub invariant-loop-i : goal.invariant-loop-i
 invariant-loop-i l =
     write_all l.client (bay_view l.self) (map naming l.names) (data_in l.values)
-    (writing l.self l.initial.changed l.initial.written)
+    (writing l.self l.initial.controls l.initial.written)
     ≡ write_all l.client (bay_view l.self) (map naming (drop l.i l.names))
-    (data_in (drop l.i l.values)) (writing l.self l.changed l.written)
+    (data_in (drop l.i l.values)) (writing l.self l.controls l.written)

@@ -18,9 +18,7 @@ returns c =
     let a = c.args.client in
     let k = c.args.part.switch in
     let item = name_at d.tree c.args.part.row in
-    let w = writing d c.args.changed.now c.args.written.now in
-    let same : c.duplicate-controls.result ≡ w.controls =
-    c.duplicate-controls.ensures ∙ c.left.ensures in
+    let w = writing d c.args.controls.now c.args.written.now in
     let read : cancel_in (datum_of c.args.given.now) ≡ Ok (cancelling c.in-Ok.cancel) =
     sym c.cancel_of.ensures ∙ ap (result_view cancelling) c.in-Ok.is in
     let control = cancelling c.in-Ok.cancel in
@@ -28,7 +26,7 @@ returns c =
     all_three c.put_decision.result _ _ _ _ c.put_decision.ensures.response
     c.put_decision.ensures.reports c.put_decision.ensures.decisions
     (λ has told decided. put-down a b k Cancel item control control w o _ _ _ _ _ _ _
-    (rw same at c.cancel-answer.ensures.after) (rw same at c.cancel-answer.ensures.answer) refl
+    c.cancel-answer.ensures.after c.cancel-answer.ensures.answer refl
     has told (ap (λ (v : _). v.items) c.put_decision.ensures.commands) decided
     c.put_decision.ensures.ending
     ∙ sym (ap (cancel_asked a b k item w) read))

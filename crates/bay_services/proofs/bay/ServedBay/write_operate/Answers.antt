@@ -21,9 +21,7 @@ returns-in-Ok-answer c =
     let a = c.args.client in
     let k = c.args.switch in
     let item = name_at d.tree c.args.row in
-    let w = writing d c.args.changed.now c.args.written.now in
-    let same : c.duplicate-controls.result ≡ w.controls =
-    c.duplicate-controls.ensures ∙ c.left.ensures in
+    let w = writing d c.args.controls.now c.args.written.now in
     let asking = operating c.in-Ok.operate in
     let read : operate_in (datum_of c.args.given.now) ≡ Ok asking =
     sym c.operate_of.ensures ∙ ap (result_view operating) c.in-Ok.is in
@@ -33,8 +31,8 @@ returns-in-Ok-answer c =
     both c.accept.result _ _ _ c.accept.ensures.commands c.accept.ensures.ending
     (λ ordered due. operated a b k item asking asking.control w o _
     c.operate-answer.result _ _ _ _ _
-    (rw (same, c.view.ensures) at c.operate-answer.ensures.after)
-    (rw (same, c.view.ensures) at c.operate-answer.ensures.answer) refl
+    (rw c.view.ensures at c.operate-answer.ensures.after)
+    (rw c.view.ensures at c.operate-answer.ensures.answer) refl
     (c.accept.ensures.response ∙ put.response)
     (ap (λ (v : _). v.items) c.accept.ensures.reports ∙ put.reports)
     (ordered ∙ ap (λ (v : _). v.items ++ commands_for k asking (Ok tt)) put.commands
@@ -56,9 +54,7 @@ returns-in-Err-answer c =
     let a = c.args.client in
     let k = c.args.switch in
     let item = name_at d.tree c.args.row in
-    let w = writing d c.args.changed.now c.args.written.now in
-    let same : c.duplicate-controls.result ≡ w.controls =
-    c.duplicate-controls.ensures ∙ c.left.ensures in
+    let w = writing d c.args.controls.now c.args.written.now in
     let asking = operating c.in-Ok.operate in
     let read : operate_in (datum_of c.args.given.now) ≡ Ok asking =
     sym c.operate_of.ensures ∙ ap (result_view operating) c.in-Ok.is in
@@ -67,8 +63,8 @@ returns-in-Err-answer c =
     let put = c.in_ok-put_decision.ensures in
     operated a b k item asking asking.control w o _
     c.operate-answer.result _ _ _ _ _
-    (rw (same, c.view.ensures) at c.operate-answer.ensures.after)
-    (rw (same, c.view.ensures) at c.operate-answer.ensures.answer) refl
+    (rw c.view.ensures at c.operate-answer.ensures.after)
+    (rw c.view.ensures at c.operate-answer.ensures.answer) refl
     put.response put.reports
     (ap (λ (v : _). v.items) put.commands ∙ sym (append-nil w.commands)
     ∙ ap (λ (r : Result (Unit {0}) AddCause). w.commands ++ commands_for k asking r)

@@ -19,9 +19,7 @@ returns c =
     let a = c.args.client in
     let k = c.args.part.switch in
     let item = name_at d.tree c.args.part.row in
-    let w = writing d c.args.changed.now c.args.written.now in
-    let same : c.duplicate-controls.result ≡ w.controls =
-    c.duplicate-controls.ensures ∙ c.left.ensures in
+    let w = writing d c.args.controls.now c.args.written.now in
     let read : operate_in (datum_of c.args.given.now) ≡ Ok (operating c.in-Ok.operate) =
     sym c.operate_of.ensures ∙ ap (result_view operating) c.in-Ok.is in
     let control = (operating c.in-Ok.operate).control in
@@ -29,7 +27,7 @@ returns c =
     all_three c.put_decision.result _ _ _ _ c.put_decision.ensures.response
     c.put_decision.ensures.reports c.put_decision.ensures.decisions
     (λ has told decided. put-down a b k SelectWith item control control w o _ _ _ _ _ _ _
-    (rw same at c.select_with-answer.ensures.after) (rw same at c.select_with-answer.ensures.answer)
+    c.select_with-answer.ensures.after c.select_with-answer.ensures.answer
     refl has told
     (ap (λ (v : _). v.items) c.put_decision.ensures.commands) decided
     c.put_decision.ensures.ending
