@@ -2,14 +2,12 @@
 ghost use Rattle.std.specs.Prelude.{◌≡◌, [], if◌then◌else◌, None};
 ghost use Rattle.bay_control.specs.Decisions.{controls_at, answer_of, cancel_outcome, execution_at, operate_outcome, rows_of_operate, run_out, select_outcome, select_rows, select_with_outcome, selected_switch, selection_at, selection_without, state_of};
 ghost use Rattle.bay_control.specs.Decisions as spec;
+ghost use Rattle.bay_control.specs.Requests.{asked_choice};
 
 use crate::cause::AddCause;
 use crate::control::{ControlTable, is_over};
 use crate::request::{Ask, Choice, View, is_reached};
-use crate::selection::{
-    Execution, Selection, is_chosen, is_done, is_executing, is_selected_by, is_selected_by_other,
-    other_is_executing, other_is_selected,
-};
+use crate::selection::{Execution, Selection};
 use bay_config::bay::Control;
 use bay_tree::leaf::Dbpos;
 
@@ -37,6 +35,37 @@ impl Controls {
             selection: None,
             execution: None,
         }
+    }
+
+    /// Returns whether the association has selected the switch.
+    fn is_selected_by(&self, association: u16, switch: usize) -> bool
+        ensures { result ≡ spec.is_selected_by association switch self.now.selection }
+    {
+        self.selection
+            .as_ref()
+            .is_some_and(|s| s.association == association && s.switch == switch)
+    }
+
+    /// Returns whether a select with value was granted for what is asked for.
+    fn is_chosen(&self, ask: &Ask) -> bool
+        ensures { result ≡ spec.is_chosen (asked_choice ask.now) self.now.selection }
+    {
+        match &self.selection {
+            Some(
+                Selection {
+                    choice: Some(choice),
+                    ..
+                },
+            ) => choice.is_asked(ask),
+            _ => false,
+        }
+    }
+
+    /// Returns whether the switch is operating.
+    fn is_executing(&self, switch: usize) -> bool
+        ensures { result ≡ spec.is_executing switch self.now.execution }
+    {
+        self.execution.is_some_and(|e| e.switch == switch)
     }
 
     /// Returns whether the selection has expired.
@@ -112,16 +141,14 @@ impl Controls {
         if !is_supported {
             return Err(AddCause::NotSupported);
         }
-        if is_executing(self.execution, switch) {
+        if self.is_executing(switch) {
             return Err(AddCause::CommandAlreadyInExecution);
         }
-        if is_selected_by_other(&self.selection, association, switch) {
-            return Err(AddCause::SelectFailed);
+        match &self.selection {
+            Some(held) if held.switch != switch => Err(AddCause::OneOfNControl),
+            Some(held) if held.association != association => Err(AddCause::SelectFailed),
+            _ => Ok(()),
         }
-        if other_is_selected(&self.selection, switch) {
-            return Err(AddCause::OneOfNControl);
-        }
-        Ok(())
     }
 
     /// Selects a switch whose control has normal security (Select). The association that has
@@ -168,8 +195,7 @@ impl Controls {
         now: u64,
     ) -> Result<(), AddCause>
         ensures answer { result
-            ≡ (select_with_outcome association switch ask now (state_of table.now self.old)).answer
-                }
+            ≡ (select_with_outcome association switch ask now (state_of table.now self.old)).answer }
         ensures after { state_of table.now self.new
             ≡ (select_with_outcome association switch ask now (state_of table.now self.old)).after }
     {
@@ -207,18 +233,18 @@ impl Controls {
         if matches!(control.model, Control::Status) {
             return Err(AddCause::NotSupported);
         }
-        let is_selected = is_selected_by(&self.selection, association, switch)
-            && (!matches!(control.model, Control::SboEnhanced) || is_chosen(&self.selection, ask));
+        let is_selected = self.is_selected_by(association, switch)
+            && (!matches!(control.model, Control::SboEnhanced) || self.is_chosen(ask));
         if control.is_sbo() && !is_selected {
             return Err(AddCause::ObjectNotSelected);
         }
         if ask.test {
             return Err(AddCause::BlockedByMode);
         }
-        if is_executing(self.execution, switch) {
+        if self.is_executing(switch) {
             return Err(AddCause::CommandAlreadyInExecution);
         }
-        if other_is_executing(self.execution, switch) {
+        if self.execution.is_some() {
             return Err(AddCause::OneOfNControl);
         }
         if is_reached(ask.on, view.pos) {
@@ -249,15 +275,13 @@ impl Controls {
         now: u64,
     ) -> Result<(), AddCause>
         ensures answer { result
-            ≡ (operate_outcome association switch ask view now (state_of table.now self.old)).answer
-                }
+            ≡ (operate_outcome association switch ask view now (state_of table.now self.old)).answer }
         ensures after { state_of table.now self.new
-            ≡ (operate_outcome association switch ask view now (state_of table.now self.old)).after
-                }
+            ≡ (operate_outcome association switch ask view now (state_of table.now self.old)).after }
     {
         self.advance(table, now);
         let answer = self.check_operate(table, association, switch, &ask, view);
-        if is_selected_by(&self.selection, association, switch) {
+        if self.is_selected_by(association, switch) {
             self.selection = None;
         }
         answer?;
@@ -290,10 +314,10 @@ impl Controls {
         if !table.of(switch).is_sbo() {
             return Err(AddCause::NotSupported);
         }
-        if is_executing(self.execution, switch) {
+        if self.is_executing(switch) {
             return Err(AddCause::CommandAlreadyInExecution);
         }
-        if !is_selected_by(&self.selection, association, switch) {
+        if !self.is_selected_by(association, switch) {
             return Err(AddCause::ObjectNotSelected);
         }
         self.selection = None;
@@ -322,7 +346,9 @@ impl Controls {
           execution = if result then None else self.old.execution;
         } }
     {
-        let is_ended = is_done(self.execution, switch, position);
+        let is_ended = self
+            .execution
+            .is_some_and(|e| e.switch == switch && is_reached(e.on, position));
         if is_ended {
             self.execution = None;
         }
