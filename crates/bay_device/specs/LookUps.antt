@@ -1,10 +1,11 @@
 -- What the look-ups of a device answer.
 use Rattle.std.specs.Prelude.{ℕ, Bool, true, nat_lt, List, length, position, Option, None, Some, if◌then◌else◌}
 use Rattle.bay_tree.specs.Rows.{leaf_of}
+use Rattle.bay_tree.specs.declared.leaf.Leaf.{Leaf}
 use Rattle.bay_base.specs.Names.{same_name}
 use Rattle.bay_device.specs.Device.{State}
 use Rattle.bay_process.specs.Values.{is_truth}
-use Rattle.bay_nodes.specs.Names.{StatusNames, opening_of, closing_of}
+use Rattle.bay_nodes.specs.Names.{StatusNames, control_of, opening_of, closing_of, position_names}
 
 -- the place of the switch with an id, whatever the case of its letters
 abbrev pub switch_place : State → List ℕ → Option ℕ
@@ -33,3 +34,10 @@ may_close s k = is_enabled s (closing_of k)
 -- both of them, of a switch that is there
 abbrev pub enabled_of : State → ℕ → Option (Bool × Bool)
 enabled_of s k = if nat_lt k (length s.switches) then Some (may_open s k, may_close s k) else None
+
+-- the position that the control of the switch at a place tells (IEC 61850-7-4, CSWI), of a switch
+-- that is there
+abbrev pub position_of : State → ℕ → Option Leaf
+position_of s k =
+    if nat_lt k (length s.switches) then leaf_of (position_names (control_of k)).value s.rows
+    else None

@@ -12,7 +12,7 @@ ghost use Rattle.bay_device.specs.Commands.{CommandedAt, IsSingle};
 ghost use Rattle.bay_device.specs.Device.{bay_of};
 ghost use Rattle.bay_device.specs.Entries.{Leading};
 ghost use Rattle.bay_device.specs.Fresh.{FreshAt};
-ghost use Rattle.bay_device.specs.LookUps.{switch_place, input_place, meter_place, enabled_of};
+ghost use Rattle.bay_device.specs.LookUps.{switch_place, input_place, meter_place, enabled_of, position_of};
 ghost use Rattle.bay_device.specs.Meaning.{HaltsAt, MeansAt, Runs};
 ghost use Rattle.bay_device.specs.Operates.{AllOperate, AreOperates};
 ghost use Rattle.bay_device.specs.Outcomes.{without_connection, connection_at, event_outcome, outcome, recv_after};
@@ -21,6 +21,7 @@ ghost use Rattle.bay_device.specs.Report.{IsReport};
 ghost use Rattle.bay_device.specs.StateView.{state_view};
 ghost use Rattle.bay_device.specs.Steps.{EachStep, IsOutcome, Hears, IsWithoutOctets, Receives, Steps};
 ghost use Rattle.bay_device.specs.Told.{AreTalks, Telling, told_all};
+ghost use Rattle.bay_tree.specs.declared.leaf.Leaf.TheVariants as leaf;
 ghost use Rattle.bay_device.specs.declared.event.Event.TheVariants.{Open, Recv, Close, Contact, Input, Measure, Scan};
 
 use crate::connections::Connections;
@@ -460,13 +461,6 @@ impl Device {
         self.state.input_place(name)
     }
 
-    /// Returns the name of the input at an index, as it is spelled in the bay file.
-    pub fn input_name(&self, input: usize) -> Option<&str>
-        ensures { option_map (λ name. name.now) result ≡ slice_get self.now.inputs input }
-    {
-        self.state.input_name(input)
-    }
-
     /// Returns the index of the first input that is TRUE, if one is.
     pub fn first_true_input(&self) -> Option<usize>
         ensures { result ≡ position (λ value. value) self.now.input_values }
@@ -502,6 +496,13 @@ impl Device {
         ensures { result ≡ enabled_of self.now switch }
     {
         self.state.ena(switch)
+    }
+
+    /// Returns the position that the control of the switch at an index tells (IEC 61850-7-4, CSWI).
+    pub fn position(&self, switch: usize) -> Option<Dbpos>
+        ensures { option_map leaf.Dbpos result ≡ position_of self.now switch }
+    {
+        self.state.position(switch)
     }
 
     /// Returns the tree of the device's values, for reading.

@@ -2,15 +2,17 @@
 ghost use Rattle.std.specs.Prelude.{◌≡◌, true, List, Option, slice_get, option_map};
 ghost use Rattle.bay_connection.specs.Talk.{Talk};
 ghost use Rattle.bay_tree.specs.Rows.{leaf_of};
+ghost use Rattle.bay_tree.specs.declared.leaf.Leaf.TheVariants as leaf;
 ghost use Rattle.bay_process.specs.Values.{is_truth};
 ghost use Rattle.bay_process.specs.Layout.{layout_of, status_in, switches_of, AreSwitchRows};
-ghost use Rattle.bay_device.specs.LookUps.{switch_place, enabled_of};
+ghost use Rattle.bay_device.specs.LookUps.{switch_place, enabled_of, position_of};
 ghost use Rattle.bay_device.specs.LookUps as spec;
 ghost use Rattle.bay_device.specs.StateView.{state_view};
 
 use crate::state::DeviceState;
-use bay_process::rows::{SwitchRows, is_truth};
+use bay_process::rows::{SwitchRows, is_truth, position_at};
 use bay_process::switch::Enabled;
+use bay_tree::leaf::Dbpos;
 use bay_tree::tree::Tree;
 
 /// Returns the interlocking values that the tree holds.
@@ -34,16 +36,6 @@ impl DeviceState {
             → result ≡ spec.input_place (state_view connections self.now) name.now }
     {
         self.tables.inputs.place_of(self.inputs.as_slice(), name)
-    }
-
-    /// Returns the name of the input at an index, as it is spelled in the bay file.
-    pub fn input_name(&self, input: usize) -> Option<&str>
-        ensures { option_map (λ name. name.now) result ≡ slice_get self.now.inputs input }
-    {
-        match self.inputs.as_slice().get(input) {
-            Some(name) => Some(name.as_str()),
-            None => None,
-        }
     }
 
     /// Returns the index of the meter with this id, ignoring the case of its letters.
@@ -86,5 +78,14 @@ impl DeviceState {
             None => enabled_at(&self.bay.tree, &bound.rows),
         };
         Some((enabled.may_open, enabled.may_close))
+    }
+
+    /// Returns the position that the control of the switch at an index tells.
+    pub fn position(&self, switch: usize) -> Option<Dbpos>
+        ensures { (connections : List (Option Talk)) → option_map leaf.Dbpos result
+            ≡ position_of (state_view connections self.now) switch }
+    {
+        let bound = self.bay.switches.as_slice().get(switch)?;
+        Some(position_at(&self.bay.tree, bound.rows.control.value))
     }
 }

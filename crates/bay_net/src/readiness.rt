@@ -2,16 +2,18 @@
 use mio::unix::SourceFd;
 use mio::{Events, Interest, Poll, Registry, Token};
 use std::alloc::Global;
+use std::cell::Cell;
 use std::io;
 use std::net::{Net, TcpListener, TcpStream};
 use std::os::fd::AsRawFd;
+use std::rc::Rc;
 use std::time::Duration;
 
 /// The maximum number of events that one wait takes. The next wait takes more.
 const EVENTS: usize = 32;
 
-/// The token of every socket: after a wait, all sockets are looked at.
-const ANY: Token = Token(0);
+/// The token of every connection: after a wait, all connections are looked at.
+const ANY: Token = Token(usize::MAX);
 
 /// Reports when sockets of links are ready.
 ///
@@ -19,14 +21,32 @@ const ANY: Token = Token(0);
 /// reported that it would block, or has read less than its room, which also empties a socket.
 #[derive(Drop)]
 pub struct Readiness {
+    alloc: Global,
     poll: Poll,
     events: Events<Global>,
+    bells: Vec<Rc<Bell, Global>>,
 }
 
-/// Registers a listener.
-pub(crate) fn add_listener(registry: &Registry, listener: &TcpListener) -> io::Result<()> {
-    let descriptor = listener.as_raw_fd();
-    registry.register(&mut SourceFd(&descriptor), ANY, Interest::READABLE)
+/// What is known of the connections that wait at a listener.
+#[derive(Drop)]
+pub(crate) struct Bell {
+    /// An accept would have blocked, and no event of the listener has come since.
+    is_empty: Cell<bool>,
+    /// A wait has ended so, and no connection was asked for since.
+    is_quiet: Cell<bool>,
+}
+
+impl Bell {
+    /// Whether a wait has just ended and no connection waits. True once for each wait, so that a
+    /// listener is asked as often as no wait comes between.
+    pub(crate) fn was_quiet(&self) -> bool {
+        self.is_quiet.replace(false)
+    }
+
+    /// Notes whether an accept would have blocked.
+    pub(crate) fn set_empty(&self, is_empty: bool) {
+        self.is_empty.set(is_empty);
+    }
 }
 
 /// Registers a connection until it is closed.
@@ -41,16 +61,45 @@ impl Readiness {
     pub fn new<R: Net>(rt: &R, alloc: Global) -> io::Result<Readiness> {
         let poll = Poll::new(rt)?;
         let events = Events::with_capacity(alloc, EVENTS)?;
-        Ok(Readiness { poll, events })
+        Ok(Readiness {
+            alloc,
+            poll,
+            events,
+            bells: Vec::new(alloc),
+        })
     }
 
-    /// Returns a handle with which sockets are registered.
+    /// Registers a listener, whose token is its index.
+    pub(crate) fn add_listener(&mut self, listener: &TcpListener) -> io::Result<Rc<Bell, Global>> {
+        let descriptor = listener.as_raw_fd();
+        let token = Token(self.bells.len());
+        let registry = self.poll.registry();
+        registry.register(&mut SourceFd(&descriptor), token, Interest::READABLE)?;
+        let bell = Bell {
+            is_empty: Cell::new(false),
+            is_quiet: Cell::new(false),
+        };
+        let bell = Rc::new(self.alloc, bell)?;
+        self.bells.push(bell.clone()?)?;
+        Ok(bell)
+    }
+
+    /// Returns a handle with which connections are registered.
     pub(crate) fn registry(&self) -> io::Result<Registry> {
         self.poll.registry().try_clone()
     }
 
     /// Waits until a socket is ready or the time is up.
     pub fn wait(&mut self, most: Duration) -> io::Result<()> {
-        self.poll.poll(&mut self.events, Some(most))
+        self.poll.poll(&mut self.events, Some(most))?;
+        for event in self.events.iter() {
+            if let Some(bell) = self.bells.as_slice().get(event.token().0) {
+                bell.is_empty.set(false);
+            }
+        }
+        for bell in self.bells.as_slice() {
+            bell.is_quiet.set(bell.is_empty.get());
+        }
+        Ok(())
     }
 }

@@ -2,12 +2,14 @@
 ghost use Rattle.std.specs.Prelude.{◌≡◌, ◌+◌, ◌-◌, ◌<◌, min};
 ghost use Rattle.std.specs.Io.{ReadsAtMost, WritesAtMost};
 
-use crate::readiness::{Readiness, add_listener, add_stream};
+use crate::readiness::{Bell, Readiness, add_stream};
 use bay_serve::link::{Arrival, Link, LinkFault};
 use mio::Registry;
+use std::alloc::Global;
 use std::io;
 use std::io::{ErrorKind, Read, Write};
 use std::net::{Ipv4Addr, Net, SocketAddr, SocketAddrV4, TcpListener, TcpStream};
+use std::rc::Rc;
 use std::time::{Clock, Instant};
 
 /// The number of seconds for which a connection may send nothing at all before it counts as failed.
@@ -26,6 +28,7 @@ pub struct TcpLink<'a, C> {
     clock: &'a C,
     registry: Registry,
     listener: TcpListener,
+    bell: Rc<Bell, Global>,
     peers: [Option<Peer>; 8],
     failures: u64,
 }
@@ -33,6 +36,14 @@ pub struct TcpLink<'a, C> {
 /// Whether a call would have blocked.
 fn would_wait(error: &io::Error) -> bool {
     error.kind() == ErrorKind::WouldBlock || error.kind() == ErrorKind::Interrupted
+}
+
+/// Whether an accept would have blocked.
+fn is_blocked<T>(accepted: &io::Result<T>) -> bool {
+    match accepted {
+        Ok(_) => false,
+        Err(error) => error.kind() == ErrorKind::WouldBlock,
+    }
 }
 
 /// Returns the error of a read or a write without an open connection.
@@ -77,18 +88,19 @@ impl<'a, C: Clock> TcpLink<'a, C> {
     pub fn bind<R: Net<Listener = TcpListener, Stream = TcpStream>>(
         rt: &R,
         clock: &'a C,
-        readiness: &Readiness,
+        readiness: &mut Readiness,
         port: u16,
     ) -> io::Result<TcpLink<'a, C>> {
         let registry = readiness.registry()?;
         let address = SocketAddr::from((Ipv4Addr::LOCALHOST, port));
         let listener = TcpListener::bind(rt, address)?;
         listener.set_nonblocking(true)?;
-        add_listener(&registry, &listener)?;
+        let bell = readiness.add_listener(&listener)?;
         Ok(TcpLink {
             clock,
             registry,
             listener,
+            bell,
             peers: [None, None, None, None, None, None, None, None],
             failures: 0,
         })
@@ -153,8 +165,15 @@ impl<'a, C: Clock> TcpLink<'a, C> {
 impl<C: Clock> Link for TcpLink<'_, C> {
     ghost failures = { λ link. link.failures };
 
+    /// Asks the system for nothing behind a wait that told of no connection. A connection that
+    /// can't be accepted, as for want of descriptors, is asked for again.
     fn accept(&mut self, association: u16) -> Result<Option<SocketAddrV4>, LinkFault> {
-        match self.accept_one() {
+        if self.bell.was_quiet() {
+            return Ok(None);
+        }
+        let accepted = self.accept_one();
+        self.bell.set_empty(is_blocked(&accepted));
+        match accepted {
             Ok((peer, from)) => {
                 self.peers[association as usize - 1] = Some(peer);
                 Ok(Some(from))

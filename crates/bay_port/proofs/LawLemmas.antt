@@ -1,108 +1,82 @@
 -- Lemmas on what holds of the port of a process.
-use Rattle.std.proofs.Common.{◌≡◌, ◌≢◌, ℕ, zero, suc, ◌+◌, ◌<◌, Bool, ◌||◌, true, false, List, [], ◌∷◌, ◌++◌, length, take, drop, is_none, is_some, All, codes, Option, None, Some, nat_le, Result, Ok, Err, refl, sym, ap, ◌∙◌, subst, arith, append_assoc, append-nil, take-append-drop}
+use Rattle.std.proofs.Common.{if◌then◌else◌, ◌≡◌, ◌≢◌, ℕ, zero, suc, ◌+◌, ◌<◌, Bool, ◌||◌, true, false, List, [], ◌∷◌, ◌++◌, length, take, drop, is_none, is_some, All, codes, Option, None, Some, nat_le, Result, Ok, Err, refl, sym, ap, ◌∙◌, subst, arith, append_assoc, append-nil, take-append-drop}
 use Rattle.std.proofs.lemmas.Iterator.Adapters.{position_from-zero}
 use Rattle.std.proofs.lemmas.List.Elements.{All-cons, All-nil}
 use Rattle.std.specs.List.{position_from}
 use Rattle.std.specs.declared.net.socket_addr.SocketAddrV4.{SocketAddrV4}
-use Rattle.bay_tree.specs.declared.row.Row.{Row}
-use Rattle.bay_nodes.specs.declared.switch.Switch.{Switch}
 use Rattle.bay_device.specs.Device.{State}
 use Rattle.bay_lines.specs.Fronts.{Front, Waiting, Overlong, Whole, front}
 use Rattle.bay_port.specs.Attending.{Attended, all_told, Part, Script, accepted_in, attendance, first_part, taken_or_closed, welcomed, attended_here, behind, line_part, closed_or_kept, attended_as, left_in, offer_part, offered_of, on_heard, read_by, talk_part, told_to}
-use Rattle.bay_port.specs.Fit.{forgetting_line, is_fit, is_told, is_waiting, is_wrong, line_or_none, said_or_none}
+use Rattle.bay_port.specs.Fit.{is_fit, is_told, is_waiting, is_wrong, line_or_none}
 use Rattle.bay_port.specs.Laws.{AreBad, AreFalse, IsReadable, IsSilent, TellsInOrder, hears_end, is_end, taken_of}
 use Rattle.bay_port.specs.Ports.{PortData, emptied, taken_as, taken_front}
 use Rattle.bay_port.specs.Releases.{told_after}
-use Rattle.bay_port.specs.Sound.{first_on, first_on_name, first_sound, is_forgotten, sound_from, tells_bad}
+use Rattle.bay_port.specs.Sound.{first_on, first_sound, is_bad, is_forgotten, sound_from}
 use Rattle.bay_port.specs.Telling.{fits_in}
 use Rattle.bay_port.specs.declared.news.News.TheVariants.{Closed}
 use Rattle.bay_port.specs.declared.news.Parting.{Parting}
 use Rattle.bay_port.specs.declared.port.Presence.{Presence}
 use Rattle.bay_port.specs.declared.port.Presence.TheVariants.{Away, Leaving, Here}
 use Rattle.bay_serve.specs.Calls.{Call, Accepts, Reads, Writes, Closes, ReadOutcome, Octets, Silence, Over, Broken}
-use Rattle.bay_trace.specs.Trace.{NamedData}
-use Rattle.bay_serve.specs.Served.{line_of, refusal_at, refusal_of}
+use Rattle.bay_serve.specs.Served.{told_by, understood}
+use Rattle.bay_port.proofs.FitLemmas.{understood-told}
 
--- ---- lines that are not refused
+-- ---- lines that are read
 
-told-right : (line : List ℕ) → is_told line ≡ true → refusal_at (Some line) false ≡ None
-told-right line e = by-line (line_of line) e
+front-readable : (s : State) (f : Front) (p : PortData) (line : List ℕ)
+    → (taken_front s f p).line ≡ Some line
+    → understood (told_by s line) ≡ Ok (taken_front s f p).event
+front-readable s Waiting p line e = absurd cc
+front-readable s Overlong p line e = absurd cc
+front-readable s (Whole text rest) p line e = by-fit (is_fit text) refl
   where
-    by-line : (o : Option NamedData) → is_some o ≡ true → refusal_of o false ≡ None
-    by-line None e = absurd cc
-    by-line (Some told) e = refl
+    by-told : (v : Bool) → is_told text ≡ v → (if v then Some text else None) ≡ Some line
+        → understood (told_by s line) ≡ Ok (told_by s text)
+    by-told true told is =
+        let same : text ≡ line = cc in
+        subst (λ l. understood (told_by s l) ≡ Ok (told_by s text)) same
+        (understood-told s text told)
+    by-told false told is = absurd cc
 
-some-right : (line found : List ℕ) → line_or_none line ≡ Some found
-    → refusal_at (Some found) false ≡ None
-some-right line found e = by_test (is_told line) refl
-  where
-    by_test : (v : Bool) → is_told line ≡ v → refusal_at (Some found) false ≡ None
-    by_test true is =
-        let some : Some line ≡ Some found = rw is at e in
-        let same : line ≡ found = cc in
-        subst (λ l. refusal_at (Some l) false ≡ None) same (told-right line is)
-    by_test false is = let none : None ≡ Some found = rw is at e in absurd cc
+    by-fit : (v : Bool) → is_fit text ≡ v
+        → understood (told_by s line) ≡ Ok (taken_front s (Whole text rest) p).event
+    by-fit true fit =
+        let is : line_or_none text ≡ Some line = rw fit at e in
+        rw fit (by-told (is_told text) refl is)
+    by-fit false fit = let none : None ≡ Some line = rw fit at e in absurd cc
 
-said-right : (front name back found : List ℕ) → said_or_none front name back ≡ Some found
-    → refusal_at (Some found) false ≡ None
-said-right front name back found e = by-room (nat_le (length (front ++ name ++ back)) 256) refl
-  where
-    by-room : (v : Bool) → nat_le (length (front ++ name ++ back)) 256 ≡ v
-        → refusal_at (Some found) false ≡ None
-    by-room true is = some-right (front ++ name ++ back) found (rw is at e)
-    by-room false is = let none : None ≡ Some found = rw is at e in absurd cc
-
-forgetting-right : (id name : Option (List ℕ)) (found : List ℕ)
-    → forgetting_line id name ≡ Some found → refusal_at (Some found) false ≡ None
-forgetting-right None None found e = absurd cc
-forgetting-right None (Some name) found e =
-    said-right (codes "0 input ") name (codes " 0") found e
-forgetting-right (Some id) name found e = said-right (codes "0 contact ") id (codes " 3") found e
-
-front-right : (f : Front) (p : PortData) (found : List ℕ)
-    → (taken_front f p).line ≡ Some found → refusal_at (Some found) false ≡ None
-front-right Waiting p found e = absurd cc
-front-right Overlong p found e = absurd cc
-front-right (Whole line rest) p found e = by-fit (is_fit line) refl
-  where
-    by-fit : (v : Bool) → is_fit line ≡ v → refusal_at (Some found) false ≡ None
-    by-fit true is = some-right line found (rw is at e)
-    by-fit false is = let none : None ≡ Some found = rw is at e in absurd cc
-
-taken-right : (standing : Presence) (s : State) (p : PortData) (found : List ℕ)
-    → (taken_as standing s p).line ≡ Some found → refusal_at (Some found) false ≡ None
-taken-right Away s p found e = absurd cc
-taken-right Leaving s p found e =
-    forgetting-right (first_sound s) (first_on_name s) found e
-taken-right Here s p found e = front-right (front p.kept) p found e
+taken-readable : (standing : Presence) (s : State) (p : PortData) (line : List ℕ)
+    → (taken_as standing s p).line ≡ Some line
+    → understood (told_by s line) ≡ Ok (taken_as standing s p).event
+taken-readable Away s p line e = absurd cc
+taken-readable Leaving s p line e = absurd cc
+taken-readable Here s p line e = front-readable s (front p.kept) p line e
 
 pub is-readable : (s : State) (p : PortData) → IsReadable s p
-is-readable s p found e = taken-right p.standing s p found e
+is-readable s p line e = taken-readable p.standing s p line e
 
 -- ---- switches that are bad
 
-all-bad : (rows : List Row) (k : ℕ) (switches : List Switch)
-    → is_none (sound_from rows k switches) ≡ true
-    → (j : ℕ) → j < length switches → tells_bad (k + j + 1) rows ≡ true
-all-bad rows k [] e j lt = absurd (omega arith)
-all-bad rows k (switch ∷ switches) e j lt =
-    by_test (λ rest. all-bad rows (k + 1) switches rest) (tells_bad (k + 1) rows) refl j lt
+all-bad : (s : State) (k count : ℕ) → is_none (sound_from s k count) ≡ true
+    → (j : ℕ) → j < count → is_bad s (k + j) ≡ true
+all-bad s k zero e j lt = absurd (omega arith)
+all-bad s k (suc count) e j lt =
+    by_test (λ rest. all-bad s (k + 1) count rest) (is_bad s k) refl j lt
   where
-    by_test : (is_none (sound_from rows (k + 1) switches) ≡ true
-        → (i : ℕ) → i < length switches → tells_bad (k + 1 + i + 1) rows ≡ true)
-        → (v : Bool) → tells_bad (k + 1) rows ≡ v
-        → (j : ℕ) → j < length (switch ∷ switches) → tells_bad (k + j + 1) rows ≡ true
+    by_test : (is_none (sound_from s (k + 1) count) ≡ true
+        → (i : ℕ) → i < count → is_bad s (k + 1 + i) ≡ true)
+        → (v : Bool) → is_bad s k ≡ v → (j : ℕ) → j < suc count → is_bad s (k + j) ≡ true
     by_test more true is zero lt =
-        let here : k + 0 + 1 ≡ k + 1 = omega arith in ap (λ n. tells_bad n rows) here ∙ is
+        let here : k + 0 ≡ k = omega arith in ap (is_bad s) here ∙ is
     by_test more true is (suc i) lt =
-        let next : k + suc i + 1 ≡ k + 1 + i + 1 = omega arith in
-        ap (λ n. tells_bad n rows) next ∙ more (rw is at e) i (omega arith)
+        let next : k + suc i ≡ k + 1 + i = omega arith in
+        ap (is_bad s) next ∙ more (rw is at e) i (omega arith)
     by_test more false is j lt = let none : false ≡ true = rw is at e in absurd cc
 
 are-bad : (s : State) → is_none (first_sound s) ≡ true → AreBad s
 are-bad s e k lt =
-    let here : 0 + k + 1 ≡ k + 1 = omega arith in
-    ap (λ n. tells_bad n s.rows) (sym here) ∙ all-bad s.rows 0 s.switches e k lt
+    let here : 0 + k ≡ k = omega arith in
+    ap (is_bad s) (sym here) ∙ all-bad s 0 (length s.switches) e k lt
 
 all-false : (i : ℕ) (values : List Bool)
     → is_none (position_from (λ value. value) i values) ≡ true
@@ -113,15 +87,15 @@ all-false i (false ∷ values) e =
     All-cons (λ value. value ≡ false) false values refl (all-false (i + 1) values e)
 
 are-forgotten : (s : State) → is_forgotten s ≡ true → AreBad s × AreFalse s
-are-forgotten s e = by-sound (is_none (first_sound s)) refl (is_none (first_on s)) refl
+are-forgotten s e = by-places (first_sound s) refl (first_on s) refl
   where
-    by-sound : (a : Bool) → is_none (first_sound s) ≡ a → (b : Bool) → is_none (first_on s) ≡ b
+    by-places : (a : Option ℕ) → first_sound s ≡ a → (b : Option ℕ) → first_on s ≡ b
         → AreBad s × AreFalse s
-    by-sound true bad true off =
-        let none = sym (ap is_none (position_from-zero (λ value. value) s.input_values)) ∙ off in
-        (are-bad s bad, all-false 0 s.input_values none)
-    by-sound true bad false off = let none : false ≡ true = rw (bad, off) at e in absurd cc
-    by-sound false bad b off = let none : false ≡ true = rw bad at e in absurd cc
+    by-places None bad None off =
+        let none = sym (position_from-zero (λ value. value) s.input_values) ∙ off in
+        (are-bad s (ap is_none bad), all-false 0 s.input_values (ap is_none none))
+    by-places None bad (Some k) off = let none : false ≡ true = rw (bad, off) at e in absurd cc
+    by-places (Some k) bad b off = let none : false ≡ true = rw bad at e in absurd cc
 
 closed-empty : (before : PortData) (r : Result PortData Parting) (calls : List Call)
     (why : Parting) → (closed_or_kept before r calls).news ≡ Some (Closed why)
@@ -231,7 +205,7 @@ pub is-silent : (text : List ℕ) (s : State) (script : Script) (p : PortData)
     → IsSilent text s script p
 is-silent text s script p = record {
   closed = λ why e. closed-as p.standing text s script p why e;
-  lines = λ leaving. ap (λ standing. (taken_as standing s p).line) leaving;
+  events = λ leaving. ap (λ standing. (taken_as standing s p).event) leaving;
   calls = λ leaving. ap (λ standing. (attended_as standing text s script p).calls) leaving;
   ends = λ leaving other.
       are-forgotten s (left-bad (is_forgotten s) p leaving

@@ -300,13 +300,13 @@ attended-known Here said text s script p h =
     here-known s said p part.after part.calls h
     (has-talked text s (script.taken, script.heard) p)
 
-front-told : (f : Front) (p : PortData) → (taken_front f p).port.told ≡ p.told
-front-told Waiting p = refl
-front-told Overlong p = refl
-front-told (Whole line rest) p = by-fit (is_fit line) refl
+front-told : (s : State) (f : Front) (p : PortData) → (taken_front s f p).port.told ≡ p.told
+front-told s Waiting p = refl
+front-told s Overlong p = refl
+front-told s (Whole line rest) p = by-fit (is_fit line) refl
   where
     by-fit : (v : Bool) → is_fit line ≡ v
-        → (taken_front (Whole line rest) p).port.told ≡ p.told
+        → (taken_front s (Whole line rest) p).port.told ≡ p.told
     by-fit true e = rw e refl
     by-fit false e = rw e refl
 
@@ -314,7 +314,7 @@ taken-told : (standing : Presence) (s : State) (p : PortData)
     → (taken_as standing s p).port.told ≡ p.told
 taken-told Away s p = refl
 taken-told Leaving s p = refl
-taken-told Here s p = front-told (front p.kept) p
+taken-told Here s p = front-told s (front p.kept) p
 
 use-known : (u : Use) (said : List (ℕ × Release)) (p : PortData) → KnowsIn said p.told
     → KnowsIn (said ++ said_of u p) (port_after u p).told

@@ -7,6 +7,7 @@ use Rattle.bay_lines.specs.Cuttings.{Comes, Cutting, LosesNothing, Move, all_of,
 use Rattle.bay_lines.specs.Cuttings as cuttings
 use Rattle.bay_lines.specs.Fronts.{Front, Overlong, Waiting, Whole, front}
 use Rattle.bay_lines.proofs.FrontLemmas.{nothing-is-lost}
+use Rattle.bay_serve.specs.Served.{told_by}
 use Rattle.bay_serve.specs.Calls.{Call, Accepts, Reads, Writes, Closes, ReadOutcome, Octets, Silence, Over, Broken}
 use Rattle.bay_port.specs.Attending.{Attended, all_told, Part, Script, accepted_in, attendance, first_part, taken_or_closed, attended_as, attended_here, behind, closed_or_kept, line_part, offer_part, offered_of, on_heard, read_by, talk_part, told_to}
 use Rattle.bay_port.specs.Fit.{is_fit, is_told, is_waiting, is_wrong, line_or_none}
@@ -164,9 +165,13 @@ comes-keep tells (Some (Some from)) heard here =
 -- ---- uses are moves
 
 -- what a turn takes of a line in front, by whether the line is fit
-abbrev fit_taken : Bool → List ℕ → List ℕ → PortData → Taken
-fit_taken fit line rest p =
-    if fit then record { line = line_or_none line; port = record p { kept = rest } }
+abbrev fit_taken : State → Bool → List ℕ → List ℕ → PortData → Taken
+fit_taken s fit line rest p =
+    if fit then record {
+      event = told_by s line;
+      line = line_or_none line;
+      port = record p { kept = rest };
+    }
     else nothing_of p
 
 abbrev fit_moves : Bool → List Move → List Move
@@ -233,12 +238,12 @@ record TakeFollows (c : Cutting) (moves : List Move) (us : List Use) (t : Taken)
   had_is : option_to_list t.line ++ all_had us t.port ≡ filter is_told c.lines
   all_is : all_of moves ≡ all_given us t.port
 
-takes-fit : (fit : Bool) (line rest : List ℕ) (us : List Use) (p : PortData)
-    → UseFollows us (fit_taken fit line rest p).port
-    → (let moves = moves_of us (fit_taken fit line rest p).port in
+takes-fit : (s : State) (fit : Bool) (line rest : List ℕ) (us : List Use) (p : PortData)
+    → UseFollows us (fit_taken s fit line rest p).port
+    → (let moves = moves_of us (fit_taken s fit line rest p).port in
     TakeFollows (fit_cut fit line rest p.kept moves) (fit_moves fit moves) us
-    (fit_taken fit line rest p))
-takes-fit true line rest us p h =
+    (fit_taken s fit line rest p))
+takes-fit s true line rest us p h =
     let q : PortData = record p { kept = rest } in
     record {
       keeps = h.keeps;
@@ -246,29 +251,30 @@ takes-fit true line rest us p h =
           had-told line (all_had us q) (cutting_of (moves_of us q) rest).lines h.had_is;
       all_is = h.all_is;
     }
-takes-fit false line rest us p h =
+takes-fit s false line rest us p h =
     record { keeps = h.keeps; had_is = h.had_is; all_is = h.all_is }
 
-takes-follow : (f : Front) (us : List Use) (p : PortData) → UseFollows us (taken_front f p).port
-    → (let moves = moves_of us (taken_front f p).port in
-    TakeFollows (cut_of f p.kept moves) (move_of f moves) us (taken_front f p))
-takes-follow Waiting us p h = record { keeps = h.keeps; had_is = h.had_is; all_is = h.all_is }
-takes-follow Overlong us p h = record { keeps = h.keeps; had_is = h.had_is; all_is = h.all_is }
-takes-follow (Whole line rest) us p h = takes-fit (is_fit line) line rest us p h
+takes-follow : (s : State) (f : Front) (us : List Use) (p : PortData)
+    → UseFollows us (taken_front s f p).port
+    → (let moves = moves_of us (taken_front s f p).port in
+    TakeFollows (cut_of f p.kept moves) (move_of f moves) us (taken_front s f p))
+takes-follow s Waiting us p h = record { keeps = h.keeps; had_is = h.had_is; all_is = h.all_is }
+takes-follow s Overlong us p h = record { keeps = h.keeps; had_is = h.had_is; all_is = h.all_is }
+takes-follow s (Whole line rest) us p h = takes-fit s (is_fit line) line rest us p h
 
 uses-follow : (us : List Use) (p : PortData) → p.standing ≡ Here → StaysHere us p → UseFollows us p
 unfolding moves_of
 uses-follow [] p here stays = record { keeps = refl; had_is = refl; all_is = refl }
 uses-follow (Takes s ∷ us) p here stays =
     let f = front p.kept in
-    let is : taken_line s p ≡ taken_front f p = ap (λ standing. taken_as standing s p) here in
+    let is : taken_line s p ≡ taken_front s f p = ap (λ standing. taken_as standing s p) here in
     let later : UseFollows us (taken_line s p).port =
     uses-follow us (taken_line s p).port stays.0 stays.1 in
     let moves = moves_of us (taken_line s p).port in
     let t : TakeFollows (cut_of f p.kept moves) (move_of f moves) us (taken_line s p) =
     subst (λ (t : Taken). (let moves = moves_of us t.port in
     TakeFollows (cut_of f p.kept moves) (move_of f moves) us t)) (sym is)
-    (takes-follow f us p (subst (λ (t : Taken). UseFollows us t.port) is later)) in
+    (takes-follow s f us p (subst (λ (t : Taken). UseFollows us t.port) is later)) in
     let cut = cut-is f p.kept moves refl in
     record {
       keeps = ap (λ (c : Cutting). c.kept) cut ∙ t.keeps;

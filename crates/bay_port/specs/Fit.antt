@@ -1,6 +1,7 @@
 -- The line that a turn can take.
-use Rattle.std.specs.Prelude.{ℕ, nat_le, Bool, true, false, not, List, [], ◌∷◌, ◌++◌, codes, length, Option, None, Some, is_some, option_and_then, if◌then◌else◌}
-use Rattle.bay_lines.specs.Fronts.{Front, Waiting, Overlong, Whole}
+use Rattle.std.specs.Prelude.{◌≡◌, ℕ, Bool, true, false, not, List, [], ◌∷◌, length, Option, None, Some, is_some, if◌then◌else◌}
+use Rattle.bay_lines.specs.Fronts.{Front, Waiting, Overlong, Whole, LiesIn, front, front_view}
+use Rattle.bay_lines.specs.declared.front.Found.{Found}
 use Rattle.bay_serve.specs.Served.{line_of}
 
 -- a line tells of a contact, an input or a measure
@@ -34,25 +35,7 @@ is_waiting (Whole line rest) = false
 abbrev pub line_or_none : List ℕ → Option (List ℕ)
 line_or_none line = if is_told line then Some line else None
 
--- a line of three parts, where it can be read, and is no longer than another
-abbrev pub said_or_none : List ℕ → List ℕ → List ℕ → Option (List ℕ)
-said_or_none front name back =
-    if nat_le (length (front ++ name ++ back)) 256 then line_or_none (front ++ name ++ back)
-    else None
-
--- the line that tells that the switch with an id is bad
-abbrev pub bad_or_none : List ℕ → Option (List ℕ)
-bad_or_none id = said_or_none (codes "0 contact ") id (codes " 3")
-
--- the line that tells that the input with a name is FALSE
-abbrev pub off_or_none : List ℕ → Option (List ℕ)
-off_or_none name = said_or_none (codes "0 input ") name (codes " 0")
-
--- the line of a process that has gone: that a switch is bad, or else that an input is FALSE
-abbrev pub forgetting_line : Option (List ℕ) → Option (List ℕ) → Option (List ℕ)
-forgetting_line (Some id) name = bad_or_none id
-forgetting_line None name = option_and_then off_or_none name
-
--- a line, if there is one
-abbrev pub line_if : Bool → List ℕ → Option (List ℕ)
-line_if is_line line = if is_line then Some line else None
+-- this was found in front of octets
+pub record IsInFront (octets : List ℕ) (found : Found) : Type 0 where
+  pub value : front_view octets found ≡ front octets
+  pub within : LiesIn (length octets) found

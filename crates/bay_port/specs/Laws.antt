@@ -1,15 +1,14 @@
 -- What holds of the port of a process, turn after turn.
-use Rattle.std.specs.Prelude.{◌≡◌, ◌≢◌, ℕ, ◌<◌, Bool, ◌||◌, true, false, All, List, [], ◌∷◌, ◌++◌, length, take, None, Some}
+use Rattle.std.specs.Prelude.{◌≡◌, ◌≢◌, ℕ, ◌<◌, Bool, ◌||◌, true, false, All, List, [], ◌∷◌, ◌++◌, length, take, None, Some, Ok}
 use Rattle.bay_device.specs.Device.{State}
 use Rattle.bay_port.specs.Attending.{Script, all_told, attendance}
-use Rattle.bay_port.specs.Fit.{forgetting_line}
 use Rattle.bay_port.specs.Ports.{PortData, emptied, taken_line}
-use Rattle.bay_port.specs.Sound.{first_on_name, first_sound, is_bad}
+use Rattle.bay_port.specs.Sound.{forgetting, is_bad}
 use Rattle.bay_port.specs.declared.news.News.TheVariants.{Closed}
 use Rattle.bay_port.specs.declared.news.Parting.{Parting}
 use Rattle.bay_port.specs.declared.port.Presence.TheVariants.{Away, Leaving}
 use Rattle.bay_serve.specs.Calls.{Call, Accepts, Reads, Writes, Closes, ReadOutcome, Octets, Silence, Over, Broken}
-use Rattle.bay_serve.specs.Served.{refusal_at}
+use Rattle.bay_serve.specs.Served.{told_by, understood}
 
 -- each switch is bad
 abbrev pub AreBad : State → Type 0
@@ -34,15 +33,15 @@ hears_end (Reads a room heard ∷ calls) = is_end heard || hears_end calls
 hears_end (Writes a octets taken ∷ calls) = hears_end calls
 hears_end (Closes a ∷ calls) = hears_end calls
 
--- Behind a closing nothing is kept, and nothing counts as told. Then a turn has no line of the port
--- but that the first switch which is not bad is so, or, where each is bad, that the first input
+-- Behind a closing nothing is kept, and nothing counts as told. Then a turn is given nothing by the
+-- port but that the first switch which is not bad is so, or, where each is bad, that the first input
 -- which is TRUE is FALSE; the link is not asked; and that ends only where each switch is bad and
 -- each input FALSE. Of a process that has gone while it waited nothing is kept or told.
 pub record IsSilent (text : List ℕ) (s : State) (script : Script) (p : PortData) : Type 0 where
   pub closed : (why : Parting) → (attendance text s script p).news ≡ Some (Closed why)
       → (attendance text s script p).port ≡ emptied Leaving p
-  pub lines : p.standing ≡ Leaving
-      → (taken_line s p).line ≡ forgetting_line (first_sound s) (first_on_name s)
+  pub events : p.standing ≡ Leaving
+      → (taken_line s p).event ≡ forgetting s
   pub calls : p.standing ≡ Leaving → (attendance text s script p).calls ≡ []
   pub ends : p.standing ≡ Leaving → (attendance text s script p).port.standing ≢ Leaving
       → AreBad s × AreFalse s
@@ -50,10 +49,10 @@ pub record IsSilent (text : List ℕ) (s : State) (script : Script) (p : PortDat
       → ((attendance text s script p).news ≡ None)
       × ((attendance text s script p).port ≡ emptied Away p)
 
--- a line that the port has is not refused
+-- a line that the port has can be read, and tells of what the turn is given
 abbrev pub IsReadable : State → PortData → Type 0
-IsReadable s p =
-    (line : List ℕ) → (taken_line s p).line ≡ Some line → refusal_at (Some line) false ≡ None
+IsReadable s p = (line : List ℕ) → (taken_line s p).line ≡ Some line
+    → understood (told_by s line) ≡ Ok (taken_line s p).event
 
 -- what the link took of octets that were offered
 abbrev pub taken_of : List Call → List ℕ

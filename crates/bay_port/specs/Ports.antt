@@ -1,12 +1,15 @@
--- What is kept of the process, and the line that a turn takes of it.
-use Rattle.std.specs.Prelude.{ℕ, Bool, true, false, List, [], Option, None, Some, is_some, if◌then◌else◌}
+-- What is kept of the process, and what a turn is given of it.
+use Rattle.std.specs.Prelude.{ℕ, Bool, true, false, List, [], Option, None, Some, is_some, unwrap_or, if◌then◌else◌}
 use Rattle.bay_device.specs.Device.{State}
 use Rattle.bay_lines.specs.Fronts.{Front, Waiting, Overlong, Whole, front}
-use Rattle.bay_port.specs.Fit.{forgetting_line, is_fit, line_or_none}
+use Rattle.bay_lines.specs.Shown.{shown_text}
+use Rattle.bay_port.specs.Fit.{is_fit, line_or_none}
 use Rattle.bay_port.specs.Releases.{Release, nothing_told}
-use Rattle.bay_port.specs.Sound.{first_on_name, first_sound}
+use Rattle.bay_port.specs.Sound.{forgetting}
 use Rattle.bay_port.specs.declared.port.Presence.{Presence}
 use Rattle.bay_port.specs.declared.port.Presence.TheVariants.{Away, Leaving, Here}
+use Rattle.bay_serve.specs.Served.{told_by}
+use Rattle.bay_serve.specs.declared.process.ProcessEvent.{ProcessEvent}
 
 -- how the process stands, what it has sent that no turn has taken, what is still to be told to it,
 -- and, if it is told of releases, which it was told last
@@ -35,30 +38,39 @@ is_leaving Away = false
 is_leaving Leaving = true
 is_leaving Here = false
 
--- the line of a turn, if there is one, and the port behind it
+-- what a turn is given, if anything: an event, and the line that tells of it, if one does; and the
+-- port behind it
 pub record Taken : Type 0 where
+  pub event : Option ProcessEvent
   pub line : Option (List ℕ)
   pub port : PortData
 
 abbrev pub nothing_of : PortData → Taken
-nothing_of p = record { line = None; port = p }
+nothing_of p = record { event = None; line = None; port = p }
 
 -- the line in front is taken, unless it can't be read
-abbrev pub taken_front : Front → PortData → Taken
-taken_front Waiting p = nothing_of p
-taken_front Overlong p = nothing_of p
-taken_front (Whole line rest) p =
-    if is_fit line then record { line = line_or_none line; port = record p { kept = rest } }
+abbrev pub taken_front : State → Front → PortData → Taken
+taken_front s Waiting p = nothing_of p
+taken_front s Overlong p = nothing_of p
+taken_front s (Whole line rest) p =
+    if is_fit line then record {
+      event = told_by s line;
+      line = line_or_none line;
+      port = record p { kept = rest };
+    }
     else nothing_of p
 
 abbrev pub taken_as : Presence → State → PortData → Taken
 taken_as Away s p = nothing_of p
-taken_as Leaving s p =
-    record { line = forgetting_line (first_sound s) (first_on_name s); port = p }
-taken_as Here s p = taken_front (front p.kept) p
+taken_as Leaving s p = record { event = forgetting s; line = None; port = p }
+taken_as Here s p = taken_front s (front p.kept) p
 
--- The line that the port has for a turn: of a process that is there the next that it has sent; of
--- one that has gone, that the first switch is bad which is not, or else that the first input is
--- FALSE which is TRUE.
+-- What the port gives a turn: of a process that is there the next line that it has sent; of one
+-- that has gone, that the first switch is bad which is not, or else that the first input is FALSE
+-- which is TRUE.
 abbrev pub taken_line : State → PortData → Taken
 taken_line s p = taken_as p.standing s p
+
+-- the line as a log shows it
+abbrev pub shown_line : Option (List ℕ) → List ℕ
+shown_line line = shown_text (unwrap_or line [])

@@ -8,8 +8,8 @@ ghost use Rattle.bay_port.specs.Uses.{IsUpToDate, LosesNoLine, StaysHere, Use};
 ghost use Rattle.bay_port.specs.declared.port.Presence.TheVariants.{Away, Here};
 
 /// A process that has gone reports nothing: after a closing, nothing that it sent is kept; the next
-/// lines report switches as bad and then inputs as FALSE, one a turn, in the order of the bay file;
-/// and until every switch is bad and every input FALSE the link is not called and no process comes.
+/// turns are given switches as bad and then inputs as FALSE, one a turn, in the order of the bay
+/// file; and until every switch is bad and every input FALSE the link is not called and no process comes.
 /// One that has gone while it waited for this is not taken.
 pub fn a_process_that_has_gone_tells_nothing()
     ensures { (text : List ℕ) (s : State) (script : Script) (p : PortData)

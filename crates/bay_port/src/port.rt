@@ -2,25 +2,22 @@
 ghost use Rattle.std.specs.Prelude.{◌≡◌, [], is_some, false, not, IfOk, if◌then◌else◌};
 ghost use Rattle.bay_serve.specs.Calls.{Called};
 ghost use Rattle.bay_port.specs.Attending.{Does, Leads, first_part, line_part, offer_part, read_by, told_to};
-ghost use Rattle.bay_port.specs.Ports.{bare, taken_front, taken_line};
-ghost use Rattle.bay_port.specs.Fit.{line_if};
+ghost use Rattle.bay_port.specs.Ports.{bare, shown_line, taken_front, taken_line};
 ghost use Rattle.bay_lines.specs.Fronts.{front};
 ghost use Rattle.bay_port.specs.Ports as spec;
 ghost use Rattle.bay_port.specs.Telling.{told_text};
 
-use crate::fit::{
-    Line, is_fit, is_waiting_in_front, is_wrong_in_front, line_in_front_or_all,
-    put_forgetting_line, put_line,
-};
+use crate::fit::is_fit;
 use crate::news::Parting;
 use crate::releases::{Told, put_releases, told_if};
-use crate::sound::{first_on_name, first_sound};
+use crate::sound::forgetting;
 use crate::telling::{Queue, put_told};
 use bay_device::device::Device;
 use bay_lines::front::{Found, line_in_front};
 use bay_lines::kept::Kept;
 use bay_lines::shown::Shown;
 use bay_serve::link::{Arrival, Link};
+use bay_serve::process::{ProcessEvent, read_process_event};
 use bay_serve::told::Turn;
 use std::alloc::{AllocError, Global};
 use std::marker::Model;
@@ -45,12 +42,34 @@ pub enum Presence {
     Here,
 }
 
+/// What a turn is given of the process: an event, if there is one, and the line that tells of it, as
+/// a log shows it.
+#[derive(Debug, Drop)]
+pub struct Said {
+    pub event: Option<ProcessEvent>,
+    pub shown: Shown,
+}
+
+impl Said {
+    /// Creates an event without a line.
+    fn alone(event: Option<ProcessEvent>) -> Said
+        ensures event { result.event ≡ event }
+        ensures shown { result.shown ≡ [] }
+    {
+        Said {
+            event,
+            shown: Shown::new(b""),
+        }
+    }
+}
+
 /// The port of a process: its state, what it has sent that no turn has taken, what is still to be
-/// sent to it, and which releases it was told last.
+/// sent to it, and which releases it was told last. The end of a line is looked for once.
 #[derive(Drop)]
 pub struct Port {
     standing: Presence,
     kept: Kept<ROOM>,
+    found: Found,
     queue: Queue,
     told: Option<Told>,
 }
@@ -62,6 +81,10 @@ impl Model for Port {
 
     ghost view = { λ p. record
         { standing = p.standing; kept = p.kept; queue = p.queue; told = p.told } };
+
+    ghost use Rattle.bay_port.specs.Fit.{IsInFront};
+
+    ghost invariant = { λ p. IsInFront p.kept p.found };
 }
 
 impl Port {
@@ -75,6 +98,7 @@ impl Port {
         Ok(Port {
             standing: Presence::Away,
             kept,
+            found: Found::Waiting,
             queue,
             told: told_if(tells_releases),
         })
@@ -113,42 +137,46 @@ impl Port {
     {
         self.standing = standing;
         self.kept.clear();
+        self.found = Found::Waiting;
         self.queue.clear();
         self.told = told_if(tells_releases);
     }
 
-    /// Takes the first line of what was sent. Returns false if there is none that reports anything;
-    /// an invalid one stays.
-    fn take_front(&mut self, line: &mut Line) -> bool
-        ensures line { line_if result line.new.items
-            ≡ (taken_front (front self.old.kept) self.old).line }
-        ensures port { self.new ≡ (taken_front (front self.old.kept) self.old).port }
+    /// Takes the first line of what was sent, if there is one. An invalid one stays.
+    fn take_front(&mut self, device: &Device) -> Said
+        ensures event { result.event
+            ≡ (taken_front device.now (front self.old.kept) self.old).event }
+        ensures shown { result.shown
+            ≡ shown_line (taken_front device.now (front self.old.kept) self.old).line }
+        ensures port { self.new ≡ (taken_front device.now (front self.old.kept) self.old).port }
     {
-        match line_in_front(self.kept.as_slice()) {
-            Found::Whole { line: length, end } => {
-                if !is_fit(&self.kept.as_slice()[..length]) {
-                    return false;
+        match self.found {
+            Found::Waiting => Said::alone(None),
+            Found::Overlong => Said::alone(None),
+            Found::Whole { line, end } => {
+                let text = &self.kept.as_slice()[..line];
+                let event = read_process_event(device, text);
+                if event.is_none() && !text.is_empty() {
+                    return Said::alone(None);
                 }
-                let is_line = put_line(line, &self.kept.as_slice()[..length]);
+                let shown = Shown::new(text);
                 self.kept.drop_front(end);
-                is_line
+                self.found = line_in_front(self.kept.as_slice());
+                Said { event, shown }
             }
-            Found::Waiting => false,
-            Found::Overlong => false,
         }
     }
 
-    /// Takes the line that the port has for a turn. Returns false if there is none.
-    pub fn take_line(&mut self, device: &Device, line: &mut Line) -> bool
-        ensures line { line_if result line.new.items ≡ (taken_line device.now self.old).line }
+    /// Takes what the port has for a turn.
+    pub fn take_line(&mut self, device: &Device) -> Said
+        ensures event { result.event ≡ (taken_line device.now self.old).event }
+        ensures shown { result.shown ≡ shown_line (taken_line device.now self.old).line }
         ensures port { self.new ≡ (taken_line device.now self.old).port }
     {
         match self.standing {
-            Presence::Away => false,
-            Presence::Leaving => {
-                put_forgetting_line(line, first_sound(device), first_on_name(device))
-            }
-            Presence::Here => self.take_front(line),
+            Presence::Away => Said::alone(None),
+            Presence::Leaving => Said::alone(forgetting(device)),
+            Presence::Here => self.take_front(device),
         }
     }
 
@@ -189,13 +217,14 @@ impl Port {
         ensures { Does (Called L.does L.failures) read_by link.old link.new self.old self.new
             result }
     {
-        if !is_waiting_in_front(self.kept.as_slice()) {
+        if self.found != Found::Waiting {
             return Ok(());
         }
         let mut room = [0; PIECE];
         match link.read(PROCESS, &mut room) {
             Ok(Arrival::Bytes(count)) => {
                 self.kept.put(&room[..count]);
+                self.found = line_in_front(self.kept.as_slice());
                 Ok(())
             }
             Ok(Arrival::Nothing) => Ok(()),
@@ -218,11 +247,17 @@ impl Port {
     pub(crate) fn check(&self) -> Result<(), Parting>
         ensures { Leads (line_part self.now).after self.now result }
     {
-        let kept = self.kept.as_slice();
-        if is_wrong_in_front(kept) {
-            Err(Parting::BadLine(Shown::new(line_in_front_or_all(kept))))
-        } else {
-            Ok(())
+        match self.found {
+            Found::Waiting => Ok(()),
+            Found::Overlong => Err(Parting::BadLine(Shown::new(self.kept.as_slice()))),
+            Found::Whole { line, .. } => {
+                let text = &self.kept.as_slice()[..line];
+                if is_fit(text) {
+                    Ok(())
+                } else {
+                    Err(Parting::BadLine(Shown::new(text)))
+                }
+            }
         }
     }
 }

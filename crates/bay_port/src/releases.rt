@@ -6,7 +6,7 @@ ghost use Rattle.bay_port.specs.Releases.{nothing_told, release_line, release_pa
 ghost use Rattle.bay_port.specs.Releases as spec;
 ghost use Rattle.bay_port.specs.Telling.{PutsWhole};
 
-use crate::telling::{Queue, put_parts};
+use crate::telling::{QUEUE, Queue, put_parts};
 use bay_device::device::Device;
 use std::marker::Model;
 
@@ -118,7 +118,7 @@ fn put_changes(queue: &mut Queue, device: &Device, told: &[Option<Release>]) -> 
     ensures { PutsWhole queue.old (releases_text device.now (said_from device.now 0 told.now))
         queue.new result }
 {
-    let _ = queue.as_slice();
+    prove!(queue.as_slice().len() <= QUEUE);
     for place in 0..told.len() {
         if !put_change(queue, device, place, told[place]) {
             return false;

@@ -19,7 +19,7 @@ pub type Queue = Kept<QUEUE>;
 pub fn put_parts(queue: &mut Queue, parts: &[&[u8]]) -> bool
     ensures { PutsWhole queue.old (text_of parts.now) queue.new result }
 {
-    let _ = queue.as_slice();
+    prove!(queue.as_slice().len() <= QUEUE);
     for part in parts {
         if !queue.put(part) {
             return false;
@@ -86,7 +86,7 @@ fn put_command(queue: &mut Queue, device: &Device, moment: u64, command: Command
 fn put_commands(queue: &mut Queue, device: &Device, moment: u64, commands: &[Command]) -> bool
     ensures { PutsWhole queue.old (commands_text moment device.now commands.now) queue.new result }
 {
-    let _ = queue.as_slice();
+    prove!(queue.as_slice().len() <= QUEUE);
     for command in commands {
         if !put_command(queue, device, moment, *command) {
             return false;

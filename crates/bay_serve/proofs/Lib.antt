@@ -1,4 +1,3 @@
-pub mod EventLemmas
 pub mod OfferLemmas
 pub mod PartLemmas
 pub mod RoomLemmas

@@ -1,13 +1,13 @@
 -- The parts of a turn.
 use Rattle.std.proofs.Common.{◌≡◌, ℕ, ◌+◌, Bool, true, false, Option, Some, None, Result, Ok, Err, List, [], ◌∷◌, ◌++◌, drop, refl, ap, sym, ◌∙◌, subst}
 use Rattle.std.specs.declared.net.socket_addr.SocketAddrV4.{SocketAddrV4}
-use Rattle.bay_trace.specs.Trace.{NamedData}
 use Rattle.bay_serve.specs.Calls.{Call, Accepts, Reads, Closes, Talks, ReadOutcome, Silence, Octets, Over, Broken, heard_of}
 use Rattle.bay_serve.specs.Offers.{Offer}
 use Rattle.bay_serve.specs.Served.{Goes, GoesEach, Offers, Opens, Serves, TakesIn}
 use Rattle.bay_serve.specs.Standings.{is_leaving}
 use Rattle.bay_serve.specs.Turns.{Held, Noted, Script, Turning, accept_calls_at, after_accept, after_each, after_line, after_reads, after_scan, turn_begin, calls_of_each, cut_off, free_place, heard_calls, hung_up, is_up, line_calls, with_line, offer_calls, offer_end, offer_of, offer_one, on_accept, on_heard, opening_at, after_opening, after_parting, queue_of, read_calls, read_one, scan_calls, after_turn_scan, after_settling, settling, standing_of, after_turn, turning, with_queue}
 use Rattle.bay_serve.specs.declared.link.Arrival.{Arrival}
+use Rattle.bay_serve.specs.declared.process.ProcessEvent.{ProcessEvent}
 use Rattle.bay_serve.specs.declared.told.Closing.TheVariants.{LinkFailed}
 use Rattle.bay_serve.specs.declared.told.Turn.{Turn}
 use Rattle.bay_serve.proofs.TalkLemmas.{Talks-one, Talks-append}
@@ -208,7 +208,7 @@ module _ {L : Type 0} (step : L → Call → L → Type 0) where
 
   -- ---- a turn
 
-  serves : (old l m p q new : L) (now : ℕ) (line : Option NamedData) (before after : Held)
+  serves : (old l m p q new : L) (now : ℕ) (line : Option ProcessEvent) (before after : Held)
       (noted : Noted) (s t u v : Turning) (opened : Option (ℕ × SocketAddrV4)) (turn : Turn)
       → Opens step now old l (turn_begin before) s opened
       → GoesEach step (read_one now) (read_calls now) l m 8 s t
@@ -273,7 +273,7 @@ module _ {L : Type 0} (step : L → Call → L → Type 0) where
       }
 
   -- with what the code has in hand
-  pub serves-with : (old l m p q new : L) (now : ℕ) (line : Option NamedData) (before after : Held)
+  pub serves-with : (old l m p q new : L) (now : ℕ) (line : Option ProcessEvent) (before after : Held)
       (first noted : Noted) (s t u v : Turning) (opened : Option (ℕ × SocketAddrV4)) (turn : Turn)
       → turning before first ≡ turn_begin before
       → Opens step now old l (turning before first) s opened
@@ -297,7 +297,7 @@ module _ {L : Type 0} (step : L → Call → L → Type 0) where
       (subst (λ x. Opens step now old l x s opened) e a) r lt li st si o
       told
 
-  pub serves-as : (old new : L) (now same : ℕ) (line told : Option NamedData) (before after : Held)
+  pub serves-as : (old new : L) (now same : ℕ) (line told : Option ProcessEvent) (before after : Held)
       (turn : Turn) → Serves step old new now line before after turn
       → now ≡ same → line ≡ told → Serves step old new same told before after turn
   serves-as old new now same line told before after turn serves p q =

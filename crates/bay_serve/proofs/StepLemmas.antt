@@ -1,5 +1,6 @@
 -- Steps of the device within a turn.
 use Rattle.std.proofs.Common.{◌≡◌, ℕ, ◌+◌, List, Option, None, Result, Ok, ap, sym, ◌∙◌}
+use Rattle.std.specs.Borrow.{Bor}
 use Rattle.bay_services.specs.declared.answer.Command.{Command}
 use Rattle.bay_services.specs.declared.answer.Decision.{Decision}
 use Rattle.bay_device.specs.Device.{State}
@@ -10,11 +11,10 @@ use Rattle.bay_device.specs.declared.event.Event.TheVariants.{Recv}
 use Rattle.bay_device.specs.declared.event.Sent.{Sent}
 use Rattle.bay_device.specs.declared.event.Step.{Step}
 use Rattle.bay_device.specs.declared.fault.StepFault.{StepFault}
-use Rattle.bay_trace.specs.Placing.{anywhere, lying, placed_event}
-use Rattle.bay_trace.specs.Trace.{NamedData}
+use Rattle.bay_trace.specs.Placing.{lying}
 use Rattle.bay_serve.specs.Served.{TakesIn}
-use Rattle.bay_serve.specs.Turns.{Held, Noted, Turning, decides, left_by, left_noted, put_all, put_answer, put_ended, put_told, told_of, turning, with_commands, with_device, with_noted}
-use Rattle.bay_serve.proofs.EventLemmas.{line-outcome, outcome-anywhere}
+use Rattle.bay_serve.specs.Turns.{Held, Noted, Turning, decides, event_of, left_by, left_noted, put_all, put_answer, put_ended, put_told, told_of, turning, with_commands, with_device, with_noted}
+use Rattle.bay_serve.specs.declared.process.ProcessEvent.{ProcessEvent}
 
 held-as : (h : Held) (device : State) (queues : List (List ℕ)) → h.device ≡ device
     → h.queues ≡ queues → h ≡ record { device = device; queues = queues }
@@ -23,16 +23,15 @@ held-as h device queues p q =
     let with_state : State → Held = λ d. record { device = d; queues = queues } in
     ap with_queues q ∙ ap with_state p
 
--- what a line tells of was done
-pub told : (now : ℕ) (named : NamedData) (h after : Held) (noted : Noted) (e : Event)
-    (result : Result Step StepFault) (step : Step) (t : Turning)
-    → anywhere e ≡ placed_event h.device named
+-- what happens to the process was done
+pub told : (now : ℕ) (event : ProcessEvent) (h after : Held) (noted : Noted) (e : Event)
+    (result : Result Step StepFault) (step : Step) (t : Turning) → e ≡ event_of event
     → IsOutcome (outcome None now e h.device) result after.device → result ≡ Ok step
     → after.queues ≡ h.queues → t ≡ put_ended step.ended (turning after noted)
-    → t ≡ told_of now named (turning h noted)
-told now named h after noted e result step t is gives ok queues put =
-    let o : Outcome = outcome None now (placed_event h.device named) h.device in
-    let same : outcome None now e h.device ≡ o = line-outcome now h.device named e is in
+    → t ≡ told_of now event (turning h noted)
+told now event h after noted e result step t is gives ok queues put =
+    let o : Outcome = outcome None now (event_of event) h.device in
+    let same : outcome None now e h.device ≡ o = ap (λ x. outcome None now x h.device) is in
     let answer : o.answer ≡ Ok step =
     ap (λ (x : Outcome). x.answer) (sym same) ∙ sym gives.answered ∙ ok in
     let held : after ≡ record { device = o.after; queues = h.queues } =
@@ -42,26 +41,22 @@ told now named h after noted e result step t is gives ok queues put =
     (sym answer)
 
 -- octets were taken in
-pub taken : (now place : ℕ) (octets : List ℕ) (h after : Held) (noted left : Noted) (e : Event)
+pub taken : (now place : ℕ) (octets : Bor (List ℕ)) (h after : Held) (noted left : Noted)
     (result : Result Step StepFault) (step : Step) (sends : List Sent) (commands : List Command)
     (decisions : List Decision) (t u v : Turning) (n : Noted)
-    → anywhere e ≡ Recv (place + 1) (lying octets) → Steps now e h.device result after.device
-    → result ≡ Ok step → after.queues ≡ h.queues
+    → Steps now (Recv (place + 1) octets) h.device result after.device → result ≡ Ok step → after.queues ≡ h.queues
     → left ≡ left_noted place step.closed noted → t ≡ put_ended step.ended (turning after left)
     → sends ≡ step.sent → u ≡ put_all sends t
     → commands ≡ step.commands → v ≡ with_commands commands u
     → decisions ≡ step.decisions → n ≡ decides place decisions v.noted
-    → TakesIn now place octets (turning h noted) (with_noted n v)
-taken now place octets h after noted left e result step sends commands decisions t u v n is steps
-    ok queues leaves put all_sent puts all-told tells all-decided decided =
+    → TakesIn now place octets.now (turning h noted) (with_noted n v)
+taken now place octets h after noted left result step sends commands decisions t u v n steps ok
+    queues leaves put all_sent puts all-told tells all-decided decided =
     let choice : Option ℕ = steps.choice in
-    let o : Outcome = outcome choice now (Recv (place + 1) (lying octets)) h.device in
-    let same : outcome choice now e h.device ≡ o =
-    sym (outcome-anywhere choice now e h.device) ∙ ap (λ x. outcome choice now x h.device) is in
-    let answer : o.answer ≡ Ok step =
-    ap (λ (x : Outcome). x.answer) (sym same) ∙ sym steps.answered ∙ ok in
+    let o : Outcome = outcome choice now (Recv (place + 1) (lying octets.now)) h.device in
+    let answer : o.answer ≡ Ok step = sym steps.answered ∙ ok in
     let held : after ≡ record { device = o.after; queues = h.queues } =
-    held-as after o.after h.queues (steps.left ∙ ap (λ (x : Outcome). x.after) same) queues in
+    held-as after o.after h.queues steps.left queues in
     let first : turning after left
     ≡ left_by place step.closed (with_device o.after (turning h noted)) =
     ap (λ (x : Held). turning x left) held

@@ -1,45 +1,72 @@
 -- What a turn does, with the link that it is done over.
-use Rattle.std.specs.Prelude.{◌≡◌, ℕ, nat_lt, Bool, List, ◌++◌, length, drop, Option, Some, None, option_and_then, option_map, if◌then◌else◌}
+use Rattle.std.specs.Prelude.{◌≡◌, ℕ, nat_lt, Bool, List, ◌++◌, length, drop, Option, Some, None, option_and_then, option_map, unwrap_or, Result, Ok, Err, if◌then◌else◌}
 use Rattle.std.specs.Borrow.{Bor}
 use Rattle.std.specs.declared.net.socket_addr.SocketAddrV4.{SocketAddrV4}
+use Rattle.bay_device.specs.Device.{State}
+use Rattle.bay_device.specs.LookUps.{input_place, meter_place, switch_place}
 use Rattle.bay_device.specs.Outcomes.{last_moment}
-use Rattle.bay_trace.specs.Trace.{NamedData, process_of, trace_line_of}
+use Rattle.bay_trace.specs.Trace.{NamedData, connects, receives, disconnects, contact, input, measure, scan, process_of, trace_line_of}
 use Rattle.bay_serve.specs.Calls.{Call, Talks}
 use Rattle.bay_serve.specs.Offers.{offering_of, after_calls}
 use Rattle.bay_serve.specs.Turns.{Held, Script, Turning, accept_calls, with_accept, after_each, calls_of_each, moment_at, opening_of, taken_in, after_turn, turn_calls}
 use Rattle.bay_serve.specs.declared.fault.ServeFault.{ServeFault}
 use Rattle.bay_serve.specs.declared.fault.ServeFault.TheVariants.{BadLine, MomentTooLarge}
+use Rattle.bay_serve.specs.declared.process.ProcessEvent.{ProcessEvent}
+use Rattle.bay_serve.specs.declared.process.ProcessEvent.TheVariants.{Contact, Input, Measure}
 use Rattle.bay_serve.specs.declared.told.Turn.{Turn}
 
--- ---- why a turn is not done
+-- ---- what a turn is given
 
 -- what a line tells of the process: a contact, an input or a measure
 abbrev pub line_of : List ℕ → Option NamedData
 line_of text = process_of (trace_line_of text)
 
--- what a turn's line tells, where there is a line that is understood
-abbrev pub line_in : Option (List ℕ) → Option NamedData
-line_in line = option_and_then line_of line
+-- this happens to the process of a device, by its place; the place of an unknown name is one at
+-- which there is none
+abbrev pub process_event : State → NamedData → Option ProcessEvent
+process_event s (connects a) = None
+process_event s (receives a octets) = None
+process_event s (disconnects a) = None
+process_event s (contact id position) =
+    Some (Contact (unwrap_or (switch_place s id) (length s.switches)) position)
+process_event s (input name value) =
+    Some (Input (unwrap_or (input_place s name) (length s.input_values)) value)
+process_event s (measure id field value) =
+    Some (Measure (unwrap_or (meter_place s id) (length s.meters)) field value)
+process_event s scan = None
+
+-- what a line tells of the process of a device
+abbrev pub told_by : State → List ℕ → Option ProcessEvent
+told_by s text = option_and_then (process_event s) (line_of text)
+
+-- an event, nothing, or a line that tells of none
+abbrev pub Given : Type 0
+Given = Result (Option ProcessEvent) ServeFault
+
+abbrev pub understood : Option ProcessEvent → Given
+understood None = Err BadLine
+understood (Some event) = Ok (Some event)
 
 -- the line of a turn, if there is one
 abbrev pub text_in : Option (Bor (List ℕ)) → Option (List ℕ)
 text_in line = option_map (λ (text : Bor (List ℕ)). text.now) line
 
-abbrev pub refusal_behind : Bool → Option ServeFault
-refusal_behind is_late = if is_late then Some MomentTooLarge else None
+-- what it gives the turn
+abbrev pub given_by : State → Option (List ℕ) → Given
+given_by s None = Ok None
+given_by s (Some text) = understood (told_by s text)
 
-abbrev pub refusal_of : Option NamedData → Bool → Option ServeFault
-refusal_of None is_late = Some BadLine
-refusal_of (Some told) is_late = refusal_behind is_late
-
-abbrev pub refusal_at : Option (List ℕ) → Bool → Option ServeFault
-refusal_at None is_late = refusal_behind is_late
-refusal_at (Some text) is_late = refusal_of (line_of text) is_late
+-- the event of a turn, if it has one
+abbrev pub event_in : Given → Option ProcessEvent
+event_in (Ok event) = event
+event_in (Err fault) = None
 
 -- A line that tells of no contact, no input and no measure comes first, and then a moment that is
 -- too large.
-abbrev pub turn_refusal : ℕ → Option (List ℕ) → Held → Option ServeFault
-turn_refusal clock line h = refusal_at line (nat_lt last_moment (moment_at clock h))
+abbrev pub turn_refusal : ℕ → Given → Held → Option ServeFault
+turn_refusal clock (Err fault) h = Some fault
+turn_refusal clock (Ok event) h =
+    if nat_lt last_moment (moment_at clock h) then Some MomentTooLarge else None
 
 -- ---- its parts
 
@@ -94,7 +121,7 @@ module _ {L : Type 0} (step : L → Call → L → Type 0) where
   -- There is a script, of what the link answered to an accept, eight reads and eight offers and of
   -- where memory was refused, such that the calls on the link, the server after them and what the
   -- turn tells are the script's.
-  pub record Serves (old new : L) (now : ℕ) (line : Option NamedData) (before after : Held)
+  pub record Serves (old new : L) (now : ℕ) (line : Option ProcessEvent) (before after : Held)
       (turn : Turn) : Type 0 where
     pub script : Script
     pub all_read : length script.readings ≡ 8

@@ -8,17 +8,18 @@ use Rattle.bay_device.specs.Code.{step_code_of}
 use Rattle.bay_device.specs.Device.{State}
 use Rattle.bay_device.specs.Outcomes.{Outcome, connection_at, outcome, place_of}
 use Rattle.bay_device.specs.declared.event.Event.{Event}
-use Rattle.bay_device.specs.declared.event.Event.TheVariants.{Open, Recv, Close, Scan}
+use Rattle.bay_device.specs.declared.event.Event.TheVariants.{Open, Recv, Close, Contact, Input, Measure, Scan}
 use Rattle.bay_device.specs.declared.event.Sent.{Sent}
 use Rattle.bay_device.specs.declared.event.Step.{Step}
 use Rattle.bay_device.specs.declared.event.Why.{Why}
 use Rattle.bay_device.specs.declared.event.Why.TheVariants.{Ended, Fault, Memory}
 use Rattle.bay_device.specs.declared.fault.StepFault.{StepFault}
-use Rattle.bay_trace.specs.Placing.{lying, placed_event}
-use Rattle.bay_trace.specs.Trace.{NamedData}
+use Rattle.bay_trace.specs.Placing.{lying}
 use Rattle.bay_serve.specs.Calls.{Call, Accepts, Reads, Closes, ReadOutcome, Octets, Silence, Over, Broken}
 use Rattle.bay_serve.specs.Offers.{Offer, Offered, offering_of}
 use Rattle.bay_serve.specs.Standings.{after_full, is_full, is_leaving, is_told, takes_replies}
+use Rattle.bay_serve.specs.declared.process.ProcessEvent.{ProcessEvent}
+use Rattle.bay_serve.specs.declared.process.ProcessEvent.TheVariants as process
 use Rattle.bay_serve.specs.declared.standing.Standing.{Standing}
 use Rattle.bay_serve.specs.declared.standing.Standing.TheVariants.{Steady, Leaving, Gone}
 use Rattle.bay_serve.specs.declared.told.Closing.{Closing}
@@ -313,9 +314,15 @@ read_calls now place r s =
     if is_up place s then Reads (place + 1) 4096 r.heard ∷ heard_calls now place r.choice r.heard s
     else []
 
--- ---- the line and the scan
+-- ---- the process and the scan
 
--- a line that the device refuses is told of
+-- what happens to the process, as an event of a device
+abbrev pub event_of : ProcessEvent → Event
+event_of (process.Contact k position) = Contact k position
+event_of (process.Input k value) = Input k value
+event_of (process.Measure k field value) = Measure k field value
+
+-- an event that the device refuses is told of
 abbrev pub put_told : Result Step StepFault → Turning → Turning
 put_told (Err fault) s = with_noted (record s.noted { refused = Some (step_code_of fault) }) s
 put_told (Ok step) s = put_ended step.ended s
@@ -323,19 +330,18 @@ put_told (Ok step) s = put_ended step.ended s
 abbrev pub told_after : Outcome → Turning → Turning
 told_after o s = put_told o.answer (with_device o.after s)
 
--- what the line tells of the process happens at the turn's moment
-abbrev pub told_of : ℕ → NamedData → Turning → Turning
-told_of now named s =
-    told_after (outcome None now (placed_event s.server.device named) s.server.device) s
+-- what happens to the process happens at the turn's moment
+abbrev pub told_of : ℕ → ProcessEvent → Turning → Turning
+told_of now event s = told_after (outcome None now (event_of event) s.server.device) s
 
--- a turn has a line, or none
-abbrev pub with_line : ℕ → Option NamedData → Turning → Turning
+-- a turn has an event of the process, or none
+abbrev pub with_line : ℕ → Option ProcessEvent → Turning → Turning
 with_line now None s = s
-with_line now (Some named) s = after_settling now (told_of now named s)
+with_line now (Some event) s = after_settling now (told_of now event s)
 
-abbrev pub line_calls : ℕ → Option NamedData → Turning → List Call
+abbrev pub line_calls : ℕ → Option ProcessEvent → Turning → List Call
 line_calls now None s = []
-line_calls now (Some named) s = settling now (told_of now named s)
+line_calls now (Some event) s = settling now (told_of now event s)
 
 -- the program runs once
 abbrev pub after_turn_scan : ℕ → Turning → Turning
@@ -428,20 +434,20 @@ after_accept now script h = with_accept now script.accepted (turn_begin h)
 abbrev pub after_reads : ℕ → Script → Held → Turning
 after_reads now script h = after_each (read_one now) 0 script.readings (after_accept now script h)
 
-abbrev pub after_line : ℕ → Option NamedData → Script → Held → Turning
+abbrev pub after_line : ℕ → Option ProcessEvent → Script → Held → Turning
 after_line now line script h = with_line now line (after_reads now script h)
 
-abbrev pub after_scan : ℕ → Option NamedData → Script → Held → Turning
+abbrev pub after_scan : ℕ → Option ProcessEvent → Script → Held → Turning
 after_scan now line script h = after_turn_scan now (after_line now line script h)
 
 -- A turn: one connection is taken, each association is read, the line is told, the program runs
 -- once, and each queue is offered.
-abbrev pub after_turn : ℕ → Option NamedData → Script → Held → Turning
+abbrev pub after_turn : ℕ → Option ProcessEvent → Script → Held → Turning
 after_turn now line script h =
     after_each (offer_one now) 0 script.offers (after_scan now line script h)
 
 -- the calls on the link, in their order
-abbrev pub turn_calls : ℕ → Option NamedData → Script → Held → List Call
+abbrev pub turn_calls : ℕ → Option ProcessEvent → Script → Held → List Call
 turn_calls now line script h =
     accept_calls now script.accepted (turn_begin h)
     ++ calls_of_each (read_one now) (read_calls now) 0 script.readings (after_accept now script h)

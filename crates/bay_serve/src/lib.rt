@@ -2,21 +2,22 @@
 //
 // What is handed out: `link` (the clients' connections, a trait whose meaning is the calls that
 // were made and what they answered), `server` (a device with what is still to be sent to each
-// client), `turn` (one turn of the server), `told` (what a turn tells), `entries` (its lists).
+// client), `process` (what happens to the process, and the line that tells of it), `turn` (one turn
+// of the server), `told` (what a turn tells), `entries` (its lists), `fault` (why a turn is not
+// done).
 //
 // Within: `standing` is how an association stands in a turn, `notes` what a turn has to remember,
-// `line` what a line of the trace tells a server, `sending` puts what a step of the device sends
-// into the queues, `closing` closes associations, `reading` and `offering` do one association each,
-// `fault` has why a turn is not done.
+// `sending` puts what a step of the device sends into the queues, `closing` closes associations,
+// `reading` and `offering` do one association each.
 #![tactic(auto)]
 
 mod closing;
 pub mod entries;
 pub mod fault;
-mod line;
 pub mod link;
 mod notes;
 mod offering;
+pub mod process;
 mod reading;
 mod sending;
 pub mod server;

@@ -1,54 +1,47 @@
 // One turn of the server.
-ghost use Rattle.std.specs.Prelude.{◌≡◌, [], None, Some, Option, option_map, IfOk, IfErr, IfSome, OnErr, OnOk};
-ghost use Rattle.bay_trace.specs.Placing.{AreOctets};
-ghost use Rattle.bay_trace.specs.TraceView.{named_view};
+ghost use Rattle.std.specs.Prelude.{◌≡◌, None, Some, IfOk, IfErr, OnErr, OnOk};
 ghost use Rattle.bay_serve.specs.Calls.{Called, Talks};
-ghost use Rattle.bay_serve.specs.Served.{Serves, line_in, text_in, turn_refusal};
+ghost use Rattle.bay_serve.specs.Served.{Serves, event_in, given_by, text_in, turn_refusal};
 ghost use Rattle.bay_serve.specs.Turns.{line_calls, with_line, moment_at, scan_calls, after_turn_scan, told_of, turning};
 
 use crate::closing::settle;
 use crate::fault::ServeFault;
-use crate::line::read_line;
 use crate::link::Link;
 use crate::notes::Notes;
 use crate::offering::offer_each;
+use crate::process::{Given, ProcessEvent, read_line};
 use crate::reading::{accept_one, read_each};
 use crate::sending::{put_ended, step_quietly};
 use crate::server::Server;
 use crate::told::Turn;
+use bay_device::device::Device;
 use bay_device::event::{Event, LAST_MOMENT};
-use bay_trace::placing::placed_event;
-use bay_trace::trace::NamedEvent;
 
-/// Does the event of a line at the turn's time.
-fn tell(server: &mut Server, notes: &mut Notes, now: u64, event: NamedEvent<'_>)
-    requires { AreOctets (named_view event) [] }
+/// Does an event of the process at the turn's time.
+fn tell(server: &mut Server, notes: &mut Notes, now: u64, event: ProcessEvent)
     ensures after { turning server.new notes.new
-        ≡ told_of now (named_view event.entry) (turning server.old notes.old) }
+        ≡ told_of now event (turning server.old notes.old) }
 {
-    let event = placed_event(server.device(), &[], event);
-    match server.step(now, event) {
+    match server.step(now, event.event()) {
         Ok(step) => put_ended(server, notes, &step.ended),
         Err(fault) => notes.refuse(fault.code()),
     }
 }
 
-/// Does the event of the line, if there is one.
+/// Does the event of the process, if there is one.
 fn tell_line<L: Link>(
     server: &mut Server,
     notes: &mut Notes,
     link: &mut L,
     now: u64,
-    line: Option<NamedEvent<'_>>,
+    event: Option<ProcessEvent>,
 )
-    requires { IfSome line (λ event. AreOctets (named_view event) []) }
     ensures talks { Talks (Called L.does L.failures) link.old
-        (line_calls now (option_map named_view line.entry) (turning server.old notes.old))
-        link.new }
+        (line_calls now event (turning server.old notes.old)) link.new }
     ensures after { turning server.new notes.new
-        ≡ with_line now (option_map named_view line.entry) (turning server.old notes.old) }
+        ≡ with_line now event (turning server.old notes.old) }
 {
-    if let Some(event) = line {
+    if let Some(event) = event {
         tell(server, notes, now, event);
         settle(server, notes, link, now);
     }
@@ -68,33 +61,33 @@ fn scan<L: Link>(server: &mut Server, notes: &mut Notes, link: &mut L, now: u64)
 /// Serves one turn, at the later of the clock's time (in milliseconds since 1970) and the last
 /// time. Accepts at most one waiting connection, under the lowest free number. Reads each
 /// association once, in order, up to 4,096 octets; closes one whose client sends no more, and one
-/// whose read fails, with 131. Does the contact, input or measurement of the line, whatever the
-/// line's own time. Runs the program once. Writes what is still to be sent to each association, as
-/// far as the link takes it. Closes an association with 131 if a write fails, and with 130 if a
-/// reply does not fit into what is still to be sent to it.
+/// whose read fails, with 131. Does the event of the process that it is given, if it is given one.
+/// Runs the program once. Writes what is still to be sent to each association, as far as the link
+/// takes it. Closes an association with 131 if a write fails, and with 130 if a reply does not fit
+/// into what is still to be sent to it.
 ///
-/// A line that does not report a contact, an input or a measurement is refused first, then a time
-/// that is too late. Nothing is done then.
-pub fn serve_turn<L: Link>(
+/// A line that reports no event of the process is refused first, then a time that is too late.
+/// Nothing is done then.
+pub fn serve_event<L: Link>(
     server: &mut Server,
     link: &mut L,
     clock: u64,
-    line: Option<&str>,
+    given: Given,
 ) -> Result<Turn, ServeFault>
     // There is a script with which the calls on the link, the server after them and what is told
     // are the turn's.
     ensures ok { IfOk result
         (λ turn. Serves (Called L.does L.failures) link.old link.new (moment_at clock server.old)
-        (line_in (text_in line.entry)) server.old server.new turn) }
-    // A turn is done exactly where its line and its moment are right, and otherwise it says which
-    // of them is not.
-    ensures right { OnOk result (turn_refusal clock (text_in line.entry) server.old ≡ None) }
+        (event_in given) server.old server.new turn) }
+    // A turn is done exactly where what it is given and its moment are right, and otherwise it says
+    // which of them is not.
+    ensures right { OnOk result (turn_refusal clock given server.old ≡ None) }
     ensures refused { IfErr result
-        (λ fault. turn_refusal clock (text_in line.entry) server.old ≡ Some fault) }
+        (λ fault. turn_refusal clock given server.old ≡ Some fault) }
     ensures server_kept { OnErr result (server.new ≡ server.old) }
     ensures link_kept { OnErr result (link.new ≡ link.old) }
 {
-    let line = read_line(line)?;
+    let event = given?;
     let now = clock.max(server.device().moment());
     if now > LAST_MOMENT {
         return Err(ServeFault::MomentTooLarge);
@@ -102,8 +95,41 @@ pub fn serve_turn<L: Link>(
     let mut notes = Notes::new();
     let opened = accept_one(server, &mut notes, link, now);
     read_each(server, &mut notes, link, now);
-    tell_line(server, &mut notes, link, now, line);
+    tell_line(server, &mut notes, link, now, event);
     scan(server, &mut notes, link, now);
     offer_each(server, &mut notes, link, now);
     Ok(notes.into_turn(opened))
+}
+
+/// Reads the line of a turn, if there is one.
+fn read_given(device: &Device, line: Option<&str>) -> Given
+    ensures { result ≡ given_by device.now (text_in line.entry) }
+{
+    match line {
+        Some(text) => read_line(device, text.as_bytes()),
+        None => Ok(None),
+    }
+}
+
+/// Serves one turn, which is given the contact, input or measurement of a line, whatever the line's
+/// own time.
+pub fn serve_turn<L: Link>(
+    server: &mut Server,
+    link: &mut L,
+    clock: u64,
+    line: Option<&str>,
+) -> Result<Turn, ServeFault>
+    ensures ok { IfOk result
+        (λ turn. Serves (Called L.does L.failures) link.old link.new (moment_at clock server.old)
+        (event_in (given_by server.old.device (text_in line.entry))) server.old server.new turn) }
+    ensures right { OnOk result
+        (turn_refusal clock (given_by server.old.device (text_in line.entry)) server.old ≡ None) }
+    ensures refused { IfErr result
+        (λ fault. turn_refusal clock (given_by server.old.device (text_in line.entry)) server.old
+        ≡ Some fault) }
+    ensures server_kept { OnErr result (server.new ≡ server.old) }
+    ensures link_kept { OnErr result (link.new ≡ link.old) }
+{
+    let given = read_given(server.device(), line);
+    serve_event(server, link, clock, given)
 }

@@ -11,22 +11,21 @@ use Rattle.bay_device.specs.declared.event.Why.{Why}
 use Rattle.bay_device.specs.declared.event.Why.TheVariants.{Ended}
 use Rattle.bay_device.specs.declared.fault.StepFault.{StepFault}
 use Rattle.bay_trace.specs.Placing.{lying}
-use Rattle.bay_trace.specs.Trace.{NamedData}
 use Rattle.bay_serve.specs.Calls.{Call, Reads, Closes, ReadOutcome, Octets, Silence, Over, Broken}
 use Rattle.bay_serve.specs.Offers.{Offer, offering_of}
 use Rattle.bay_serve.specs.Standings.{is_leaving, is_told}
 use Rattle.bay_serve.specs.Turns.{Held, Reading, Script, Turning, turn_calls, accept_calls, accept_calls_at, after_accept, after_each, after_line, after_offer, after_reads, after_scan, turn_begin, calls_of_each, cut_off, first_full, free_place, heard_calls, hung_up, is_up, leaves, left_by, line_calls, offer_calls, offer_end, offer_of, offer_one, on_heard, after_opening, after_parting, put_answer, queue_at, queue_of, read_calls, read_one, scan_calls, after_settling, settling, settling_in, settling_next, standing_of, after_event, taken_in, told_of, after_turn, with_device, with_noted, with_queue}
+use Rattle.bay_serve.specs.declared.process.ProcessEvent.{ProcessEvent}
 use Rattle.bay_serve.specs.declared.told.Closing.TheVariants as closing
 use Rattle.bay_serve_laws.specs.Causes.{HasItsCause, ends_for, fails_for, has_some, reason_in, reasons_of}
-use Rattle.bay_serve_laws.specs.Events.{ChosenEvent, HasNoOctets, turn_events, accept_events, done_at, events_of_each, failed_events, heard_events, line_events, offer_events, read_events, scan_events, settled_events}
-use Rattle.bay_serve_laws.specs.Flows.{IsInTime, IsOfProcess, IsTidy}
+use Rattle.bay_serve_laws.specs.Events.{ChosenEvent, turn_events, accept_events, done_at, events_of_each, failed_events, heard_events, line_events, offer_events, read_events, scan_events, settled_events}
+use Rattle.bay_serve_laws.specs.Flows.{IsInTime, IsTidy}
 use Rattle.bay_serve_laws.specs.Telling.{closed_in}
 use Rattle.bay_serve_laws.proofs.CauseLemmas.{Knows, Ready, Still, Still-refl, and-no, ended-knows, failed-knows, knows-as, left-knows, nothing-known, parted-knows, ready-filled, still-knows, still-kept}
 use Rattle.bay_serve_laws.proofs.ClosingLemmas.{AllQuiet, IsOwn, accept-quiet, line-quiet, offer-quiet, outcome-own, settled-quiet, up-untold}
 use Rattle.bay_serve_laws.proofs.CutLemmas.{Well}
 use Rattle.bay_serve_laws.proofs.DoneLemmas.{IsBoth, done-append}
 use Rattle.bay_serve_laws.proofs.KeepLemmas.{keep-line, keep-offer, keep-on-accept, keep-read, keep-rest, keep-scan, keep-settled, keep-stepped}
-use Rattle.bay_serve_laws.proofs.LineLemmas.{process-quiet}
 use Rattle.bay_serve_laws.proofs.MoveLemmas.{Moves}
 use Rattle.bay_serve_laws.proofs.OfferFlows.{offer-moves}
 use Rattle.bay_serve_laws.proofs.PartLemmas.{Part-accept, Part-line, Part-offer, Part-read, Part-scan}
@@ -82,9 +81,9 @@ plain-accept a now (Some place) (Some None) s = record { fails = refl; ends = re
 plain-accept a now (Some place) (Some (Some from)) s =
     plain-call a _ _ refl refl (plain-settling a now (after_opening now place s))
 
-plain-line : (a now : ℕ) (line : Option NamedData) (s : Turning) → IsPlain a (line_calls now line s)
+plain-line : (a now : ℕ) (line : Option ProcessEvent) (s : Turning) → IsPlain a (line_calls now line s)
 plain-line a now None s = plain-nil a
-plain-line a now (Some named) s = plain-settling a now (told_of now named s)
+plain-line a now (Some event) s = plain-settling a now (told_of now event s)
 
 plain-heard : (a now place : ℕ) (choice : Option ℕ) (heard : ReadOutcome) (s : Turning)
     → IsPlain a (heard_calls now place choice heard s)
@@ -383,11 +382,11 @@ module _ (now p : ℕ) (low : p < 8) where
   read-learns place r s small untold = elim (cases_eq place p) [
     | inl e ↦ subst (λ q. Learns s (read_calls now q r s) (read_events now q r s)
         (read_one now q r s)) (sym e) (record {
-          device = (Part-read ⊥ now p r s).device;
+          device = (Part-read now p r s).device;
           learns = λ x y z k. read-own (is_up p s) x y z r s untold k;
         })
     | inr ne ↦ Learns-still s (read_one now place r s) (read_calls now place r s)
-        (read_events now place r s) (Part-read ⊥ now place r s).device (plain-read place r s ne)
+        (read_events now place r s) (Part-read now place r s).device (plain-read place r s ne)
         (read-closes place r s ne)
         (λ sized. keep-read Others (Still p s.noted) (still-kept p low s.noted) now place r s small
         ne (Still-refl p s.noted sized))
@@ -488,12 +487,12 @@ module _ (now p : ℕ) (low : p < 8) where
   offer-learns place o s small untold = elim (cases_eq place p) [
     | inl e ↦ subst (λ q. Learns s (offer_calls now q o s) (offer_events now q o s)
         (offer_one now q o s)) (sym e) (record {
-          device = (Part-offer ⊥ now p o s).device;
+          device = (Part-offer now p o s).device;
           learns = λ x y z k.
               offer-own (is_leaving (standing_of p s)) (is_up p s) x y z o s refl untold k;
         })
     | inr ne ↦ Learns-still s (offer_one now place o s) (offer_calls now place o s)
-        (offer_events now place o s) (Part-offer ⊥ now place o s).device (plain-offer place o s ne)
+        (offer_events now place o s) (Part-offer now place o s).device (plain-offer place o s ne)
         (none-closes (p + 1) now (offer_events now place o s) s.server.device
         (offer-quiet now place o s))
         (λ sized. keep-offer Others (Still p s.noted) (still-kept p low s.noted) now place o s
@@ -553,17 +552,17 @@ module _ (now p : ℕ) (low : p < 8) (held : List ℕ) (past : now ≤ last_mome
       }
 
 -- what is known after a turn
-abbrev pub KnowsTurn : ℕ → Option NamedData → Script → Held → ℕ → Type 0
+abbrev pub KnowsTurn : ℕ → Option ProcessEvent → Script → Held → ℕ → Type 0
 KnowsTurn now line script h p =
     Knows p (has_some (fails_for (p + 1)) (turn_calls now line script h))
     (has_some (ends_for (p + 1)) (turn_calls now line script h))
     (reasons_of (p + 1) (done_at now (turn_events now line script h) h.device).answers)
     (after_turn now line script h).noted
 
-pub knows-turn : (now : ℕ) (line : Option NamedData) (script : Script) (h : Held) → IsTidy h
-    → IsInTime now h → IsOfProcess line → length script.readings ≡ 8 → length script.offers ≡ 8
+pub knows-turn : (now : ℕ) (line : Option ProcessEvent) (script : Script) (h : Held) → IsTidy h
+    → IsInTime now h → length script.readings ≡ 8 → length script.offers ≡ 8
     → (p : ℕ) → p < 8 → KnowsTurn now line script h p
-knows-turn now line script h tidy time process readings offers p low =
+knows-turn now line script h tidy time readings offers p low =
     let held = queue_at p h in
     let past = time.not_past in
     let s0 : Turning = turn_begin h in
@@ -572,7 +571,6 @@ knows-turn now line script h tidy time process readings offers p low =
     let s3 : Turning = after_line now line script h in
     let s4 : Turning = after_scan now line script h in
     let s5 : Turning = after_turn now line script h in
-    let silent : HasNoOctets line = process-quiet line process in
     let kept1 : Kept now p low held past s1 = record {
       taken = _;
       sent = _;
@@ -582,7 +580,7 @@ knows-turn now line script h tidy time process readings offers p low =
     let to1 : Learns now p low s0 (accept_calls now script.accepted s0)
     (accept_events now script.accepted s0) s1 =
     Learns-still now p low s0 s1 (accept_calls now script.accepted s0)
-    (accept_events now script.accepted s0) (Part-accept ⊥ now script.accepted s0).device
+    (accept_events now script.accepted s0) (Part-accept now script.accepted s0).device
     (plain-accept (p + 1) now (free_place h) script.accepted s0)
     (none-closes (p + 1) now (accept_events now script.accepted s0) s0.server.device
     (accept-quiet now (free_place h) script.accepted s0))
@@ -596,12 +594,12 @@ knows-turn now line script h tidy time process readings offers p low =
     (omega (arith, readings)) kept1 in
     let kept3 : Kept now p low held past s3 =
     kept-after now p low held past s2 s3 (line_calls now line s2) (line_events now line s2)
-    (line-moves now p held low past line s2 process) to2.kept in
+    (line-moves now p held low past line s2) to2.kept in
     let to3 : Learns now p low s2 (line_calls now line s2) (line_events now line s2) s3 =
     Learns-still now p low s2 s3 (line_calls now line s2) (line_events now line s2)
-    (Part-line ⊥ now line s2 (λ q. absurd q)).device (plain-line (p + 1) now line s2)
+    (Part-line now line s2).device (plain-line (p + 1) now line s2)
     (none-closes (p + 1) now (line_events now line s2) s2.server.device
-    (line-quiet now line s2 silent))
+    (line-quiet now line s2))
     (λ sized. keep-line (Others now p low) (Still p s2.noted) (still-kept p low s2.noted) now line
     s2 (Still-refl p s2.noted sized)) in
     let kept4 : Kept now p low held past s4 =
@@ -609,7 +607,7 @@ knows-turn now line script h tidy time process readings offers p low =
     (scan-moves now p held low past s3) kept3 in
     let to4 : Learns now p low s3 (scan_calls now s3) (scan_events now s3) s4 =
     Learns-still now p low s3 s4 (scan_calls now s3) (scan_events now s3)
-    (Part-scan ⊥ now s3).device (plain-settling (p + 1) now (after_event now Scan s3))
+    (Part-scan now s3).device (plain-settling (p + 1) now (after_event now Scan s3))
     (none-closes (p + 1) now (scan_events now s3) s3.server.device
     (tt, settled-quiet now (after_event now Scan s3)))
     (λ sized. keep-scan (Others now p low) (Still p s3.noted) (still-kept p low s3.noted) now s3
@@ -626,8 +624,8 @@ knows-turn now line script h tidy time process readings offers p low =
     let whole = Learns-trans now p low s0 s4 s5 _ _ _ _ to04 to5.learns in
     whole.learns false false [] (nothing-known p low)
 
-pub has-its-cause : (now : ℕ) (line : Option NamedData) (script : Script) (h : Held) → IsTidy h
-    → IsInTime now h → IsOfProcess line → length script.readings ≡ 8 → length script.offers ≡ 8
+pub has-its-cause : (now : ℕ) (line : Option ProcessEvent) (script : Script) (h : Held) → IsTidy h
+    → IsInTime now h → length script.readings ≡ 8 → length script.offers ≡ 8
     → (p : ℕ) → p < 8 → HasItsCause now line script h (p + 1)
-has-its-cause now line script h tidy time process readings offers p low =
-    (knows-turn now line script h tidy time process readings offers p low).caused
+has-its-cause now line script h tidy time readings offers p low =
+    (knows-turn now line script h tidy time readings offers p low).caused

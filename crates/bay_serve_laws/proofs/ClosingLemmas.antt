@@ -10,19 +10,19 @@ use Rattle.bay_device.specs.declared.event.Event.TheVariants.{Recv}
 use Rattle.bay_device.specs.declared.event.Why.{Why}
 use Rattle.bay_device.specs.declared.event.Why.TheVariants.{Ended, Fault, Memory}
 use Rattle.bay_trace.specs.Placing.{lying}
-use Rattle.bay_trace.specs.Trace.{NamedData}
 use Rattle.bay_serve.specs.Offers.{Offer}
 use Rattle.bay_serve.specs.Standings.{after_full, is_full, is_leaving, is_told}
 use Rattle.bay_serve.specs.Turns.{Noted, Turning, first_full, goes, is_up, offer_of, after_opening, standing_in, standing_of, stands, with_closing, told_of, told_why}
+use Rattle.bay_serve.specs.declared.process.ProcessEvent.{ProcessEvent}
 use Rattle.bay_serve.specs.declared.standing.Standing.{Standing}
 use Rattle.bay_serve.specs.declared.standing.Standing.TheVariants.{Steady, Full, Leaving, LeavingFull, Gone}
 use Rattle.bay_serve.specs.declared.told.Closing.{Closing}
 use Rattle.bay_serve.specs.declared.told.Closing.TheVariants as closing
-use Rattle.bay_serve_laws.specs.Events.{ChosenEvent, HasNoOctets, accept_events_at, failed_events, line_events, offer_events, settled_events, settled_in_events, settled_next_events}
+use Rattle.bay_serve_laws.specs.Events.{ChosenEvent, accept_events_at, failed_events, line_events, offer_events, settled_events, settled_in_events, settled_next_events}
 use Rattle.bay_serve_laws.specs.Telling.{closed_in}
 use Rattle.bay_serve_laws.proofs.CarryLemmas.{MayLose}
 use Rattle.bay_serve_laws.proofs.KeepLemmas.{Each, IsNoted}
-use Rattle.bay_serve_laws.proofs.QuietLemmas.{at_any_moment, placed-quiet}
+use Rattle.bay_serve_laws.proofs.QuietLemmas.{at_any_moment, process-quiet}
 use Rattle.bay_serve_laws.proofs.TellingLemmas.{set-length}
 
 -- ---- what is told stays told
@@ -122,11 +122,10 @@ accept-quiet now (Some place) (Some None) s = tt
 accept-quiet now (Some place) (Some (Some from)) s =
     (tt, settled-quiet now (after_opening now place s))
 
-pub line-quiet : (now : ℕ) (line : Option NamedData) (s : Turning) → HasNoOctets line
+pub line-quiet : (now : ℕ) (line : Option ProcessEvent) (s : Turning)
     → AllQuiet (line_events now line s)
-line-quiet now None s h = tt
-line-quiet now (Some named) s h =
-    (placed-quiet s.server.device named h, settled-quiet now (told_of now named s))
+line-quiet now None s = tt
+line-quiet now (Some event) s = (process-quiet event, settled-quiet now (told_of now event s))
 
 pub offer-quiet : (now place : ℕ) (o : Offer) (s : Turning) → AllQuiet (offer_events now place o s)
 offer-quiet now place o s =

@@ -2,14 +2,14 @@
 use Rattle.std.proofs.Common.{◌≡◌, ℕ, zero, suc, ◌+◌, ◌==◌, Bool, true, false, cond, List, [], ◌∷◌, ◌++◌, drop, Option, Some, None, refl, ap, sym, ◌∙◌, append_assoc}
 use Rattle.std.specs.declared.net.socket_addr.SocketAddrV4.{SocketAddrV4}
 use Rattle.bay_device.specs.Device.{State}
-use Rattle.bay_trace.specs.Placing.{AreOctets, placed_event}
-use Rattle.bay_trace.specs.Trace.{NamedData, connects, receives, disconnects, contact, input, measure, scan}
 use Rattle.bay_serve.specs.Calls.{Call, Closes, Reads, ReadOutcome, Octets, Silence, Over, Broken}
 use Rattle.bay_serve.specs.Offers.{Offer, offering_of}
 use Rattle.bay_serve.specs.Standings.{is_leaving}
 use Rattle.bay_serve.specs.Turns.{Held, Reading, Script, Turning, turn_calls, accept_calls_at, after_accept, after_line, after_opening, after_reads, after_scan, turn_begin, calls_of_each, cut_off, first_full, free_place, heard_calls, hung_up, is_up, line_calls, offer_calls, offer_end, offer_of, offer_one, queue_of, read_calls, read_one, scan_calls, settling, settling_in, settling_next, standing_of, after_event, taken_in, told_of}
+use Rattle.bay_serve.specs.declared.process.ProcessEvent.{ProcessEvent}
+use Rattle.bay_serve.specs.declared.process.ProcessEvent.TheVariants.{Contact, Input, Measure}
 use Rattle.bay_serve.specs.declared.told.Closing.TheVariants as closing
-use Rattle.bay_serve_laws.specs.Events.{ChosenEvent, HasNoOctets, turn_events, accept_events_at, events_of_each, failed_events, heard_events, line_events, offer_events, read_events, scan_events, settled_events, settled_in_events, settled_next_events}
+use Rattle.bay_serve_laws.specs.Events.{ChosenEvent, turn_events, accept_events_at, events_of_each, failed_events, heard_events, line_events, offer_events, read_events, scan_events, settled_events, settled_in_events, settled_next_events}
 use Rattle.bay_serve_laws.specs.Flows.{brought_by, given_by, given_of, received_of}
 use Rattle.bay_device.specs.declared.event.Event.TheVariants.{Scan}
 
@@ -106,26 +106,15 @@ module _ (a : ℕ) where
         by-up true = heard-bring place r.choice r.heard s
         by-up false = bring-none
 
-    none-placed : (d : State) (named : NamedData) → AreOctets named []
-        → brought_by a (placed_event d named) ≡ []
-    none-placed d (connects b) h = refl
-    none-placed d (receives b octets) h = nothing (b == a) octets (sym h)
-    none-placed d (disconnects b) h = refl
-    none-placed d (contact id position) h = refl
-    none-placed d (input name value) h = refl
-    none-placed d (measure id field value) h = refl
-    none-placed d scan h = refl
-
-    line-bring : (line : Option NamedData) (s : Turning) → HasNoOctets line
+    line-bring : (line : Option ProcessEvent) (s : Turning)
         → Brings (line_calls now line s) (line_events now line s)
-    line-bring None s h = bring-none
-    line-bring (Some named) s h =
-        let t : Turning = told_of now named s in
-        record {
-          is = (settled-bring t).is
-              ∙ ap (λ l. l ++ received_of a (settled_events now t))
-              (sym (none-placed s.server.device named h));
-        }
+    line-bring None s = bring-none
+    line-bring (Some (Contact k position)) s =
+        record { is = (settled-bring (told_of now (Contact k position) s)).is }
+    line-bring (Some (Input k value)) s =
+        record { is = (settled-bring (told_of now (Input k value) s)).is }
+    line-bring (Some (Measure k field value)) s =
+        record { is = (settled-bring (told_of now (Measure k field value) s)).is }
 
     offered-none : (b : ℕ) (q takes : List ℕ) (fails : Bool)
         → given_of a (offering_of b q takes fails).calls ≡ []
@@ -171,9 +160,9 @@ module _ (a : ℕ) where
         (events_of_each f events (place + 1) cs t) (step place c s)
         (each-bring f calls events step (place + 1) cs t)
 
-    pub turn-brings : (line : Option NamedData) (script : Script) (h : Held) → HasNoOctets line
+    pub turn-brings : (line : Option ProcessEvent) (script : Script) (h : Held)
         → given_of a (turn_calls now line script h) ≡ received_of a (turn_events now line script h)
-    turn-brings line script h silent =
+    turn-brings line script h =
         let s0 : Turning = turn_begin h in
         let s1 : Turning = after_accept now script h in
         let s2 : Turning = after_reads now script h in
@@ -190,7 +179,7 @@ module _ (a : ℕ) where
         each-bring (offer_one now) (offer_calls now) (offer_events now) offer-bring 0 script.offers
         s4 in
         let to2 = both-bring _ _ _ _ (accept-bring (free_place h) script.accepted s0) reads in
-        let to3 = both-bring _ _ _ _ to2 (line-bring line s2 silent) in
+        let to3 = both-bring _ _ _ _ to2 (line-bring line s2) in
         let to4 = both-bring _ _ _ _ to3 scan in
         let whole : Brings (turn_calls now line script h) (turn_events now line script h) =
         both-bring _ _ _ _ to4 offers in

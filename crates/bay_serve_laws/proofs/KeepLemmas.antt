@@ -12,12 +12,12 @@ use Rattle.bay_device.specs.declared.event.Step.{Step}
 use Rattle.bay_device.specs.declared.event.Why.{Why}
 use Rattle.bay_device.specs.declared.event.Why.TheVariants.{Ended}
 use Rattle.bay_device.specs.declared.fault.StepFault.{StepFault}
-use Rattle.bay_trace.specs.Placing.{lying, placed_event}
-use Rattle.bay_trace.specs.Trace.{NamedData}
+use Rattle.bay_trace.specs.Placing.{lying}
 use Rattle.bay_serve.specs.Calls.{ReadOutcome, Octets, Silence, Over, Broken}
 use Rattle.bay_serve.specs.Offers.{Offer, Offered}
 use Rattle.bay_serve.specs.Standings.{after_full, is_leaving, takes_replies}
-use Rattle.bay_serve.specs.Turns.{Held, Noted, Reading, Script, Turning, after_accept, after_each, after_line, after_offer, after_reads, after_scan, turn_begin, cut_off, first_full, free_place, goes, has_room, hung_up, is_up, leaves, left_by, with_line, nothing_noted, offer_of, offer_one, on_accept, on_heard, after_opening, after_parting, put_all, put_answer, put_at, put_ended, put_quiet, put_sent, put_told, put_whole, queue_of, read_one, after_turn_scan, after_settling, settled_in, settled_next, standing_in, standing_of, stands, after_event, taken_in, told_of, after_turn, with_device, with_noted, with_queue}
+use Rattle.bay_serve.specs.Turns.{Held, Noted, Reading, Script, Turning, after_accept, after_each, after_line, after_offer, after_reads, after_scan, turn_begin, cut_off, first_full, free_place, goes, has_room, hung_up, is_up, leaves, left_by, with_line, nothing_noted, offer_of, offer_one, on_accept, on_heard, after_opening, after_parting, put_all, put_answer, put_at, put_ended, put_quiet, put_sent, put_told, put_whole, queue_of, read_one, after_turn_scan, after_settling, settled_in, settled_next, standing_in, standing_of, stands, after_event, taken_in, told_of, after_turn, with_device, with_noted, with_queue, event_of}
+use Rattle.bay_serve.specs.declared.process.ProcessEvent.{ProcessEvent}
 use Rattle.bay_serve.specs.declared.standing.Standing.TheVariants.{Gone}
 use Rattle.bay_serve.specs.declared.told.Closing.{Closing}
 use Rattle.bay_serve.specs.declared.told.Closing.TheVariants as closing
@@ -189,12 +189,12 @@ module _ (Ends : ℕ → Type 0) (P : Noted → Type 0) (k : IsNoted Ends P) (no
   keep-told (Err fault) s p = k.refuses (Some (step_code_of fault)) s.noted p
   keep-told (Ok step) s p = keep-ended P k.fills now step.ended s p
 
-  pub keep-line : (line : Option NamedData) (s : Turning) → Holds P s
+  pub keep-line : (line : Option ProcessEvent) (s : Turning) → Holds P s
       → Holds P (with_line now line s)
   keep-line None s p = p
-  keep-line (Some named) s p =
-      let o = outcome None now (placed_event s.server.device named) s.server.device in
-      keep-settled (told_of now named s) (keep-told o.answer (with_device o.after s) p)
+  keep-line (Some event) s p =
+      let o = outcome None now (event_of event) s.server.device in
+      keep-settled (told_of now event s) (keep-told o.answer (with_device o.after s) p)
 
   pub keep-scan : (s : Turning) → Holds P s → Holds P (after_turn_scan now s)
   keep-scan s p = keep-settled (after_event now Scan s) (stepped-kept Scan s p)
@@ -231,7 +231,7 @@ module _ (Ends : ℕ → Type 0) (P : Noted → Type 0) (k : IsNoted Ends P) (no
       (step place c s (omega arith) p)
 
   pub keep_turn : ((place : ℕ) → Ends place)
-      → (line : Option NamedData) (script : Script) (h : Held)
+      → (line : Option ProcessEvent) (script : Script) (h : Held)
       → length script.readings ≡ 8 → length script.offers ≡ 8 → P nothing_noted
       → P (after_turn now line script h).noted
   keep_turn all line script h reads offers p =

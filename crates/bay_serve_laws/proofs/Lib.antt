@@ -11,7 +11,6 @@ pub mod TellsLemmas
 pub mod CarryLemmas
 pub mod PutLemmas
 pub mod MoveLemmas
-pub mod LineLemmas
 pub mod CutLemmas
 pub mod ReadFlows
 pub mod OfferFlows

@@ -7,22 +7,23 @@ use Rattle.std.specs.declared.net.socket_addr.SocketAddrV4.{SocketAddrV4}
 use Rattle.bay_connection.specs.Talk.{Talk}
 use Rattle.bay_device.specs.Outcomes.{last_moment, outcome}
 use Rattle.bay_device.specs.declared.event.Event.{Event}
-use Rattle.bay_device.specs.declared.event.Event.TheVariants.{Open, Recv, Close, Scan}
+use Rattle.bay_device.specs.declared.event.Event.TheVariants.{Open, Recv, Close, Contact, Input, Measure, Scan}
 use Rattle.bay_device.specs.declared.event.Step.{Step}
 use Rattle.bay_device.specs.declared.event.Why.{Why}
 use Rattle.bay_device.specs.declared.event.Why.TheVariants.{Ended}
 use Rattle.bay_device.specs.declared.fault.StepFault.{StepFault}
-use Rattle.bay_trace.specs.Placing.{lying, placed_event}
-use Rattle.bay_trace.specs.Trace.{NamedData, connects, receives, disconnects, contact, input, measure, scan, process_event}
+use Rattle.bay_trace.specs.Placing.{lying}
 use Rattle.bay_serve.specs.Calls.{ReadOutcome, Octets, Silence, Over, Broken}
 use Rattle.bay_serve.specs.Offers.{Offer}
 use Rattle.bay_serve.specs.Standings.{is_leaving, is_told}
 use Rattle.bay_serve.specs.Turns.{Held, Reading, Script, Turning, after_accept, after_each, after_line, after_offer, after_reads, after_scan, turn_begin, cut_off, first_full, free_place, hung_up, is_up, leaves, left_by, with_line, offer_of, offer_one, on_accept, on_heard, after_opening, after_parting, put_answer, put_told, read_one, after_settling, settled_in, settled_next, standing_in, standing_of, after_event, taken_in, told_of, after_turn, with_device, with_noted}
+use Rattle.bay_serve.specs.declared.process.ProcessEvent.{ProcessEvent}
+use Rattle.bay_serve.specs.declared.process.ProcessEvent.TheVariants as process
 use Rattle.bay_serve.specs.declared.standing.Standing.{Standing}
 use Rattle.bay_serve.specs.declared.standing.Standing.TheVariants.{Steady, Gone, Leaving}
 use Rattle.bay_serve.specs.declared.told.Closing.{Closing}
 use Rattle.bay_serve.specs.declared.told.Closing.TheVariants as closing
-use Rattle.bay_serve_laws.specs.Flows.{IsInTime, IsOfProcess}
+use Rattle.bay_serve_laws.specs.Flows.{IsInTime}
 use Rattle.bay_serve_laws.specs.Fullness.{IsOpenIn}
 use Rattle.bay_serve_laws.proofs.CauseLemmas.{Still, Still-refl, rises, still-kept}
 use Rattle.bay_serve_laws.proofs.CutLemmas.{cut-device, gone-standings}
@@ -257,27 +258,20 @@ module _ (now p : ℕ) (low : p < 8) where
       (with_device a.after s) (still-self s o))
       (λ u. ap (up_at p) same.device ∙ up ∙ u) o
 
-  line-of-open : (named : NamedData) (s : Turning) → process_event named ≡ Some named → Opened s
-      → Opened (told_of now named s)
-  line-of-open (connects a) s e o = absurd (cc)
-  line-of-open (receives a octets) s e o = absurd (cc)
-  line-of-open (disconnects a) s e o = absurd (cc)
-  line-of-open (contact id position) s e o =
-      told-open (placed_event s.server.device (contact id position)) s
-      (contact-outcome-up None now p _ position s.server.device) o
-  line-of-open (input name value) s e o =
-      told-open (placed_event s.server.device (input name value)) s
-      (input-outcome-up None now p _ value s.server.device) o
-  line-of-open (measure id field value) s e o =
-      told-open (placed_event s.server.device (measure id field value)) s
-      (measure-outcome-up None now p _ field value s.server.device) o
-  line-of-open scan s e o = absurd (cc)
+  process-open : (event : ProcessEvent) (s : Turning) → Opened s → Opened (told_of now event s)
+  process-open (process.Contact k position) s o =
+      told-open (Contact k position) s
+      (contact-outcome-up None now p k position s.server.device) o
+  process-open (process.Input k value) s o =
+      told-open (Input k value) s (input-outcome-up None now p k value s.server.device) o
+  process-open (process.Measure k field value) s o =
+      told-open (Measure k field value) s
+      (measure-outcome-up None now p k field value s.server.device) o
 
-  line-open : (line : Option NamedData) (s : Turning) → IsOfProcess line → Opened s
+  line-open : (line : Option ProcessEvent) (s : Turning) → Opened s
       → Opened (with_line now line s)
-  line-open None s e o = o
-  line-open (Some named) s e o =
-      settled-open (told_of now named s) (line-of-open named s e o)
+  line-open None s o = o
+  line-open (Some event) s o = settled-open (told_of now event s) (process-open event s o)
 
   failed-open : (failed : Bool) (place : ℕ) (q : List ℕ) (s : Turning) → place < 8 → Opened s
       → Opened (cond failed (after_settling now (cut_off now closing.LinkFailed place s))
@@ -324,10 +318,10 @@ module _ (now p : ℕ) (low : p < 8) where
       (settled-open (after_opening now p (turn_begin h))
       (opened-here (turn_begin h) refl time.not_before time.not_past taken.0)))
 
-  pub turned-open : (line : Option NamedData) (script : Script) (h : Held) → IsInTime now h
-      → IsOfProcess line → length script.readings ≡ 8 → length script.offers ≡ 8
+  pub turned-open : (line : Option ProcessEvent) (script : Script) (h : Held) → IsInTime now h
+      → length script.readings ≡ 8 → length script.offers ≡ 8
       → IsOpenIn p script h → Opened (after_turn now line script h)
-  turned-open line script h time process readings offers up =
+  turned-open line script h time readings offers up =
       let s1 : Turning = after_accept now script h in
       let s2 : Turning = after_reads now script h in
       let s3 : Turning = after_line now line script h in
@@ -337,7 +331,7 @@ module _ (now p : ℕ) (low : p < 8) where
       each-open (read_one now)
       (λ place r s small o. read-if-open (is_up place s) place r s refl small
       o) 0 script.readings s1 (omega (arith, readings)) o1 in
-      let o3 = line-open line s2 process o2 in
+      let o3 = line-open line s2 o2 in
       let o4 =
       settled-open (after_event now Scan s3)
       (stepped-open Scan s3 (λ u. scan-outcome-up None now p s3.server.device ∙ u) o3) in

@@ -7,12 +7,12 @@ use Rattle.std.specs.declared.net.socket_addr.SocketAddrV4.{SocketAddrV4}
 use Rattle.bay_device.specs.Device.{State}
 use Rattle.bay_device.specs.Outcomes.{outcome}
 use Rattle.bay_device.specs.declared.event.Event.TheVariants.{Close, Open, Recv, Scan}
-use Rattle.bay_trace.specs.Placing.{lying, placed_event}
-use Rattle.bay_trace.specs.Trace.{NamedData}
+use Rattle.bay_trace.specs.Placing.{lying}
 use Rattle.bay_serve.specs.Calls.{Call, Closes, ReadOutcome, Octets, Silence, Over, Broken}
 use Rattle.bay_serve.specs.Offers.{Offer}
 use Rattle.bay_serve.specs.Standings.{is_full, is_leaving, is_told}
-use Rattle.bay_serve.specs.Turns.{Held, Noted, Reading, Script, Turning, turn_calls, after_accept, after_each, after_line, after_opening, after_parting, after_reads, after_scan, after_turn_scan, turn_begin, calls_of_each, cut_off, first_full, free_place, hung_up, is_up, offer_calls, offer_end, offer_of, offer_one, on_accept, on_heard, queue_of, read_one, after_settling, settled_in, settled_next, standing_in, standing_of, after_event, taken_in, told_of, with_device, with_line, with_queue, after_turn}
+use Rattle.bay_serve.specs.Turns.{Held, Noted, Reading, Script, Turning, turn_calls, after_accept, after_each, after_line, after_opening, after_parting, after_reads, after_scan, after_turn_scan, turn_begin, calls_of_each, cut_off, first_full, free_place, hung_up, is_up, offer_calls, offer_end, offer_of, offer_one, on_accept, on_heard, queue_of, read_one, after_settling, settled_in, settled_next, standing_in, standing_of, after_event, taken_in, told_of, with_device, with_line, with_queue, after_turn, event_of}
+use Rattle.bay_serve.specs.declared.process.ProcessEvent.{ProcessEvent}
 use Rattle.bay_serve.specs.declared.standing.Standing.TheVariants.{Full, Steady}
 use Rattle.bay_serve.specs.declared.told.Closing.{Closing}
 use Rattle.bay_serve.specs.declared.told.Closing.TheVariants as closing
@@ -120,7 +120,7 @@ module _ (now : ℕ) (final : Noted) where
   -- an event happens, and what did not fit then is dealt with
   then-one : (Rest : State → List ChosenEvent → Type 0) (s t : Turning) (e : ChosenEvent)
       (calls : List Call) (rest : List ChosenEvent)
-      → Part ⊥ now s calls (e ∷ settled_events now t) (after_settling now t)
+      → Part now s calls (e ∷ settled_events now t) (after_settling now t)
       → length t.noted.standings ≡ 8 → Whole (after_settling now t)
       → Rest (after_settling now t).server.device rest
       → Then now final.closed (e ∷ []) Rest s.server.device ((e ∷ settled_events now t) ++ rest)
@@ -152,7 +152,7 @@ module _ (now : ℕ) (final : Noted) where
   then-accept Rest (Some place) (Some None) s rest sized whole h = then-nothing Rest s rest h
   then-accept Rest (Some place) (Some (Some from)) s rest sized whole h =
       then-one Rest s (after_opening now place s) (surely (Open (place + 1))) _ rest
-      (Part-on_accept ⊥ now (Some place) (Some (Some from)) s)
+      (Part-on_accept now (Some place) (Some (Some from)) s)
       (stepped-sized (Open (place + 1)) s sized)
       whole h
 
@@ -165,18 +165,18 @@ module _ (now : ℕ) (final : Noted) where
   then-heard Rest place choice (Octets octets) s rest low sized whole h =
       then-one Rest s (taken_in now place choice octets s)
       (choice, Recv (place + 1) (lying octets)) _ rest
-      (Part-heard ⊥ now place choice (Octets octets) s)
+      (Part-heard now place choice (Octets octets) s)
       (keep-taken Each (Grown s.noted) (grown-kept s.noted) now place choice octets s low tt
       (Grown-refl s.noted sized)).sized whole h
   then-heard Rest place choice Silence s rest low sized whole h = then-nothing Rest s rest h
   then-heard Rest place choice Over s rest low sized whole h =
       then-one Rest s (hung_up now place s) (closing_of place) _ rest
-      (Part-heard ⊥ now place choice Over s)
+      (Part-heard now place choice Over s)
       (keep-hung Each (Grown s.noted) (grown-kept s.noted) now place s low tt
       (Grown-refl s.noted sized)).sized whole h
   then-heard Rest place choice Broken s rest low sized whole h =
       then-one Rest s (cut_off now closing.LinkFailed place s) (closing_of place) _ rest
-      (Part-heard ⊥ now place choice Broken s)
+      (Part-heard now place choice Broken s)
       (keep-cut Each (Grown s.noted) (grown-kept s.noted) now closing.LinkFailed place s
       (λ n g. (grown-kept s.noted).going place closing.LinkFailed n low tt g)
       (Grown-refl s.noted sized)).sized whole h
@@ -230,17 +230,16 @@ module _ (now : ℕ) (final : Noted) where
       (reads-grown (place + 1) rs t (omega arith) here) whole)
       (then-reads Rest (place + 1) rs t rest (omega arith) here whole h))
 
-  then-line : (Rest : State → List ChosenEvent → Type 0) (line : Option NamedData) (s : Turning)
+  then-line : (Rest : State → List ChosenEvent → Type 0) (line : Option ProcessEvent) (s : Turning)
       (rest : List ChosenEvent) → length s.noted.standings ≡ 8 → Whole (with_line now line s)
       → Rest (with_line now line s).server.device rest
-      → Then now final.closed (told_at line s.server.device) Rest s.server.device
+      → Then now final.closed (told_at line) Rest s.server.device
       (line_events now line s ++ rest)
   then-line Rest None s rest sized whole h = then-nothing Rest s rest h
-  then-line Rest (Some named) s rest sized whole h =
-      let event = placed_event s.server.device named in
-      let o = outcome None now event s.server.device in
-      then-one Rest s (told_of now named s) (surely event) _ rest
-      (Part-line ⊥ now (Some named) s (λ q. absurd q))
+  then-line Rest (Some event) s rest sized whole h =
+      let o = outcome None now (event_of event) s.server.device in
+      then-one Rest s (told_of now event s) (surely (event_of event)) _ rest
+      (Part-line now (Some event) s)
       (keep-told Each (Grown s.noted) (grown-kept s.noted) now o.answer (with_device o.after s)
       (Grown-refl s.noted sized)).sized whole h
 
@@ -249,7 +248,7 @@ module _ (now : ℕ) (final : Noted) where
       → Rest (after_turn_scan now s).server.device rest
       → Then now final.closed (surely Scan ∷ []) Rest s.server.device (scan_events now s ++ rest)
   then-scan Rest s rest sized whole h =
-      then-one Rest s (after_event now Scan s) (surely Scan) _ rest (Part-scan ⊥ now s)
+      then-one Rest s (after_event now Scan s) (surely Scan) _ rest (Part-scan now s)
       (stepped-sized Scan s sized) whole h
 
   -- ---- what is offered
@@ -342,7 +341,7 @@ fails-later : (a : ℕ) (xs ys : List Call) → Fails a ys → Fails a (xs ++ ys
 fails-later a xs ys f =
     record { is = some-append (fails_for a) xs ys ∙ or_right _ _ f.is }
 
-pub in-order : (now : ℕ) (line : Option NamedData) (script : Script) (h : Held)
+pub in-order : (now : ℕ) (line : Option ProcessEvent) (script : Script) (h : Held)
     → length script.readings ≡ 8 → length script.offers ≡ 8 → IsInOrder now line script h
 in-order now line script h readings offers =
     let s0 : Turning = turn_begin h in

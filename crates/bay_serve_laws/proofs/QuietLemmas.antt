@@ -12,8 +12,9 @@ use Rattle.bay_device.specs.declared.event.Event.TheVariants.{Open, Recv, Close,
 use Rattle.bay_device.specs.declared.event.Step.{Step}
 use Rattle.bay_device.specs.declared.fault.StepFault.{StepFault}
 use Rattle.bay_device.specs.declared.fault.StepFault.TheVariants.{MomentTooLarge, TimeWentBack}
-use Rattle.bay_trace.specs.Placing.{AreOctets, placed_event}
-use Rattle.bay_trace.specs.Trace.{NamedData, connects, receives, disconnects, contact, input, measure, scan}
+use Rattle.bay_serve.specs.Turns.{event_of}
+use Rattle.bay_serve.specs.declared.process.ProcessEvent.{ProcessEvent}
+use Rattle.bay_serve.specs.declared.process.ProcessEvent.TheVariants as process
 
 -- nothing is sent but what tells of an end, nothing is to be operated, and nothing was closed
 pub record SaysLittle (step : Step) : Type 0 where
@@ -92,12 +93,8 @@ outcome-quiet choice now event s h =
     at_any_moment (λ o. IsQuiet o.answer) choice now event s (λ f. tt)
     (event-quiet choice now event s h)
 
-pub placed-quiet : (s : State) (named : NamedData) → AreOctets named []
-    → IsWithoutOctets (placed_event s named)
-placed-quiet s (connects a) h = tt
-placed-quiet s (receives a octets) h = sym h
-placed-quiet s (disconnects a) h = tt
-placed-quiet s (contact id position) h = tt
-placed-quiet s (input name value) h = tt
-placed-quiet s (measure id field value) h = tt
-placed-quiet s scan h = tt
+-- what happens to the process has no octets
+pub process-quiet : (event : ProcessEvent) → IsWithoutOctets (event_of event)
+process-quiet (process.Contact k position) = tt
+process-quiet (process.Input k value) = tt
+process-quiet (process.Measure k field value) = tt

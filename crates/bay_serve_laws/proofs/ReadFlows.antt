@@ -8,22 +8,23 @@ use Rattle.bay_device.specs.Device.{State}
 use Rattle.bay_device.specs.Outcomes.{last_moment, outcome}
 use Rattle.bay_device.specs.Steps.{IsWithoutOctets}
 use Rattle.bay_device.specs.declared.event.Event.{Event}
-use Rattle.bay_device.specs.declared.event.Event.TheVariants.{Open, Recv, Close, Scan}
+use Rattle.bay_device.specs.declared.event.Event.TheVariants.{Open, Recv, Close, Contact, Input, Measure, Scan}
 use Rattle.bay_device.specs.declared.event.Step.{Step}
 use Rattle.bay_device.specs.declared.event.Why.{Why}
 use Rattle.bay_device.specs.declared.event.Why.TheVariants.{Ended}
 use Rattle.bay_device.specs.declared.fault.StepFault.{StepFault}
-use Rattle.bay_trace.specs.Placing.{lying, placed_event}
-use Rattle.bay_trace.specs.Trace.{NamedData, connects, receives, disconnects, contact, input, measure, scan, process_event}
+use Rattle.bay_trace.specs.Placing.{lying}
 use Rattle.bay_serve.specs.Calls.{Call, Accepts, Reads, Closes, ReadOutcome, Octets, Silence, Over, Broken}
 use Rattle.bay_serve.specs.Standings.{is_full}
-use Rattle.bay_serve.specs.Turns.{Held, Noted, Reading, Turning, accept_calls, accept_calls_at, with_accept, turn_begin, cut_off, decides, free_place, heard_calls, hung_up, is_up, leaves, left_by, line_calls, with_line, on_accept, on_heard, after_opening, put_all, put_answer, put_ended, queue_at, queue_of, read_calls, read_one, scan_calls, after_turn_scan, after_settling, settling, standing_of, after_event, taken_in, told_after, told_of, told_why, with_device, with_noted}
+use Rattle.bay_serve.specs.Turns.{Held, Noted, Reading, Turning, accept_calls, accept_calls_at, with_accept, turn_begin, cut_off, decides, free_place, heard_calls, hung_up, is_up, leaves, left_by, line_calls, with_line, on_accept, on_heard, after_opening, put_all, put_answer, put_ended, queue_at, queue_of, read_calls, read_one, scan_calls, after_turn_scan, after_settling, settling, standing_of, after_event, taken_in, told_after, told_of, told_why, with_device, with_noted, event_of}
+use Rattle.bay_serve.specs.declared.process.ProcessEvent.{ProcessEvent}
+use Rattle.bay_serve.specs.declared.process.ProcessEvent.TheVariants as process
 use Rattle.bay_serve.specs.declared.standing.Standing.{Standing}
 use Rattle.bay_serve.specs.declared.standing.Standing.TheVariants.{Steady, Full, Leaving, LeavingFull, Gone}
 use Rattle.bay_serve.specs.declared.told.Closing.TheVariants as closing
 use Rattle.bay_serve_laws.specs.Causes.{is_queue_full, tells}
 use Rattle.bay_serve_laws.specs.Events.{accept_events, accept_events_at, closing_of, heard_events, line_events, read_events, scan_events, settled_events, surely}
-use Rattle.bay_serve_laws.specs.Flows.{IsOfProcess, IsTidy, all_to, answer_to, end_to, taken_of}
+use Rattle.bay_serve_laws.specs.Flows.{IsTidy, all_to, answer_to, end_to, taken_of}
 use Rattle.bay_serve_laws.proofs.CarryLemmas.{Carried, Carried-sent, Carries, Carries-as, IsSound, MayLose, device-carried, other-standing, put_all-carried, put_ended-carried, put_quiet-carried, put_told-carried}
 use Rattle.bay_serve_laws.proofs.CutLemmas.{Well, calm-moves, cut-moves, noted-carried, settled-moves, then-moves}
 use Rattle.bay_serve_laws.proofs.MoveLemmas.{Moves, Moves-none, Moves-one, Moves-trans}
@@ -380,33 +381,27 @@ module _ (now p : ℕ) (held : List ℕ) (h : p < 8) (past : now ≤ last_moment
 
   -- ---- the line and the scan
 
-  line_of-moves : (named : NamedData) (s : Turning) → process_event named ≡ Some named
-      → Moves (Carried now p held) (Carried now p held) now p s []
-      (surely (placed_event s.server.device named) ∷ []) (told_of now named s)
-  line_of-moves (connects a) s e = absurd (cc)
-  line_of-moves (receives a octets) s e = absurd (cc)
-  line_of-moves (disconnects a) s e = absurd (cc)
-  line_of-moves (contact id position) s e =
-      told-moves (placed_event s.server.device (contact id position)) s tt
-      (contact-outcome-up None now p _ position s.server.device)
-  line_of-moves (input name value) s e =
-      told-moves (placed_event s.server.device (input name value)) s tt
-      (input-outcome-up None now p _ value s.server.device)
-  line_of-moves (measure id field value) s e =
-      told-moves (placed_event s.server.device (measure id field value)) s tt
-      (measure-outcome-up None now p _ field value s.server.device)
-  line_of-moves scan s e = absurd (cc)
+  process-moves : (event : ProcessEvent) (s : Turning)
+      → Moves (Carried now p held) (Carried now p held) now p s [] (surely (event_of event) ∷ [])
+      (told_of now event s)
+  process-moves (process.Contact k position) s =
+      told-moves (Contact k position) s tt
+      (contact-outcome-up None now p k position s.server.device)
+  process-moves (process.Input k value) s =
+      told-moves (Input k value) s tt (input-outcome-up None now p k value s.server.device)
+  process-moves (process.Measure k field value) s =
+      told-moves (Measure k field value) s tt
+      (measure-outcome-up None now p k field value s.server.device)
 
-  pub line-moves : (line : Option NamedData) (s : Turning) → IsOfProcess line
+  pub line-moves : (line : Option ProcessEvent) (s : Turning)
       → Moves (Well now p held) (Well now p held) now p s (line_calls now line s)
       (line_events now line s) (with_line now line s)
-  line-moves None s e =
+  line-moves None s =
       Moves-none (Well now p held) (Well now p held) now p s s [] refl refl (λ taken sent w. w)
-  line-moves (Some named) s e =
-      let t : Turning = told_of now named s in
-      let event = placed_event s.server.device named in
-      then-moves now p held h past s t [] (surely event)
-      (calm-moves now p held h past s t [] (surely event ∷ []) (line_of-moves named s e))
+  line-moves (Some event) s =
+      let t : Turning = told_of now event s in
+      then-moves now p held h past s t [] (surely (event_of event))
+      (calm-moves now p held h past s t [] (surely (event_of event) ∷ []) (process-moves event s))
 
   pub scan-moves : (s : Turning)
       → Moves (Well now p held) (Well now p held) now p s (scan_calls now s) (scan_events now s)

@@ -14,12 +14,12 @@ use Rattle.bay_device.specs.declared.event.Sent.{Sent}
 use Rattle.bay_device.specs.declared.event.Step.{Step}
 use Rattle.bay_device.specs.declared.event.Why.TheVariants.{Ended}
 use Rattle.bay_device.specs.declared.fault.StepFault.{StepFault}
-use Rattle.bay_trace.specs.Placing.{lying, placed_event}
-use Rattle.bay_trace.specs.Trace.{NamedData}
+use Rattle.bay_trace.specs.Placing.{lying}
 use Rattle.bay_serve.specs.Calls.{ReadOutcome, Octets, Silence, Over, Broken}
 use Rattle.bay_serve.specs.Offers.{Offer, Offered, offering_of}
 use Rattle.bay_serve.specs.Standings.{after_full, is_leaving, takes_replies}
-use Rattle.bay_serve.specs.Turns.{Held, Reading, Script, Turning, after_accept, after_each, after_line, after_offer, after_reads, after_scan, turn_begin, cut_off, first_full, free_place, has_room, hung_up, is_up, leaves, left_by, with_line, offer_of, offer_one, on_accept, on_heard, after_opening, after_parting, put_all, put_answer, put_at, put_ended, put_quiet, put_sent, put_told, put_whole, queue_at, queue_of, read_one, after_turn_scan, after_settling, settled_in, settled_next, standing_of, stands, after_event, taken_in, told_of, after_turn, with_device, with_noted, with_queue}
+use Rattle.bay_serve.specs.Turns.{Held, Reading, Script, Turning, after_accept, after_each, after_line, after_offer, after_reads, after_scan, turn_begin, cut_off, first_full, free_place, has_room, hung_up, is_up, leaves, left_by, with_line, offer_of, offer_one, on_accept, on_heard, after_opening, after_parting, put_all, put_answer, put_at, put_ended, put_quiet, put_sent, put_told, put_whole, queue_at, queue_of, read_one, after_turn_scan, after_settling, settled_in, settled_next, standing_of, stands, after_event, taken_in, told_of, after_turn, with_device, with_noted, with_queue, event_of}
+use Rattle.bay_serve.specs.declared.process.ProcessEvent.{ProcessEvent}
 use Rattle.bay_serve.specs.declared.told.Closing.{Closing}
 use Rattle.bay_serve.specs.declared.told.Closing.TheVariants as closing
 use Rattle.bay_serve_laws.specs.Flows.{IsTidy}
@@ -176,11 +176,11 @@ module _ (now : ℕ) where
   holds-told (Err fault) s p = p
   holds-told (Ok step) s p = holds-ended step.ended s p
 
-  holds-line : (line : Option NamedData) (s : Turning) → Holds s → Holds (with_line now line s)
+  holds-line : (line : Option ProcessEvent) (s : Turning) → Holds s → Holds (with_line now line s)
   holds-line None s p = p
-  holds-line (Some named) s p =
-      let o = outcome None now (placed_event s.server.device named) s.server.device in
-      holds-settled (told_of now named s) (holds-told o.answer (with_device o.after s) p)
+  holds-line (Some event) s p =
+      let o = outcome None now (event_of event) s.server.device in
+      holds-settled (told_of now event s) (holds-told o.answer (with_device o.after s) p)
 
   holds-scan : (s : Turning) → Holds s → Holds (after_turn_scan now s)
   holds-scan s p = holds-settled (after_event now Scan s) (holds-stepped Scan s p)
@@ -208,7 +208,7 @@ module _ (now : ℕ) where
   holds-each f step place (c ∷ cs) s p =
       holds-each f step (place + 1) cs (f place c s) (step place c s p)
 
-  pub holds-turn : (line : Option NamedData) (script : Script) (h : Held) → AreInRoom h
+  pub holds-turn : (line : Option ProcessEvent) (script : Script) (h : Held) → AreInRoom h
       → AreInRoom (after_turn now line script h).server
   holds-turn line script h p =
       let s1 : Turning = after_accept now script h in

@@ -1,14 +1,14 @@
 -- The octets of one association through a whole turn.
 use Rattle.std.proofs.Common.{◌≡◌, ℕ, ◌+◌, ◌<◌, ◌≤◌, Bool, true, false, List, [], ◌∷◌, ◌++◌, length, Option, refl, ap, sym, ◌∙◌, arith, append-nil, ◌⊎◌, inl, inr}
 use Rattle.bay_device.specs.Outcomes.{last_moment}
-use Rattle.bay_trace.specs.Trace.{NamedData}
 use Rattle.bay_serve.specs.Calls.{Call}
 use Rattle.bay_serve.specs.Standings.{is_full, is_leaving}
 use Rattle.bay_serve.specs.Turns.{Held, Script, Turning, after_accept, after_each, after_line, after_reads, after_scan, turn_begin, calls_of_each, is_up, offer_calls, offer_one, queue_at, queue_of, read_calls, read_one, standing_of, turn_calls, after_turn}
+use Rattle.bay_serve.specs.declared.process.ProcessEvent.{ProcessEvent}
 use Rattle.bay_serve.specs.declared.standing.Standing.{Standing}
 use Rattle.bay_serve.specs.declared.standing.Standing.TheVariants.{Steady, Full, Leaving, LeavingFull, Gone}
 use Rattle.bay_serve_laws.specs.Events.{ChosenEvent, done_at, events_of_each, offer_events, read_events, turn_events}
-use Rattle.bay_serve_laws.specs.Flows.{IsInTime, IsOfProcess, IsTidy, LosesNothing, sent_to, taken_of}
+use Rattle.bay_serve_laws.specs.Flows.{IsInTime, IsTidy, LosesNothing, sent_to, taken_of}
 use Rattle.bay_serve_laws.proofs.CarryLemmas.{MayLose, longer-behind}
 use Rattle.bay_serve_laws.proofs.CutLemmas.{Well}
 use Rattle.bay_serve_laws.proofs.MoveLemmas.{Moves, Moves-none, Moves-trans}
@@ -30,11 +30,11 @@ each-moves P now p f calls events step i (c ∷ cs) s =
     (calls_of_each f calls (i + 1) cs t) (events i c s) (events_of_each f events (i + 1) cs t)
     (step i c s) (each-moves P now p f calls events step (i + 1) cs t)
 
-turn-moves : (now p : ℕ) (held : List ℕ) (line : Option NamedData) (script : Script) (h : Held)
-    → p < 8 → now ≤ last_moment → IsOfProcess line
+turn-moves : (now p : ℕ) (held : List ℕ) (line : Option ProcessEvent) (script : Script) (h : Held)
+    → p < 8 → now ≤ last_moment
     → Moves (Fresh now p held) (Well now p held) now p (turn_begin h) (turn_calls now line script h)
     (turn_events now line script h) (after_turn now line script h)
-turn-moves now p held line script h low past told =
+turn-moves now p held line script h low past =
     let s0 : Turning = turn_begin h in
     let s1 : Turning = after_accept now script h in
     let s2 : Turning = after_reads now script h in
@@ -51,7 +51,7 @@ turn-moves now p held line script h low past told =
     (accept-moves now p held low past script.accepted s0) reads in
     let to3 =
     Moves-trans (Fresh now p held) (Well now p held) (Well now p held) now p s0 s2 s3 _ _ _ _
-    to2 (line-moves now p held low past line s2 told) in
+    to2 (line-moves now p held low past line s2) in
     let to4 =
     Moves-trans (Fresh now p held) (Well now p held) (Well now p held) now p s0 s3 s4 _ _ _ _
     to3 (scan-moves now p held low past s3) in
@@ -76,16 +76,15 @@ empty-at Leaving u q lost m e f g = absurd (cc)
 empty-at LeavingFull u q lost m e f g = absurd (cc)
 empty-at Gone u q lost m e f g = m.0
 
-pub loses-nothing : (now : ℕ) (line : Option NamedData) (script : Script) (h : Held) → IsTidy h
-    → IsInTime now h → IsOfProcess line → length script.offers ≡ 8
-    → LosesNothing now line script h
-loses-nothing now line script h tidy time told offers =
+pub loses-nothing : (now : ℕ) (line : Option ProcessEvent) (script : Script) (h : Held) → IsTidy h
+    → IsInTime now h → length script.offers ≡ 8 → LosesNothing now line script h
+loses-nothing now line script h tidy time offers =
     let t : Turning = after_turn now line script h in
     let taken = λ (p : ℕ). taken_of (p + 1) (turn_calls now line script h) in
     let sent =
     λ (p : ℕ). sent_to (p + 1) (done_at now (turn_events now line script h) h.device).answers in
     let well : (p : ℕ) → p < 8 → Well now p (queue_at p h) (taken p) (sent p) t = λ p low.
-    (turn-moves now p (queue_at p h) line script h low time.not_past told).goes [] []
+    (turn-moves now p (queue_at p h) line script h low time.not_past).goes [] []
     (begun-fresh now p h low tidy time.not_before) in
     let left : (p : ℕ) → p < 8
     → is_leaving (standing_of p t) ≡ false =

@@ -1,6 +1,6 @@
 -- The events that a turn does on the device, in their order, each with its choice; and what they
 -- come to.
-use Rattle.std.specs.Prelude.{◌≡◌, ℕ, zero, suc, ◌+◌, Bool, if◌then◌else◌, List, [], ◌∷◌, ◌++◌, Option, Some, None, IfSome, Result, Ok, Err}
+use Rattle.std.specs.Prelude.{◌≡◌, ℕ, zero, suc, ◌+◌, Bool, if◌then◌else◌, List, [], ◌∷◌, ◌++◌, Option, Some, None, Result, Ok, Err}
 use Rattle.std.specs.declared.net.socket_addr.SocketAddrV4.{SocketAddrV4}
 use Rattle.bay_services.specs.declared.answer.Command.{Command}
 use Rattle.bay_device.specs.Device.{State}
@@ -9,12 +9,12 @@ use Rattle.bay_device.specs.declared.event.Event.{Event}
 use Rattle.bay_device.specs.declared.event.Event.TheVariants.{Open, Recv, Close, Scan}
 use Rattle.bay_device.specs.declared.event.Step.{Step}
 use Rattle.bay_device.specs.declared.fault.StepFault.{StepFault}
-use Rattle.bay_trace.specs.Placing.{AreOctets, lying, placed_event}
-use Rattle.bay_trace.specs.Trace.{NamedData}
+use Rattle.bay_trace.specs.Placing.{lying}
 use Rattle.bay_serve.specs.Calls.{ReadOutcome, Octets, Silence, Over, Broken}
 use Rattle.bay_serve.specs.Offers.{Offer}
 use Rattle.bay_serve.specs.Standings.{is_leaving}
-use Rattle.bay_serve.specs.Turns.{Held, Reading, Script, Turning, after_accept, after_line, after_reads, after_scan, turn_begin, cut_off, first_full, free_place, hung_up, is_up, offer_of, offer_one, after_opening, read_one, standing_of, after_event, taken_in, told_of, after_turn}
+use Rattle.bay_serve.specs.Turns.{Held, Reading, Script, Turning, after_accept, after_line, after_reads, after_scan, turn_begin, cut_off, first_full, free_place, hung_up, is_up, offer_of, offer_one, after_opening, read_one, standing_of, after_event, event_of, taken_in, told_of, after_turn}
+use Rattle.bay_serve.specs.declared.process.ProcessEvent.{ProcessEvent}
 use Rattle.bay_serve.specs.declared.told.Closing.TheVariants as closing
 
 -- an event with its choice: behind how many things that its octets come to memory was refused, if
@@ -71,11 +71,11 @@ heard_events now place choice Broken s =
 abbrev pub read_events : ℕ → ℕ → Reading → Turning → List ChosenEvent
 read_events now place r s = if is_up place s then heard_events now place r.choice r.heard s else []
 
--- what the line tells of happens
-abbrev pub line_events : ℕ → Option NamedData → Turning → List ChosenEvent
+-- what happens to the process happens to the device
+abbrev pub line_events : ℕ → Option ProcessEvent → Turning → List ChosenEvent
 line_events now None s = []
-line_events now (Some named) s =
-    surely (placed_event s.server.device named) ∷ settled_events now (told_of now named s)
+line_events now (Some event) s =
+    surely (event_of event) ∷ settled_events now (told_of now event s)
 
 -- the program runs once
 abbrev pub scan_events : ℕ → Turning → List ChosenEvent
@@ -101,7 +101,7 @@ events_of_each f events place (c ∷ cs) s =
     events place c s ++ events_of_each f events (place + 1) cs (f place c s)
 
 -- the events of a turn, in their order
-abbrev pub turn_events : ℕ → Option NamedData → Script → Held → List ChosenEvent
+abbrev pub turn_events : ℕ → Option ProcessEvent → Script → Held → List ChosenEvent
 turn_events now line script h =
     accept_events now script.accepted (turn_begin h)
     ++ events_of_each (read_one now) (read_events now) 0 script.readings (after_accept now script h)
@@ -133,16 +133,11 @@ abbrev pub commands_of : List (Result Step StepFault) → List Command
 commands_of [] = []
 commands_of (answer ∷ answers) = commands_in answer ++ commands_of answers
 
--- what the line of a turn tells of has no octets of a client
-abbrev pub HasNoOctets : Option NamedData → Type 0
-HasNoOctets line = IfSome line (λ named. AreOctets named [])
-
 -- The device after a turn is that of the turn's events, and the commands that are told are those of
 -- their answers.
-pub record IsItsEvents (now : ℕ) (line : Option NamedData) (script : Script) (h : Held)
+pub record IsItsEvents (now : ℕ) (line : Option ProcessEvent) (script : Script) (h : Held)
     : Type 0 where
   pub device : (after_turn now line script h).server.device
       ≡ (done_at now (turn_events now line script h) h.device).after
-  pub commands : HasNoOctets line
-      → (after_turn now line script h).noted.commands
+  pub commands : (after_turn now line script h).noted.commands
       ≡ commands_of (done_at now (turn_events now line script h) h.device).answers

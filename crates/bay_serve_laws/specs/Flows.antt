@@ -1,14 +1,14 @@
 -- The octets of one association through a turn.
-use Rattle.std.specs.Prelude.{◌≡◌, ℕ, ◌+◌, ◌<◌, ◌≤◌, ◌==◌, Bool, true, false, if◌then◌else◌, List, [], ◌∷◌, ◌++◌, length, take, Option, Some, None, IfSome, Result, Ok, Err, ◌⊎◌}
+use Rattle.std.specs.Prelude.{◌≡◌, ℕ, ◌+◌, ◌<◌, ◌≤◌, ◌==◌, Bool, true, false, if◌then◌else◌, List, [], ◌∷◌, ◌++◌, length, take, Option, Some, None, Result, Ok, Err, ◌⊎◌}
 use Rattle.bay_device.specs.Outcomes.{last_moment}
 use Rattle.bay_device.specs.declared.event.Event.{Event}
 use Rattle.bay_device.specs.declared.event.Event.TheVariants.{Open, Recv, Close, Contact, Input, Measure, Scan}
 use Rattle.bay_device.specs.declared.event.Sent.{Sent}
 use Rattle.bay_device.specs.declared.event.Step.{Step}
 use Rattle.bay_device.specs.declared.fault.StepFault.{StepFault}
-use Rattle.bay_trace.specs.Trace.{NamedData, process_event}
 use Rattle.bay_serve.specs.Calls.{Call, Accepts, Reads, Writes, Closes, ReadOutcome, Octets, Silence, Over, Broken}
 use Rattle.bay_serve.specs.Turns.{Held, Script, is_up_in, queue_at, turn_calls, after_turn}
+use Rattle.bay_serve.specs.declared.process.ProcessEvent.{ProcessEvent}
 use Rattle.bay_serve_laws.specs.Causes.{is_queue_full, tells}
 use Rattle.bay_serve_laws.specs.Events.{ChosenEvent, done_at, turn_events}
 
@@ -95,10 +95,6 @@ pub record IsTidy (h : Held) : Type 0 where
   pub sized : length h.queues ≡ 8
   pub empty : (place : ℕ) → place < 8 → is_up_in place h ≡ false → queue_at place h ≡ []
 
--- what the line of a turn tells of happens to a switch, an input or a meter
-abbrev pub IsOfProcess : Option NamedData → Type 0
-IsOfProcess line = IfSome line (λ named. process_event named ≡ Some named)
-
 -- the moment is one that the device does not refuse
 pub record IsInTime (now : ℕ) (h : Held) : Type 0 where
   pub not_before : h.device.moment ≤ now
@@ -111,7 +107,7 @@ pub record Flows (taken held sent holds : List ℕ) (up : Bool) : Type 0 where
   pub is : taken ++ rest ≡ held ++ sent
   pub kept : (holds ≡ rest) ⊎ ((holds ≡ []) × (up ≡ false))
 
-abbrev pub FlowsAt : ℕ → Option NamedData → Script → Held → ℕ → Type 0
+abbrev pub FlowsAt : ℕ → Option ProcessEvent → Script → Held → ℕ → Type 0
 FlowsAt now line script h place =
     Flows (taken_of (place + 1) (turn_calls now line script h)) (queue_at place h)
     (sent_to (place + 1) (done_at now (turn_events now line script h) h.device).answers)
@@ -120,7 +116,7 @@ FlowsAt now line script h place =
 
 -- So it is for each association, and the server is tidy again; where it is told that a queue was
 -- full, the link left more of its octets than there is room for.
-pub record LosesNothing (now : ℕ) (line : Option NamedData) (script : Script) (h : Held)
+pub record LosesNothing (now : ℕ) (line : Option ProcessEvent) (script : Script) (h : Held)
     : Type 0 where
   pub flows : (place : ℕ) → place < 8 → FlowsAt now line script h place
   pub full : (place : ℕ) (low : place < 8)

@@ -2,8 +2,8 @@
 use Rattle.std.specs.Prelude.{◌≡◌, ℕ, ◌+◌, ◌<◌, ◌↔◌, ◌⊎◌, Bool, true, false, List, [], length, Option, Some}
 use Rattle.std.specs.declared.net.socket_addr.SocketAddrV4.{SocketAddrV4}
 use Rattle.bay_device.specs.declared.event.Why.{Why}
-use Rattle.bay_trace.specs.Trace.{NamedData}
 use Rattle.bay_serve.specs.Turns.{Held, Script, free_place, is_up_in, queue_at, turn_calls, after_turn}
+use Rattle.bay_serve.specs.declared.process.ProcessEvent.{ProcessEvent}
 use Rattle.bay_serve_laws.specs.Causes.{ends_for, fails_for, has_some, is_queue_full, reasons_of, tells}
 use Rattle.bay_serve_laws.specs.Events.{done_at, turn_events}
 use Rattle.bay_serve_laws.specs.Flows.{sent_to, taken_of}
@@ -25,7 +25,7 @@ IsOpenIn place script h =
     × (from : SocketAddrV4) × (script.accepted ≡ Some (Some from)))
 
 -- So it is of one of the associations in a turn, exactly where that is told.
-abbrev pub IsToldWhereFull : ℕ → Option NamedData → Script → Held → ℕ → Type 0
+abbrev pub IsToldWhereFull : ℕ → Option ProcessEvent → Script → Held → ℕ → Type 0
 IsToldWhereFull now line script h place =
     (tells is_queue_full (place + 1) (after_turn now line script h).noted.closed ≡ true)
     ↔ HasNoRoom (taken_of (place + 1) (turn_calls now line script h)) (queue_at place h)

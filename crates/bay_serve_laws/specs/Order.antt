@@ -5,10 +5,10 @@ use Rattle.std.specs.declared.net.socket_addr.SocketAddrV4.{SocketAddrV4}
 use Rattle.bay_device.specs.Device.{State}
 use Rattle.bay_device.specs.Outcomes.{connection_at}
 use Rattle.bay_device.specs.declared.event.Event.TheVariants.{Open, Recv, Close, Scan}
-use Rattle.bay_trace.specs.Placing.{lying, placed_event}
-use Rattle.bay_trace.specs.Trace.{NamedData}
+use Rattle.bay_trace.specs.Placing.{lying}
 use Rattle.bay_serve.specs.Calls.{ReadOutcome, Octets, Silence, Over, Broken}
-use Rattle.bay_serve.specs.Turns.{Held, Reading, Script, after_turn, turn_calls}
+use Rattle.bay_serve.specs.Turns.{Held, Reading, Script, after_turn, event_of, turn_calls}
+use Rattle.bay_serve.specs.declared.process.ProcessEvent.{ProcessEvent}
 use Rattle.bay_serve.specs.declared.told.Closing.{Closing}
 use Rattle.bay_serve_laws.specs.Causes.{fails_for, has_some, is_queue_full, tells}
 use Rattle.bay_serve_laws.specs.Events.{ChosenEvent, done_at, surely, turn_events}
@@ -37,10 +37,10 @@ abbrev pub read_at : ℕ → Reading → State → List ChosenEvent
 read_at place r d =
     if is_some (connection_at (Some place) d) then brought (place + 1) r.choice r.heard else []
 
--- What the line tells of happens, if there is a line.
-abbrev pub told_at : Option NamedData → State → List ChosenEvent
-told_at None d = []
-told_at (Some named) d = surely (placed_event d named) ∷ []
+-- What happens to the process, if anything does.
+abbrev pub told_at : Option ProcessEvent → List ChosenEvent
+told_at None = []
+told_at (Some event) = surely (event_of event) ∷ []
 
 -- ---- the order
 
@@ -72,18 +72,18 @@ module _ (now : ℕ) (told : List (ℕ × Closing)) where
 
   -- A connection is opened, each association is read, the line is told, the program runs once, and
   -- then associations are closed at most, for a reason.
-  abbrev pub AreInOrder : (ℕ → Bool) → Option NamedData → Script → State → List ChosenEvent
+  abbrev pub AreInOrder : (ℕ → Bool) → Option ProcessEvent → Script → State → List ChosenEvent
       → Type 0
   AreInOrder has_reason line script d events =
       Then (opened script.accepted d) (ThenReads 0 script.readings
-      (λ e. Then (told_at line e) (Then (surely Scan ∷ []) (λ f rest. AreClosings has_reason rest))
+      (λ e. Then (told_at line) (Then (surely Scan ∷ []) (λ f rest. AreClosings has_reason rest))
       e))
       d
       events
 
 -- So are the events of a turn. At its end an association is closed whose queue was full, or for
 -- which a call on the link failed.
-abbrev pub IsInOrder : ℕ → Option NamedData → Script → Held → Type 0
+abbrev pub IsInOrder : ℕ → Option ProcessEvent → Script → Held → Type 0
 IsInOrder now line script h =
     let told = (after_turn now line script h).noted.closed in
     AreInOrder now told

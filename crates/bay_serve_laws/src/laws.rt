@@ -1,15 +1,15 @@
 // Laws of a turn. Each function does nothing, and its contract is the law.
 ghost use Rattle.std.specs.Prelude.{◌≡◌, ℕ, ◌+◌, ◌-◌, ◌^◌, ◌<◌, ◌≤◌, [], true, List, Option, length, replicate};
 ghost use Rattle.bay_device.specs.Device.{State};
-ghost use Rattle.bay_trace.specs.Trace.{NamedData};
 ghost use Rattle.bay_serve.specs.Calls.{Called};
-ghost use Rattle.bay_serve.specs.Served.{Serves, line_in};
+ghost use Rattle.bay_serve.specs.Served.{Serves};
 ghost use Rattle.bay_serve.specs.Turns.{Held, Script, after_turn, turn_calls};
+ghost use Rattle.bay_serve.specs.declared.process.ProcessEvent.{ProcessEvent};
 ghost use Rattle.bay_serve.specs.declared.told.Turn.{Turn};
 ghost use Rattle.bay_serve_laws.specs.Causes.{HasItsCause};
-ghost use Rattle.bay_serve_laws.specs.Events.{HasNoOctets, IsItsEvents, turn_events};
+ghost use Rattle.bay_serve_laws.specs.Events.{IsItsEvents, turn_events};
 ghost use Rattle.bay_serve_laws.specs.Faults.{tells_failure};
-ghost use Rattle.bay_serve_laws.specs.Flows.{IsInTime, IsOfProcess, IsTidy, LosesNothing, given_of, received_of};
+ghost use Rattle.bay_serve_laws.specs.Flows.{IsInTime, IsTidy, LosesNothing, given_of, received_of};
 ghost use Rattle.bay_serve_laws.specs.Fullness.{IsOpenIn, IsToldWhereFull};
 ghost use Rattle.bay_serve_laws.specs.Order.{IsInOrder};
 ghost use Rattle.bay_serve_laws.specs.Room.{AreInRoom};
@@ -20,7 +20,7 @@ use bay_serve::link::Link;
 /// A failed connection of an association is reported only if a call of the link failed: the link's
 /// count of failures rises in such a turn.
 pub fn a_told_failure_is_counted<L: Link>(_link: &L)
-    ensures { (old new : L) (now : ℕ) (line : Option NamedData) (before after : Held) (turn : Turn)
+    ensures { (old new : L) (now : ℕ) (line : Option ProcessEvent) (before after : Held) (turn : Turn)
         →
         Serves (Called L.does L.failures) old new now line before after turn
         → tells_failure turn.closed ≡ true →
@@ -30,7 +30,7 @@ pub fn a_told_failure_is_counted<L: Link>(_link: &L)
 /// The closing of an association is reported at most once in a turn: with its reason, or as out of
 /// memory.
 pub fn an_association_is_told_once<L: Link>(_link: &L)
-    ensures { (old new : L) (now : ℕ) (line : Option NamedData) (before after : Held) (turn : Turn)
+    ensures { (old new : L) (now : ℕ) (line : Option ProcessEvent) (before after : Held) (turn : Turn)
         (place : ℕ) →
         Serves (Called L.does L.failures) old new now line before after turn
         → times_told (place + 1) turn.closed turn.memory ≤ 1 }
@@ -43,26 +43,23 @@ pub fn an_association_is_told_once<L: Link>(_link: &L)
 /// of it failed and neither its client nor the device had closed it. A full queue is reported only
 /// if nothing else closed it.
 pub fn each_closing_has_its_cause()
-    ensures { (now : ℕ) (line : Option NamedData) (script : Script) (h : Held) → IsTidy h
-        → IsInTime now h → IsOfProcess line → length script.readings ≡ 8
-        → length script.offers ≡ 8 → (place : ℕ) → place < 8
-        → HasItsCause now line script h (place + 1) }
+    ensures { (now : ℕ) (line : Option ProcessEvent) (script : Script) (h : Held) → IsTidy h
+        → IsInTime now h → length script.readings ≡ 8 → length script.offers ≡ 8 → (place : ℕ)
+        → place < 8 → HasItsCause now line script h (place + 1) }
 {}
 
 /// The device after a turn is the device before it with the turn's events applied, each at the
 /// turn's time, and the commands that the turn reports are those of the events' answers, in order.
 /// The events are, in this order: if a connection was accepted, the lowest free association is
 /// opened; for each association that is open when it comes, what its one read brought (its octets
-/// arrive, or it is closed, or nothing); the event of the line, if there is one; and exactly one
+/// arrive, or it is closed, or nothing); the event of the process, if there is one; and exactly one
 /// scan. Behind each of these, the associations to which a reply did not fit are closed; behind the
 /// scan also those for which a call failed. There is no other event.
 pub fn a_turn_is_its_events()
-    ensures events { (now : ℕ) (line : Option NamedData) (script : Script) (h : Held)
+    ensures events { (now : ℕ) (line : Option ProcessEvent) (script : Script) (h : Held)
         → IsItsEvents now line script h }
-    ensures order { (now : ℕ) (line : Option NamedData) (script : Script) (h : Held)
+    ensures order { (now : ℕ) (line : Option ProcessEvent) (script : Script) (h : Held)
         → length script.readings ≡ 8 → length script.offers ≡ 8 → IsInOrder now line script h }
-    // The line of a turn that is done has no octets.
-    ensures lines { (text : Option (List ℕ)) → HasNoOctets (line_in text) }
 {}
 
 /// What the link takes for an association in a turn, followed by what its queue then holds, is what
@@ -71,14 +68,11 @@ pub fn a_turn_is_its_events()
 /// full queue is reported, more than 262,144 octets were left. What the link gives of an association
 /// in a turn is what the device receives from it in the turn.
 pub fn octets_are_neither_lost_nor_repeated()
-    ensures octets { (now : ℕ) (line : Option NamedData) (script : Script) (h : Held) → IsTidy h
-        → IsInTime now h → IsOfProcess line →
-        length script.offers ≡ 8 → LosesNothing now line script h }
-    ensures received { (now : ℕ) (line : Option NamedData) (script : Script) (h : Held)
-        → HasNoOctets line → (a : ℕ) → given_of a (turn_calls now line script h)
+    ensures octets { (now : ℕ) (line : Option ProcessEvent) (script : Script) (h : Held) → IsTidy h
+        → IsInTime now h → length script.offers ≡ 8 → LosesNothing now line script h }
+    ensures received { (now : ℕ) (line : Option ProcessEvent) (script : Script) (h : Held)
+        → (a : ℕ) → given_of a (turn_calls now line script h)
         ≡ received_of a (turn_events now line script h) }
-    // The line of a turn that is done is such a line.
-    ensures lines { (text : Option (List ℕ)) → IsOfProcess (line_in text) }
     // A server is tidy as it is made, and so after each turn.
     ensures begins { (device : State)
         → IsTidy (record { device = device; queues = replicate 8 [] }) }
@@ -89,7 +83,7 @@ pub fn octets_are_neither_lost_nor_repeated()
 pub fn queues_stay_in_their_room()
     ensures begins { (device : State)
         → AreInRoom (record { device = device; queues = replicate 8 [] }) }
-    ensures stays { (now : ℕ) (line : Option NamedData) (script : Script) (h : Held) → AreInRoom h
+    ensures stays { (now : ℕ) (line : Option ProcessEvent) (script : Script) (h : Held) → AreInRoom h
         → AreInRoom (after_turn now line script h).server }
 {}
 
@@ -98,8 +92,8 @@ pub fn queues_stay_in_their_room()
 /// reported exactly if the link left more than 262,144 octets of what its queue held and what was
 /// sent to it, no call for it failed, its client did not end, and the device did not close it.
 pub fn a_full_queue_is_told()
-    ensures { (now : ℕ) (line : Option NamedData) (script : Script) (h : Held) → IsTidy h
-        → IsInTime now h → IsOfProcess line → AreInRoom h → length script.readings ≡ 8
+    ensures { (now : ℕ) (line : Option ProcessEvent) (script : Script) (h : Held) → IsTidy h
+        → IsInTime now h → AreInRoom h → length script.readings ≡ 8
         → length script.offers ≡ 8 → (place : ℕ) → place < 8 → IsOpenIn place script h
         → IsToldWhereFull now line script h place }
 {}

@@ -10,7 +10,7 @@ use Rattle.bay_report.proofs.ReportLemmas.{nil-from-length}
 use Rattle.bay_serving.specs.Host.{HostCall, Pauses, Tells}
 use Rattle.bay_report.specs.Report.{IsLast, Prints}
 use Rattle.bay_report.specs.TextLines.{CutsLine, lines_of}
-use Rattle.bay_serving.specs.ServeReport.{AfterTurn, Hearing, Hears, MayPause, Serving, ServesTurns, TellsNews, TellsTurn, TurnFails, TurnGoes, chosen, from_port, is_gone, text_of_next, told_lines, with_process}
+use Rattle.bay_serving.specs.ServeReport.{AfterTurn, Hearing, Hears, MayPause, Serving, ServesTurns, TellsNews, TellsTurn, TurnFails, TurnGoes, chosen, from_port, is_gone, next_by, told_lines, with_process}
 use Rattle.bay_port.specs.declared.news.News.{News}
 use Rattle.bay_serving.specs.Serving.{TriesTurn}
 use Rattle.bay_serving.specs.LogLines.{used_up_log}
@@ -19,10 +19,11 @@ use Rattle.bay_serving.specs.declared.serving.Tried.{Tried}
 use Rattle.bay_serving.specs.declared.serving.Tried.TheVariants as tried
 use Rattle.bay_report.proofs.PieceLemmas.{lines-cut}
 use Rattle.bay_serve.specs.Calls.{Call, Called, Talks}
-use Rattle.bay_serve.specs.Served.{Serves, line_in}
+use Rattle.bay_serve.specs.Served.{Serves, event_in, turn_refusal}
 use Rattle.bay_serve.specs.Turns.{Held, moment_at}
 use Rattle.bay_serve.specs.declared.told.Turn.{Turn}
-use Rattle.bay_trace.specs.Trace.{NamedData}
+use Rattle.bay_serve.specs.declared.process.ProcessEvent.{ProcessEvent}
+use Rattle.bay_serving.specs.declared.process.Next.{Next}
 
 -- ---- the lines of a trace that are not empty
 
@@ -72,7 +73,7 @@ module _ {L B : Type 0} (below : B → L) (does : L → Call → L → Type 0) (
     talks-below calls talks.0 new talks.2,
   )
 
-  pub serves-below : (old new : B) (now : ℕ) (line : Option NamedData) (before after : Held)
+  pub serves-below : (old new : B) (now : ℕ) (line : Option ProcessEvent) (before after : Held)
       (turn : Turn)
       → Serves (Called (λ o call n. does (below o) call (below n)) (λ b. failures (below b))) old
       new now line before after turn
@@ -91,48 +92,6 @@ module _ {L B : Type 0} (below : B → L) (does : L → Call → L → Type 0) (
     memory = s.memory;
   }
 
--- ---- the line of a turn
-
--- where there is no line the list is empty
-pub no-line : {T : Type 0} (lines : List T) → slice_get lines 0 ≡ None → drop 1 lines ≡ lines
-no-line [] e = refl
-no-line (line ∷ lines) e = absurd cc
-
-module _ {L : Type 0} (s : State) (lines : List (ℕ × List ℕ)) (process : Option (Hearing L)) where
-  -- of a process that has gone its own line comes first
-  pub chosen-gone : is_gone process ≡ true → chosen s lines process ≡ from_port s lines process
-  chosen-gone e = rw e refl
-
-  -- and else the next of the trace
-  pub chosen-traced : (line : ℕ × List ℕ) → is_gone process ≡ false
-      → slice_get lines 0 ≡ Some line
-      → chosen s lines process
-      ≡ record { line = Some line; lines = drop 1 lines; process = process }
-  chosen-traced line e is = rw (e, is) refl
-
-  -- and behind them that of the process
-  pub chosen-heard : is_gone process ≡ false → slice_get lines 0 ≡ None
-      → chosen s lines process ≡ from_port s lines process
-  chosen-heard e is = rw (e, is) refl
-
--- the line of the port and what it leaves go by no lines
-pub from_port-line : {L : Type 0} (s : State) (lines : List (ℕ × List ℕ))
-    (process : Option (Hearing L))
-    → (from_port s lines process).line ≡ (from_port s [] process).line
-from_port-line s lines None = refl
-from_port-line s lines (Some p) = refl
-
-pub from_port-lines : {L : Type 0} (s : State) (lines : List (ℕ × List ℕ))
-    (process : Option (Hearing L)) → (from_port s lines process).lines ≡ lines
-from_port-lines s lines None = refl
-from_port-lines s lines (Some p) = refl
-
-pub from_port-process : {L : Type 0} (s : State) (lines : List (ℕ × List ℕ))
-    (process : Option (Hearing L))
-    → (from_port s lines process).process ≡ (from_port s [] process).process
-from_port-process s lines None = refl
-from_port-process s lines (Some p) = refl
-
 -- ---- one turn
 
 module _ {L B H W : Type 0} (below : B → L) (does : L → Call → L → Type 0) (failures : L → ℕ)
@@ -140,21 +99,22 @@ module _ {L B H W : Type 0} (below : B → L) (does : L → Call → L → Type 
     (asks : W → WriteCall → W → Type 0) where
   -- a turn was done over the link that has another below it, what it tells was printed, and the
   -- process was attended to
-  pub turn-goes : (line : Option (ℕ × List ℕ)) (text : Option (List ℕ)) (clock now : ℕ)
+  pub turn-goes : (next : Next) (clock now : ℕ)
       (link-before link-after : B) (before after : Held) (host-before host-after : H)
       (process-before process-after : Option (Hearing L))
       (old between new : Writing W) (turn : Turn) (s : State) (r answer : Result ℕ WriteFault)
-      → text ≡ text_of_next line → now ≡ moment_at clock before → s ≡ after.device
+      → now ≡ moment_at clock before → s ≡ after.device
       → acts host-before (Tells clock) host-after
+      → turn_refusal clock next.given before ≡ None
       → Serves (Called (λ o call n. does (below o) call (below n)) (λ b. failures (below b)))
-      link-before link-after (moment_at clock before) (line_in text) before after turn
-      → TellsTurn contents asks now text turn s old between r
+      link-before link-after (moment_at clock before) (event_in next.given) before after turn
+      → TellsTurn contents asks now next.shown turn s old between r
       → AfterTurn r
       ((process-after ≡ process-before) × (new ≡ between) × (answer ≡ r))
       (Hears (Called does failures) contents asks now turn s process-before process-after between
       new
       answer)
-      → TurnGoes (Called does failures) acts contents asks line
+      → TurnGoes (Called does failures) acts contents asks next
       (record {
         link = below link-before;
         held = before;
@@ -167,24 +127,21 @@ module _ {L B H W : Type 0} (below : B → L) (does : L → Call → L → Type 
         host = host-after;
         process = process-after;
       }) new answer
-  turn-goes line text clock now link-before link-after before after host-before host-after
-      process-before process-after old between new turn s r answer same is whole told serves tells
+  turn-goes next clock now link-before link-after before after host-before host-after
+      process-before process-after old between new turn s r answer is whole told right serves tells
       hears = record {
         clock = clock;
         told = told;
         turn = turn;
+        right = right;
         serves =
-            subst (λ t. Serves (Called does failures) (below link-before) (below link-after)
-            (moment_at clock before) (line_in t) before after turn) same
-            (serves-below below does failures link-before link-after (moment_at clock before)
-            (line_in text) before after turn serves);
+            serves-below below does failures link-before link-after (moment_at clock before)
+            (event_in next.given) before after turn serves;
         between = between;
         outcome = r;
         printed =
-            subst (λ t. TellsTurn contents asks (moment_at clock before) t turn after.device old
-            between r) same
-            (subst (λ m. TellsTurn contents asks m text turn after.device old between r) is
-            (subst (λ d. TellsTurn contents asks now text turn d old between r) whole tells));
+            subst (λ m. TellsTurn contents asks m next.shown turn after.device old between r) is
+            (subst (λ d. TellsTurn contents asks now next.shown turn d old between r) whole tells);
         hears =
             subst (λ m. AfterTurn r
             ((process-after ≡ process-before) × (new ≡ between) × (answer ≡ r))
@@ -201,10 +158,10 @@ module _ {L B H W : Type 0} (below : B → L) (does : L → Call → L → Type 
 module _ {L H W : Type 0} (step : L → Call → L → Type 0) (acts : H → HostCall L → H → Type 0)
     (contents : W → Option (List ℕ)) (asks : W → WriteCall → W → Type 0) where
   -- which fault it is makes no difference
-  tells-cut : (now : ℕ) (line : Option (List ℕ)) (turn : Turn) (s : State) (old new : Writing W)
-      (one other : WriteFault) → TellsTurn contents asks now line turn s old new (Err one)
-      → TellsTurn contents asks now line turn s old new (Err other)
-  tells-cut now line turn s old new one other tells = record {
+  tells-cut : (now : ℕ) (shown : List ℕ) (turn : Turn) (s : State) (old new : Writing W)
+      (one other : WriteFault) → TellsTurn contents asks now shown turn s old new (Err one)
+      → TellsTurn contents asks now shown turn s old new (Err other)
+  tells-cut now shown turn s old new one other tells = record {
     mid = tells.mid;
     logged = tells.logged;
     printed = by-quiet (is_quiet turn) tells.printed;
@@ -237,29 +194,30 @@ module _ {L H W : Type 0} (step : L → Call → L → Type 0) (acts : H → Hos
     printed = news-cut now h.news old new one other h.printed;
   }
 
-  goes-cut : (line : Option (ℕ × List ℕ)) (before : Serving L H) (old : Writing W)
+  goes-cut : (next : Next) (before : Serving L H) (old : Writing W)
       (after : Serving L H) (new : Writing W) (one other : WriteFault)
-      → TurnGoes step acts contents asks line before old after new (Err one)
-      → TurnGoes step acts contents asks line before old after new (Err other)
-  goes-cut line before old after new one other goes =
+      → TurnGoes step acts contents asks next before old after new (Err one)
+      → TurnGoes step acts contents asks next before old after new (Err other)
+  goes-cut next before old after new one other goes =
       by-outcome goes.outcome goes.printed goes.hears
     where
       now : ℕ
       now = moment_at goes.clock before.held
 
       by-outcome : (r : Result ℕ WriteFault)
-          → TellsTurn contents asks now (text_of_next line) goes.turn after.held.device old
+          → TellsTurn contents asks now next.shown goes.turn after.held.device old
           goes.between r
           → AfterTurn r
           ((after.process ≡ before.process) × (new ≡ goes.between)
           × (◌≡◌ {A = Result ℕ WriteFault} (Err one) r))
           (Hears step contents asks now goes.turn after.held.device before.process after.process
           goes.between new (Err one))
-          → TurnGoes step acts contents asks line before old after new (Err other)
+          → TurnGoes step acts contents asks next before old after new (Err other)
       by-outcome (Ok status) printed hears = record {
         clock = goes.clock;
         told = goes.told;
         turn = goes.turn;
+        right = goes.right;
         serves = goes.serves;
         between = goes.between;
         outcome = Ok status;
@@ -272,24 +230,25 @@ module _ {L H W : Type 0} (step : L → Call → L → Type 0) (acts : H → Hos
         clock = goes.clock;
         told = goes.told;
         turn = goes.turn;
+        right = goes.right;
         serves = goes.serves;
         between = goes.between;
         outcome = Err other;
         printed =
-            tells-cut now (text_of_next line) goes.turn after.held.device old goes.between fault
+            tells-cut now next.shown goes.turn after.held.device old goes.between fault
             other printed;
         hears = (hears.0, hears.1, refl);
       }
 
   -- its lines could not be written
-  pub tried-cut : (line : Option (ℕ × List ℕ)) (before : Serving L H) (old : Writing W)
+  pub tried-cut : (next : Next) (before : Serving L H) (old : Writing W)
       (after : Serving L H) (new : Writing W) (fault : WriteFault) (r : Result Tried WriteFault)
       → IsErr r
-      → TurnGoes step acts contents asks line before old after new (Err fault)
-      → TriesTurn step acts contents asks line before old after new r
-  tried-cut line before old after new fault (Ok x) e goes = absurd cc
-  tried-cut line before old after new fault (Err f) e goes =
-      inl (goes-cut line before old after new fault f goes)
+      → TurnGoes step acts contents asks next before old after new (Err fault)
+      → TriesTurn step acts contents asks next before old after new r
+  tried-cut next before old after new fault (Ok x) e goes = absurd cc
+  tried-cut next before old after new fault (Err f) e goes =
+      inl (goes-cut next before old after new fault f goes)
 
 module _ {L H W : Type 0} (step : L → Call → L → Type 0) (acts : H → HostCall L → H → Type 0)
     (contents : W → Option (List ℕ)) (asks : W → WriteCall → W → Type 0) where
@@ -322,30 +281,30 @@ module _ {L H W : Type 0} (step : L → Call → L → Type 0) (acts : H → Hos
   module _ (turns : ℕ) (lines : List (ℕ × List ℕ)) (before : Serving L H) (old : Writing W)
       (left more : ℕ) (rest : List (ℕ × List ℕ)) (here : Serving L H) (mid : Writing W)
       (reached : Reached turns lines before old left rest here mid) (e : left ≡ suc more)
-      (line : Option (ℕ × List ℕ)) (lines-after : List (ℕ × List ℕ))
+      (given : Next) (lines-after : List (ℕ × List ℕ))
       (process-after : Option (Hearing L))
-      (same : line ≡ (chosen here.held.device rest here.process).line)
-      (dropped : lines-after ≡ (chosen here.held.device rest here.process).lines)
+      (same : given ≡ (chosen here.held.device rest here.process).next)
+      (dropped : lines-after ≡ (chosen here.held.device rest here.process).nexts)
       (left-as : process-after ≡ (chosen here.held.device rest here.process).process) where
     -- what is served as the turn begins
     abbrev pub there : Serving L H
     there = with_process process-after here
 
     as-chosen : (after : Serving L H) (new : Writing W) (answer : Result ℕ WriteFault)
-        → TurnGoes step acts contents asks line there mid after new answer
-        → TurnGoes step acts contents asks (chosen here.held.device rest here.process).line
+        → TurnGoes step acts contents asks given there mid after new answer
+        → TurnGoes step acts contents asks (chosen here.held.device rest here.process).next
         (with_process (chosen here.held.device rest here.process).process here) mid after new answer
     as-chosen after new answer goes =
         subst (λ l. TurnGoes step acts contents asks l
         (with_process (chosen here.held.device rest here.process).process here) mid after new
         answer) same
-        (subst (λ p. TurnGoes step acts contents asks line (with_process p here) mid after new
+        (subst (λ p. TurnGoes step acts contents asks given (with_process p here) mid after new
         answer)
         left-as goes)
 
     fails-chosen : (host : H) (new : Writing W) (answer : Result ℕ WriteFault)
-        → TurnFails step acts contents asks line there mid host new answer
-        → TurnFails step acts contents asks (chosen here.held.device rest here.process).line here
+        → TurnFails step acts contents asks given there mid host new answer
+        → TurnFails step acts contents asks (chosen here.held.device rest here.process).next here
         mid
         host new answer
     fails-chosen host new answer fails =
@@ -360,14 +319,14 @@ module _ {L H W : Type 0} (step : L → Call → L → Type 0) (acts : H → Hos
 
     -- the next is not done
     Reached-stop : (host : H) (new : Writing W) (answer : Result ℕ WriteFault)
-        → TurnFails step acts contents asks line there mid host new answer
+        → TurnFails step acts contents asks given there mid host new answer
         → ServesTurns step acts contents asks turns lines before old host new answer
     Reached-stop host new answer fails =
         reached.goes host new answer (rw e (inl (fails-chosen host new answer fails)))
 
     -- the lines of the next can't be written
     Reached-cut : (after : Serving L H) (new : Writing W) (fault : WriteFault)
-        → TurnGoes step acts contents asks line there mid after new (Err fault)
+        → TurnGoes step acts contents asks given there mid after new (Err fault)
         → ServesTurns step acts contents asks turns lines before old after.host new (Err fault)
     Reached-cut after new fault goes =
         reached.goes after.host new (Err fault)
@@ -382,7 +341,7 @@ module _ {L H W : Type 0} (step : L → Call → L → Type 0) (acts : H → Hos
     -- one turn was tried, and done
     pub Reached-done : (after next : Serving L H) (new : Writing W) (t : Tried) (was_idle : Bool)
         → t ≡ tried.Done was_idle
-        → TriesTurn step acts contents asks line there mid after new (Ok t)
+        → TriesTurn step acts contents asks given there mid after new (Ok t)
         → MayPause acts after next
         → Reached turns lines before old more lines-after next new
     Reached-done after next new (tried.Done w) was_idle is goes pause =
@@ -406,7 +365,7 @@ module _ {L H W : Type 0} (step : L → Call → L → Type 0) (acts : H → Hos
 
     -- it was not done
     pub Reached-ends : (after : Serving L H) (new : Writing W) (t : Tried) (status : ℕ)
-        → t ≡ tried.Ends status → TriesTurn step acts contents asks line there mid after new (Ok t)
+        → t ≡ tried.Ends status → TriesTurn step acts contents asks given there mid after new (Ok t)
         → ServesTurns step acts contents asks turns lines before old after.host new (Ok status)
     Reached-ends after new (tried.Done w) status is goes = absurd cc
     Reached-ends after new (tried.Ends s) status is fails =
@@ -421,12 +380,12 @@ module _ {L H W : Type 0} (step : L → Call → L → Type 0) (acts : H → Hos
     -- what is to be printed for it could not be written
     pub Reached-fails : (after : Serving L H) (new : Writing W) (fault : WriteFault)
         (r : Result ℕ WriteFault) → IsErr r
-        → TriesTurn step acts contents asks line there mid after new (Err fault)
+        → TriesTurn step acts contents asks given there mid after new (Err fault)
         → ServesTurns step acts contents asks turns lines before old after.host new r
     Reached-fails after new fault (Ok x) is tries = absurd cc
     Reached-fails after new fault (Err f) is (inl goes) =
         Reached-cut after new f
-        (goes-cut step acts contents asks line there mid after new fault f goes)
+        (goes-cut step acts contents asks given there mid after new fault f goes)
     Reached-fails after new fault (Err f) is (inr fails) =
         Reached-stop after.host new (Err f)
         (record {

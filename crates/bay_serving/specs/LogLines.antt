@@ -177,28 +177,26 @@ asked_log now s (Some decisions) = map (decision_line now s) decisions
 
 -- the device refused what a line told
 abbrev pub refused_line : ℕ → ℕ → List ℕ → List ℕ
-refused_line now code line =
-    joined (decimal now ∷ codes " refused " ∷ decimal code ∷ codes ": " ∷ shown_text line
-    ∷ codes "\n" ∷ [])
+refused_line now code shown =
+    joined (decimal now ∷ codes " refused " ∷ decimal code ∷ codes ": " ∷ shown ∷ codes "\n" ∷ [])
 
 abbrev pub refused_log : ℕ → Option ℕ → List ℕ → List (List ℕ)
-refused_log now None line = []
-refused_log now (Some code) line = refused_line now code line ∷ []
+refused_log now None shown = []
+refused_log now (Some code) shown = refused_line now code shown ∷ []
 
--- A turn with this line: an association was opened, the line was refused, controls were asked for,
+-- A turn whose line is shown so: an association was opened, the line was refused, controls were asked for,
 -- associations were closed.
 abbrev pub turn_log : ℕ → State → List ℕ → Turn → List (List ℕ)
-turn_log now s line turn =
-    opened_log now turn.opened ++ refused_log now turn.refused line
+turn_log now s shown turn =
+    opened_log now turn.opened ++ refused_log now turn.refused shown
     ++ flat_map (asked_log now s) turn.decisions
     ++ map (closed_line now) turn.closed ++ map (memory_line now) turn.memory
 
--- a turn was not done, with this line of the trace, by its number
+-- a turn was not done, with a line of the trace, by its number and as it is shown
 abbrev pub unserved_log : ServeFault → ℕ → List ℕ → List ℕ
-unserved_log BadLine k line =
-    joined (codes "bayctl: fault 120 line " ∷ decimal k ∷ codes ": " ∷ shown_text line ∷ codes "\n"
-    ∷ [])
-unserved_log MomentTooLarge k line = codes "bayctl: fault 114: the clock is past the last moment\n"
+unserved_log BadLine k shown =
+    joined (codes "bayctl: fault 120 line " ∷ decimal k ∷ codes ": " ∷ shown ∷ codes "\n" ∷ [])
+unserved_log MomentTooLarge k shown = codes "bayctl: fault 114: the clock is past the last moment\n"
 
 -- all turns were served
 abbrev pub used_up_log : ℕ → List ℕ

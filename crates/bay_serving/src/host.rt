@@ -103,11 +103,11 @@ impl<'a, R> SystemHost<'a, R> {
 fn ready_for<'a, R: Runtime<A = Global> + Net>(
     rt: &R,
     readiness: &'a mut Option<Readiness>,
-) -> Result<&'a Readiness, BindFault> {
+) -> Result<&'a mut Readiness, BindFault> {
     if readiness.is_none() {
         *readiness = Some(Readiness::new(rt, rt.alloc())?);
     }
-    readiness.as_ref().ok_or(BindFault::Failed)
+    readiness.as_mut().ok_or(BindFault::Failed)
 }
 
 impl<'a, R: Runtime<A = Global> + Net<Listener = TcpListener, Stream = TcpStream>> Host<

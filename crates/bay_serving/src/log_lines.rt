@@ -135,16 +135,15 @@ fn log_opened<W: Sink>(
 }
 
 /// Logs that the device refused what a line told.
-fn log_refusal<W: Sink>(writer: &mut WatchedWriter<W>, moment: u64, code: u8, line: &[u8])
-    ensures { Logs W.contents W.does writer.old (refused_line moment code line.now) writer.new }
+fn log_refusal<W: Sink>(writer: &mut WatchedWriter<W>, moment: u64, code: u8, shown: &Shown)
+    ensures { Logs W.contents W.does writer.old (refused_line moment code shown.now) writer.new }
 {
-    let line = Shown::new(line);
     writer.log(&[
         Part::Number(moment),
         Part::Text(b" refused "),
         Part::Number(u64::from(code)),
         Part::Text(b": "),
-        Part::Text(line.as_slice()),
+        Part::Text(shown.as_slice()),
         Part::Text(b"\n"),
     ]);
 }
@@ -154,13 +153,13 @@ fn log_refused<W: Sink>(
     writer: &mut WatchedWriter<W>,
     moment: u64,
     refused: Option<u8>,
-    line: &[u8],
+    shown: &Shown,
 )
-    ensures { LogsAll W.contents W.does writer.old (refused_log moment refused line.now)
+    ensures { LogsAll W.contents W.does writer.old (refused_log moment refused shown.now)
         writer.new }
 {
     match refused {
-        Some(code) => log_refusal(writer, moment, code, line),
+        Some(code) => log_refusal(writer, moment, code, shown),
         None => {}
     }
 }
@@ -214,34 +213,33 @@ fn log_memories<W: Sink>(writer: &mut WatchedWriter<W>, moment: u64, memory: &[u
     }
 }
 
-/// Logs what a turn with this line reports.
+/// Logs what a turn reports, whose line is shown so.
 pub fn log_turn<W: Sink>(
     writer: &mut WatchedWriter<W>,
     device: &Device,
     moment: u64,
-    line: &[u8],
+    shown: &Shown,
     turn: &Turn,
 )
-    ensures { LogsAll W.contents W.does writer.old (turn_log moment device.now line.now turn.now)
+    ensures { LogsAll W.contents W.does writer.old (turn_log moment device.now shown.now turn.now)
         writer.new }
 {
     log_opened(writer, moment, turn.opened);
-    log_refused(writer, moment, turn.refused, line);
+    log_refused(writer, moment, turn.refused, shown);
     log_controls(writer, device, moment, &turn.decisions);
     log_closings(writer, moment, turn.closed.as_slice());
     log_memories(writer, moment, turn.memory.as_slice());
 }
 
 /// Logs which line of the trace is not valid.
-fn log_bad_line<W: Sink>(writer: &mut WatchedWriter<W>, number: usize, line: &[u8])
-    ensures { Logs W.contents W.does writer.old (unserved_log BadLine number line.now) writer.new }
+fn log_bad_line<W: Sink>(writer: &mut WatchedWriter<W>, number: usize, shown: &Shown)
+    ensures { Logs W.contents W.does writer.old (unserved_log BadLine number shown.now) writer.new }
 {
-    let line = Shown::new(line);
     writer.log(&[
         Part::Text(b"bayctl: fault 120 line "),
         Part::Number(number as u64),
         Part::Text(b": "),
-        Part::Text(line.as_slice()),
+        Part::Text(shown.as_slice()),
         Part::Text(b"\n"),
     ]);
 }
@@ -251,12 +249,12 @@ pub fn log_unserved<W: Sink>(
     writer: &mut WatchedWriter<W>,
     fault: ServeFault,
     number: usize,
-    line: &[u8],
+    shown: &Shown,
 )
-    ensures { Logs W.contents W.does writer.old (unserved_log fault number line.now) writer.new }
+    ensures { Logs W.contents W.does writer.old (unserved_log fault number shown.now) writer.new }
 {
     match fault {
-        ServeFault::BadLine => log_bad_line(writer, number, line),
+        ServeFault::BadLine => log_bad_line(writer, number, shown),
         ServeFault::MomentTooLarge => writer.log(&[Part::Text(
             b"bayctl: fault 114: the clock is past the last moment\n",
         )]),

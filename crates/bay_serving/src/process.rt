@@ -1,9 +1,7 @@
-// The process that is heard, and the line of a turn.
-ghost use Rattle.std.specs.Prelude.{◌≡◌, [], option_map};
-ghost use Rattle.bay_port.specs.Fit.{line_if};
+// The process that is heard, and what a turn is given.
+ghost use Rattle.std.specs.Prelude.{◌≡◌, []};
 ghost use Rattle.bay_serve.specs.Calls.{Called};
-ghost use Rattle.bay_serving.specs.Choosing.{with_heard};
-ghost use Rattle.bay_serving.specs.ServeReport.{AttendsTo, Hears, chosen, from_port, is_gone, next_view, without_number};
+ghost use Rattle.bay_serving.specs.ServeReport.{AttendsTo, Hears, chosen, from_port, is_gone, next_by};
 
 use crate::trace_lines::TraceLines;
 use crate::turns::tell_news;
@@ -11,13 +9,23 @@ use bay_device::device::Device;
 use bay_io::calls::Sink;
 use bay_io::outbox::WriteFault;
 use bay_io::writer::WatchedWriter;
+use bay_lines::shown::Shown;
 use bay_port::attending::attend;
-use bay_port::fit::Line;
 use bay_port::port::Port;
 use bay_report::output::Status;
 use bay_serve::link::Link;
+use bay_serve::process::{Given, read_line};
 use bay_serve::told::Turn;
 use std::marker::Model;
+
+/// What a turn is given, with the line that tells of it, as the log shows it, and the line's number
+/// in the trace, or 0.
+#[derive(Drop)]
+pub struct Next {
+    pub number: usize,
+    pub shown: Shown,
+    pub given: Given,
+}
 
 /// A process with a link of its own, and whether anything is known to have happened there.
 #[derive(Drop)]
@@ -77,59 +85,57 @@ fn is_leaving<L>(process: &Option<Process<L>>) -> bool
     }
 }
 
-/// Takes the line that the port of the process has. Returns false if there is none.
-fn take_port_line<L>(process: &mut Option<Process<L>>, device: &Device, buffer: &mut Line) -> bool
-    ensures line { option_map without_number (line_if result buffer.new.items)
-        ≡ (from_port device.now [] process.old).line }
+/// Takes what the port of the process has, if one is heard.
+fn take_said<L>(process: &mut Option<Process<L>>, device: &Device) -> Next
+    ensures next { result ≡ (from_port device.now [] process.old).next }
     ensures process { process.new ≡ (from_port device.now [] process.old).process }
 {
     match process {
-        Some(process) => process.port.take_line(device, buffer),
-        None => false,
+        Some(process) => {
+            let said = process.port.take_line(device);
+            Next {
+                number: 0,
+                shown: said.shown,
+                given: Ok(said.event),
+            }
+        }
+        None => Next {
+            number: 0,
+            shown: Shown::new(b""),
+            given: Ok(None),
+        },
     }
 }
 
-/// Chooses the line of a turn: the next line of the trace, or after the last one the line of the
-/// process. While a process has gone and not every switch is bad, its line comes first. Returns the
-/// line of the trace, and whether `buffer` holds a line of the process.
-pub fn choose<'a, L>(
-    lines: &mut TraceLines<'a>,
+/// Reads a line of the trace, with its number.
+fn read_next(device: &Device, line: (usize, &[u8])) -> Next
+    ensures { result ≡ next_by device.now (line.entry.0, line.entry.1.now) }
+{
+    let (number, text) = line;
+    Next {
+        number,
+        shown: Shown::new(text),
+        given: read_line(device, text),
+    }
+}
+
+/// Chooses what a turn is given: the next line of the trace, or after the last one what the process
+/// has. While a process has gone and not every switch is bad, that comes first.
+pub fn choose<L>(
+    lines: &mut TraceLines<'_>,
     process: &mut Option<Process<L>>,
     device: &Device,
-    buffer: &mut Line,
-) -> (Option<(usize, &'a [u8])>, bool)
-    ensures line { with_heard (next_view result.0) (line_if result.1 buffer.new.items)
-        ≡ (chosen device.now lines.old process.old).line }
+) -> Next
+    ensures next { result ≡ (chosen device.now lines.old process.old).next }
     ensures lines { lines.new ≡ (chosen device.now lines.old process.old).lines }
     ensures process { process.new ≡ (chosen device.now lines.old process.old).process }
 {
     if is_leaving(process) {
-        return (None, take_port_line(process, device, buffer));
+        return take_said(process, device);
     }
     match lines.next_line() {
-        Some(line) => (Some(line), false),
-        None => (None, take_port_line(process, device, buffer)),
-    }
-}
-
-/// Returns the chosen line with its number; a line of the process has the number 0.
-pub fn line_of<'a>(
-    traced: Option<(usize, &'a [u8])>,
-    is_heard: bool,
-    buffer: &'a Line,
-) -> Option<(usize, &'a [u8])>
-    ensures { next_view result
-        ≡ with_heard (next_view traced.entry) (line_if is_heard buffer.now.items) }
-{
-    match traced {
-        Some(line) => Some(line),
-        None => {
-            if is_heard {
-                Some((0, buffer.as_slice()))
-            } else {
-                None
-            }
-        }
+        Some(line) => read_next(device, line),
+        None => take_said(process, device),
     }
 }
 

@@ -1,7 +1,7 @@
 // The lines of a trace, one after another.
 ghost use Rattle.std.specs.Prelude.{◌≡◌, drop, slice_get};
 ghost use Rattle.bay_report.specs.TextLines.{lines_of};
-ghost use Rattle.bay_serving.specs.ServeReport.{next_view, told_lines};
+ghost use Rattle.bay_serving.specs.ServeReport.{line_view, told_lines};
 
 use bay_report::text_lines::cut_line;
 use std::marker::Model;
@@ -38,7 +38,7 @@ impl<'a> TraceLines<'a> {
 
     /// Returns the next line.
     pub fn next_line(&mut self) -> Option<(usize, &'a [u8])>
-        ensures first { next_view result ≡ slice_get self.old 0 }
+        ensures first { line_view result ≡ slice_get self.old 0 }
         ensures others { self.new ≡ drop 1 self.old }
     {
         while !self.rest.is_empty() {

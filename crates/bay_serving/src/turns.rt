@@ -1,11 +1,10 @@
 // The lines that are printed for a turn of a server.
-ghost use Rattle.std.specs.Prelude.{◌≡◌, [], unwrap_or};
+ghost use Rattle.std.specs.Prelude.{◌≡◌};
 ghost use Rattle.bay_io.specs.Sent.{Puts};
 ghost use Rattle.bay_device.specs.declared.event.Why.TheVariants.{Fault};
 ghost use Rattle.bay_report.specs.Lines.{closing_text};
 ghost use Rattle.bay_report.specs.Report.{IsLast, Prints};
 ghost use Rattle.bay_serve.specs.Code.{code_of};
-ghost use Rattle.bay_serve.specs.Served.{text_in};
 ghost use Rattle.bay_serving.specs.ServeReport.{PrintsTurn, TellsNews, TellsTurn, TellsUnserved};
 ghost use Rattle.bay_port.specs.Telling.{refusal_text};
 ghost use Rattle.bay_port.specs.declared.news.News.TheVariants.{Closed, Opened};
@@ -18,6 +17,7 @@ use bay_device::event::Why;
 use bay_io::calls::Sink;
 use bay_io::outbox::WriteFault;
 use bay_io::writer::WatchedWriter;
+use bay_lines::shown::Shown;
 use bay_port::news::{News, Parting};
 use bay_report::lines::{put_closing_line, put_commands, put_refusal, put_unreadable};
 use bay_report::output::{Status, finish, write_text};
@@ -114,28 +114,18 @@ fn print_turn<W: Sink>(
     }
 }
 
-/// Returns the octets of a line, or none without a line.
-fn octets_in(line: Option<&[u8]>) -> &[u8]
-    ensures { result.now ≡ unwrap_or (text_in line.entry) [] }
-{
-    match line {
-        Some(octets) => octets,
-        None => b"",
-    }
-}
-
-/// Logs what a turn with this line reports, and prints it.
+/// Logs what a turn reports, whose line is shown so, and prints it.
 pub fn tell_turn<W: Sink>(
     writer: &mut WatchedWriter<W>,
     device: &Device,
     moment: u64,
-    line: Option<&[u8]>,
+    shown: &Shown,
     turn: &Turn,
 ) -> Result<u8, WriteFault>
-    ensures { TellsTurn W.contents W.does moment (text_in line.entry) turn.now device.now writer.old
-        writer.new result }
+    ensures { TellsTurn W.contents W.does moment shown.now turn.now device.now writer.old writer.new
+        result }
 {
-    log_turn(writer, device, moment, octets_in(line), turn);
+    log_turn(writer, device, moment, shown, turn);
     print_turn(writer, device, moment, turn)
 }
 
@@ -223,17 +213,15 @@ fn write_unserved<W: Sink>(
     }
 }
 
-/// Logs and writes why a turn with this line of the trace was not done.
+/// Logs and writes why a turn with a line of the trace was not done.
 pub fn tell_unserved<W: Sink>(
     writer: &mut WatchedWriter<W>,
     fault: ServeFault,
     number: usize,
-    line: Option<&[u8]>,
+    shown: &Shown,
 ) -> Result<u8, WriteFault>
-    ensures { TellsUnserved W.contents W.does fault number (text_in line.entry) writer.old
-        writer.new
-        result }
+    ensures { TellsUnserved W.contents W.does fault number shown.now writer.old writer.new result }
 {
-    log_unserved(writer, fault, number, octets_in(line));
+    log_unserved(writer, fault, number, shown);
     write_unserved(writer, fault, number)
 }

@@ -7,14 +7,13 @@ use Rattle.bay_device.specs.Device.{State}
 use Rattle.bay_device.specs.Outcomes.{connection_at, outcome}
 use Rattle.bay_device.specs.declared.event.Event.{Event}
 use Rattle.bay_device.specs.declared.event.Event.TheVariants.{Open, Recv, Close, Contact, Input, Measure, Scan}
-use Rattle.bay_trace.specs.Placing.{placed_event}
-use Rattle.bay_trace.specs.Trace.{NamedData, connects, receives, disconnects, contact, input, measure, scan, process_event}
 use Rattle.bay_serve.specs.Calls.{ReadOutcome, Octets, Silence, Over, Broken}
-use Rattle.bay_serve.specs.Turns.{Held, Reading, Script, turn_calls, after_turn}
+use Rattle.bay_serve.specs.Turns.{Held, Reading, Script, turn_calls, after_turn, event_of}
+use Rattle.bay_serve.specs.declared.process.ProcessEvent.{ProcessEvent}
+use Rattle.bay_serve.specs.declared.process.ProcessEvent.TheVariants as process
 use Rattle.bay_serve.specs.declared.told.Closing.{Closing}
 use Rattle.bay_serve_laws.specs.Causes.{fails_for, has_some, is_queue_full, tells}
 use Rattle.bay_serve_laws.specs.Events.{ChosenEvent, done_at, surely, turn_events}
-use Rattle.bay_serve_laws.specs.Flows.{IsOfProcess}
 use Rattle.bay_serve_laws.specs.Order.{AreClosings, IsClosing, Then, ThenReads, brought, opened, opened_at, read_at, told_at}
 use Rattle.bay_serve_laws.proofs.OrderLemmas.{in-order}
 use Rattle.bay_serving_laws.specs.Orders.{OfAssociation}
@@ -78,20 +77,14 @@ opened-of (Some place) (Some None) = All-nil IsOf
 opened-of (Some place) None = All-nil IsOf
 opened-of None accepted = All-nil IsOf
 
-placed-without : (d : State) (named : NamedData) → process_event named ≡ Some named
-    → IsWithout (placed_event d named)
-placed-without d (connects a) e = tt
-placed-without d (receives a octets) e = absurd cc
-placed-without d (disconnects a) e = tt
-placed-without d (contact id position) e = tt
-placed-without d (input name value) e = tt
-placed-without d (measure id field value) e = tt
-placed-without d scan e = tt
+event-without : (event : ProcessEvent) → IsWithout (event_of event)
+event-without (process.Contact k position) = tt
+event-without (process.Input k value) = tt
+event-without (process.Measure k field value) = tt
 
-told-without : (line : Option NamedData) (d : State) → IsOfProcess line
-    → AreWithout (told_at line d)
-told-without None d is = All-nil IsFree
-told-without (Some named) d is = All-cons IsFree _ [] (placed-without d named is) (All-nil IsFree)
+told-without : (line : Option ProcessEvent) → AreWithout (told_at line)
+told-without None = All-nil IsFree
+told-without (Some event) = All-cons IsFree _ [] (event-without event) (All-nil IsFree)
 
 -- ---- two halves
 
@@ -151,33 +144,32 @@ module _ (now : ℕ) (told : List (ℕ × Closing)) where
       (read-of place r d) (reads-front Rest more (place + 1) rs) t
 
 -- what comes behind the reads of a turn
-abbrev pub Behind : ℕ → List (ℕ × Closing) → (ℕ → Bool) → Option NamedData → State
+abbrev pub Behind : ℕ → List (ℕ × Closing) → (ℕ → Bool) → Option ProcessEvent → State
     → List ChosenEvent → Type 0
 Behind now told why line d =
-    Then now told (told_at line d)
+    Then now told (told_at line)
     (Then now told (surely Scan ∷ []) (λ e rest. AreClosings why rest)) d
 
 pub behind-without : (now : ℕ) (told : List (ℕ × Closing)) (why : ℕ → Bool)
-    (line : Option NamedData) → IsOfProcess line → (d : State) (rest : List ChosenEvent)
-    → Behind now told why line d rest → AreWithout rest
-behind-without now told why line is d rest t =
+    (line : Option ProcessEvent) (d : State) (rest : List ChosenEvent) → Behind now told why line d rest → AreWithout rest
+behind-without now told why line d rest t =
     let Last : State → List ChosenEvent → Type 0 = λ e rest. AreClosings why rest in
-    then-without now told (told_at line d) (Then now told (surely Scan ∷ []) Last) d rest
-    (told-without line d is)
+    then-without now told (told_at line) (Then now told (surely Scan ∷ []) Last) d rest
+    (told-without line)
     (λ e later u. then-without now told (surely Scan ∷ []) Last e later
     (All-cons IsFree (surely Scan) [] tt (All-nil IsFree))
     (λ f last closings. closing-without why last closings) u) t
 
 -- why an association may be closed at the end of a turn
-abbrev pub why_closed : ℕ → Option NamedData → Script → Held → ℕ → Bool
+abbrev pub why_closed : ℕ → Option ProcessEvent → Script → Held → ℕ → Bool
 why_closed now line script h a =
     tells is_queue_full a (after_turn now line script h).noted.closed
     || has_some (fails_for a) (turn_calls now line script h)
 
-halves : (now : ℕ) (line : Option NamedData) (script : Script) (h : Held)
-    → length script.readings ≡ 8 → length script.offers ≡ 8 → IsOfProcess line
+halves : (now : ℕ) (line : Option ProcessEvent) (script : Script) (h : Held)
+    → length script.readings ≡ 8 → length script.offers ≡ 8
     → Halves (turn_events now line script h)
-halves now line script h readings offers is =
+halves now line script h readings offers =
     let told = (after_turn now line script h).noted.closed in
     let why : ℕ → Bool = why_closed now line script h in
     then-front now told (opened script.accepted h.device)
@@ -185,7 +177,7 @@ halves now line script h readings offers is =
     (turn_events now line script h)
     (opened-of (position is_none h.device.connections) script.accepted)
     (reads-front now told (Behind now told why line)
-    (λ d rest t. without-halves rest (behind-without now told why line is d rest t)) 0
+    (λ d rest t. without-halves rest (behind-without now told why line d rest t)) 0
     script.readings)
     (in-order now line script h readings offers)
 
@@ -210,15 +202,15 @@ front-of (x ∷ reads) rest (f ∷ front) e back is of without octets =
     (subst (λ (e : ChosenEvent). OfAssociation e.1) first (All-head IsOf x reads of))
     (front-of reads rest front e back later (All-tail IsOf x reads of) without octets)
 
-pub before-octets : (now : ℕ) (line : Option NamedData) (script : Script) (h : Held)
+pub before-octets : (now : ℕ) (line : Option ProcessEvent) (script : Script) (h : Held)
     (front : List ChosenEvent) (choice : Option ℕ) (a : ℕ) (octets : Bor (List ℕ))
     (back : List ChosenEvent)
-    → length script.readings ≡ 8 → length script.offers ≡ 8 → IsOfProcess line
+    → length script.readings ≡ 8 → length script.offers ≡ 8
     → turn_events now line script h ≡ front ++ (choice, Recv a octets) ∷ back
     → OfAssociations front
-before-octets now line script h front choice a octets back readings offers is split =
+before-octets now line script h front choice a octets back readings offers split =
     let both : Halves (turn_events now line script h) =
-    halves now line script h readings offers is in
+    halves now line script h readings offers in
     front-of both.reads both.rest front (choice, Recv a octets) back (sym both.is ∙ split) both.of
     both.without (λ none. none)
 

@@ -1,7 +1,6 @@
 pub mod BeginLemmas
 pub mod FrontLemmas
 pub mod HistoryLemmas
-pub mod LateLemmas
 pub mod OnceLemmas
 pub mod OrderLemmas
 pub mod SameLemmas

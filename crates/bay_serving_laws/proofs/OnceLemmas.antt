@@ -10,13 +10,13 @@ use Rattle.bay_device.specs.Outcomes.{connection_at}
 use Rattle.bay_device.specs.declared.event.Event.{Event}
 use Rattle.bay_device.specs.declared.event.Event.TheVariants.{Open, Recv, Close, Contact, Input, Measure, Scan}
 use Rattle.bay_trace.specs.Placing.{lying}
-use Rattle.bay_trace.specs.Trace.{NamedData}
 use Rattle.bay_serve.specs.Calls.{ReadOutcome, Octets, Silence, Over, Broken}
 use Rattle.bay_serve.specs.Turns.{Held, Reading, Script, after_turn}
+use Rattle.bay_serve.specs.declared.process.ProcessEvent.{ProcessEvent}
 use Rattle.bay_serve.specs.declared.told.Closing.{Closing}
 use Rattle.bay_serve_laws.specs.Causes.{is_queue_full, tells}
 use Rattle.bay_serve_laws.specs.Events.{ChosenEvent, surely, turn_events}
-use Rattle.bay_serve_laws.specs.Flows.{IsOfProcess, brought_by, received_of}
+use Rattle.bay_serve_laws.specs.Flows.{brought_by, received_of}
 use Rattle.bay_serve_laws.specs.Order.{Then, ThenReads, brought, opened, opened_at, read_at}
 use Rattle.bay_serve_laws.proofs.OrderLemmas.{in-order}
 use Rattle.bay_serving_laws.proofs.FrontLemmas.{AreWithout, Behind, IsFree, IsWithout, behind-without, closing-without, why_closed}
@@ -192,11 +192,11 @@ module _ (now : ℕ) (told : List (ℕ × Closing)) (a : ℕ) where
               omega arith,
             )
 
-pub received-once : (now : ℕ) (line : Option NamedData) (script : Script) (h : Held) (c : Option ℕ)
+pub received-once : (now : ℕ) (line : Option ProcessEvent) (script : Script) (h : Held) (c : Option ℕ)
     (a : ℕ) (octets : Bor (List ℕ)) → length script.readings ≡ 8 → length script.offers ≡ 8
-    → IsOfProcess line → Contains (turn_events now line script h) (c, Recv a octets)
+    → Contains (turn_events now line script h) (c, Recv a octets)
     → received_of a (turn_events now line script h) ≡ octets.now
-received-once now line script h c a octets readings offers is has =
+received-once now line script h c a octets readings offers has =
     let told = (after_turn now line script h).noted.closed in
     let why : ℕ → Bool = why_closed now line script h in
     let events : List ChosenEvent = turn_events now line script h in
@@ -213,6 +213,6 @@ received-once now line script h c a octets readings offers is has =
           then-received now told a first Reads h.device events t
           ∙ ap (λ l. l ++ received_of a t.rest) (without-none a first none)
           ∙ (reads-once now told a (Behind now told why line)
-          (behind-without now told why line is) 0 script.readings _ t.rest c octets t.goes_on
+          (behind-without now told why line) 0 script.readings _ t.rest c octets t.goes_on
           later).0
     ]

@@ -22,11 +22,10 @@ use Rattle.bay_device.specs.declared.fault.StepFault.TheVariants.{MomentTooLarge
 use Rattle.bay_device.proofs.CommandLemmas.{step-commanded}
 use Rattle.bay_device.proofs.OperateLemmas.{step-operates}
 use Rattle.bay_serve.specs.Turns.{Held}
-use Rattle.bay_serve_laws.specs.Events.{ChosenEvent, HasNoOctets, commands_in, commands_of, done_at, turn_events}
+use Rattle.bay_serve_laws.specs.Events.{ChosenEvent, commands_in, commands_of, done_at, turn_events}
 use Rattle.bay_serve_laws.specs.Flows.{IsTidy, answer_to, end_to, sent_to}
 use Rattle.bay_serve_laws.proofs.DoneLemmas.{IsBoth, done-append}
 use Rattle.bay_serve_laws.proofs.GivenLemmas.{turn-brings}
-use Rattle.bay_serve_laws.proofs.LineLemmas.{process-quiet}
 use Rattle.bay_serve_laws.proofs.MoveLemmas.{sent-append}
 use Rattle.bay_serve_laws.proofs.PartLemmas.{Part-turn}
 use Rattle.bay_serve_laws.proofs.TurnFlows.{loses-nothing}
@@ -37,7 +36,6 @@ use Rattle.bay_serving_laws.specs.Orders.{AreOrdered, IsHeard, IsOrdered, StandI
 use Rattle.bay_serving_laws.specs.Service.{AreTurns, DoneTurn, IsTurn, held_behind, past_behind}
 use Rattle.bay_serving_laws.proofs.FrontLemmas.{OfAssociations, before-octets, same-events}
 use Rattle.bay_serving_laws.proofs.HistoryLemmas.{Stands, aged, stands-events}
-use Rattle.bay_serving_laws.proofs.LateLemmas.{late-tidy}
 use Rattle.bay_serving_laws.proofs.OnceLemmas.{received-once}
 use Rattle.bay_serving_laws.proofs.ScanLemmas.{released-by}
 use Rattle.bay_serving_laws.proofs.SentLemmas.{Mapped, mapped, sent-to, stands-in}
@@ -181,15 +179,8 @@ on-time true now rest s step is e = absurd cc
 on-time false now rest s step is e = grind (arith, nat_tests)
 
 stays-tidy : (h : Held) (t : DoneTurn) → IsTurn h t → IsTidy h → IsTidy (held_behind t h)
-stays-tidy h t is tidy = by-time (nat_lt last_moment t.now) refl
-  where
-    by-time : (late : Bool) → nat_lt last_moment t.now ≡ late → IsTidy (held_behind t h)
-    by-time true late = late-tidy t.now late t.line t.script h tidy
-    by-time false early =
-        let within : t.now ≤ last_moment = grind (arith, nat_tests) in
-        (loses-nothing t.now t.line t.script h tidy
-        (record { not_before = is.not_before; not_past = within }) is.of_process
-        is.all_offered).tidy
+stays-tidy h t is tidy =
+    (loses-nothing t.now t.line t.script h tidy is.in_time is.all_offered).tidy
 
 -- ---- a command
 
@@ -217,7 +208,7 @@ module _ (first : State) (h : Held) (t : DoneTurn) (past : List Past) (command :
       before : OfAssociations front
       before =
           before-octets t.now t.line t.script h front choice a octets back is.all_read
-          is.all_offered is.of_process split
+          is.all_offered split
 
       heard : IsHeard h t
       heard = record {
@@ -228,9 +219,9 @@ module _ (first : State) (h : Held) (t : DoneTurn) (past : List Past) (command :
         back = back;
         is = split;
         first = before;
-        given = turn-brings a t.now t.line t.script h (process-quiet t.line is.of_process)
+        given = turn-brings a t.now t.line t.script h
             ∙ received-once t.now t.line t.script h choice a octets is.all_read is.all_offered
-            is.of_process (subst (λ es. Contains es (choice, Recv a octets)) (sym split)
+            (subst (λ es. Contains es (choice, Recv a octets)) (sym split)
             (Contains-append_right front ((choice, Recv a octets) ∷ back) (choice, Recv a octets)
             (0, omega arith, refl)));
         step = step;
@@ -265,12 +256,8 @@ module _ (first : State) (h : Held) (t : DoneTurn) (past : List Past) (command :
                 (answer-stands a step m.item m.among to)));
             place = there.0;
             number = there.1;
-            flows = (loses-nothing t.now t.line t.script h tidy
-                (record {
-                  not_before = is.not_before;
-                  not_past = on-time (nat_lt last_moment t.now) t.now _ mid step refl answered;
-                })
-                is.of_process is.all_offered).flows there.0 there.2;
+            flows = (loses-nothing t.now t.line t.script h tidy is.in_time is.all_offered).flows
+                there.0 there.2;
             accepts = subst (λ p. Contains (operates_in (accepted_in t.now a r.pdu (bay_of first)
                 p)) command) (sym m.is) r.accepts;
             allowed = allowed;
@@ -292,8 +279,7 @@ ordered : (first : State) (h : Held) (t : DoneTurn) (past : List Past) (command 
     → IsOrdered first h t past command
 ordered first h t past command is tidy at has =
     let events : List ChosenEvent = turn_events t.now t.line t.script h in
-    let whole = Part-turn (HasNoOctets t.line) t.now t.line t.script h (λ q. q) in
-    let commands = is.commands ∙ whole.commands (process-quiet t.line is.of_process) in
+    let commands = is.commands ∙ (Part-turn t.now t.line t.script h).commands in
     let f : Found first t.now events h.device past command =
     found first t.now command events h.device past at
     (subst (λ cs. Contains cs command) commands has) in
@@ -317,7 +303,7 @@ pub all-ordered : (first : State) (h : Held) (past : List Past) (ts : List DoneT
 all-ordered first h past [] are tidy at = tt
 all-ordered first h past (t ∷ ts) are tidy at =
     let events : List ChosenEvent = turn_events t.now t.line t.script h in
-    let whole = Part-turn ⊥ t.now t.line t.script h (λ none. absurd none) in
+    let whole = Part-turn t.now t.line t.script h in
     let behind : List Past = past_behind t.now events h.device past in (
       λ command has. ordered first h t past command are.0 tidy at has,
       all-ordered first (held_behind t h) behind ts are.1 (stays-tidy h t are.0 tidy)

@@ -205,7 +205,7 @@ module _ (first : State) (ids : HaveIds first.switches) where
   all-printed h past [] at orders = tt
   all-printed h past (t ∷ ts) at orders =
       let events : List ChosenEvent = turn_events t.now t.line t.script h in
-      let whole = Part-turn ⊥ t.now t.line t.script h (λ none. absurd none) in
+      let whole = Part-turn t.now t.line t.script h in
       let behind : List Past = past_behind t.now events h.device past in
       let next : Stands first behind (held_behind t h).device =
       subst (Stands first behind) (sym whole.device)

@@ -1,17 +1,22 @@
 -- The turns of a service are done one after the other, and what happens in them is one history.
-use Rattle.std.proofs.Common.{◌≡◌, ℕ, zero, suc, List, [], ◌∷◌, Option, Result, Ok, Err, inl, inr, ap, sym, subst, ◌∙◌, arith}
+use Rattle.std.proofs.Common.{◌≡◌, ℕ, zero, suc, nat_lt, Bool, true, false, if◌then◌else◌, List, [], ◌∷◌, Option, Some, None, Result, Ok, Err, inl, inr, refl, ap, sym, subst, ◌∙◌, arith}
+use Rattle.std.proofs.lemmas.Bool.Decides.{nat_tests}
 use Rattle.bay_device.specs.Device.{State}
 use Rattle.bay_device.specs.Fresh.{Came, Past}
+use Rattle.bay_device.specs.Outcomes.{last_moment}
 use Rattle.bay_io.specs.Calls.{WriteCall}
 use Rattle.bay_io.specs.Watched.{Writing}
 use Rattle.bay_io.specs.declared.outbox.WriteFault.{WriteFault}
 use Rattle.bay_serve.specs.Calls.{Call}
-use Rattle.bay_serve.specs.Turns.{Held}
+use Rattle.bay_serve.specs.Served.{Given, turn_refusal}
+use Rattle.bay_serve.specs.Turns.{Held, moment_at}
+use Rattle.bay_serve.specs.declared.fault.ServeFault.TheVariants.{MomentTooLarge}
 use Rattle.bay_serve_laws.specs.Events.{turn_events}
-use Rattle.bay_serve_laws.proofs.LineLemmas.{line-process}
+use Rattle.bay_serve_laws.specs.Flows.{IsInTime}
 use Rattle.bay_serve_laws.proofs.PartLemmas.{Part-turn}
 use Rattle.bay_serving.specs.Host.{HostCall}
-use Rattle.bay_serving.specs.ServeReport.{AfterTurn, MayPause, Serving, ServesTurns, TurnGoes, text_of_next}
+use Rattle.bay_serving.specs.ServeReport.{AfterTurn, MayPause, Serving, ServesTurns, TurnGoes}
+use Rattle.bay_serving.specs.declared.process.Next.{Next}
 use Rattle.bay_serving_laws.specs.Service.{AreTurns, DoneTurn, IsService, IsTurn, held_after, held_behind, later_turns, past_behind, past_of, turn_in, turns_in}
 use Rattle.bay_serving_laws.proofs.HistoryLemmas.{Stands, one-run, stands-events, stands-first}
 
@@ -22,12 +27,23 @@ pub stands-turns : (first : State) (ts : List DoneTurn) (h : Held) (past : List 
 stands-turns first [] h past at = at
 stands-turns first (t ∷ ts) h past at =
     let events = turn_events t.now t.line t.script h in
-    let whole = Part-turn ⊥ t.now t.line t.script h (λ none. absurd none) in
+    let whole = Part-turn t.now t.line t.script h in
     stands-turns first ts (held_behind t h) (past_behind t.now events h.device past)
     (subst (Stands first (past_behind t.now events h.device past)) (sym whole.device)
     (stands-events first t.now events h.device past at))
 
 -- ---- those that were served
+
+in-time : (clock : ℕ) (given : Given) (h : Held) → turn_refusal clock given h ≡ None
+    → IsInTime (moment_at clock h) h
+in-time clock (Err fault) h e = absurd cc
+in-time clock (Ok event) h e = by-late (nat_lt last_moment (moment_at clock h)) refl e
+  where
+    by-late : (late : Bool) → nat_lt last_moment (moment_at clock h) ≡ late
+        → (if late then Some MomentTooLarge else None) ≡ None → IsInTime (moment_at clock h) h
+    by-late true is e = absurd cc
+    by-late false is e =
+        record { not_before = omega arith; not_past = grind (arith, nat_tests) }
 
 later-are : (Ends Goes : Type 0) (h : Held) (told : Result ℕ WriteFault)
     (rest : AfterTurn told Ends Goes) (more : Goes → List DoneTurn)
@@ -42,15 +58,14 @@ module _ {L H W : Type 0} (step : L → Call → L → Type 0) (acts : H → Hos
   paused-held after next (inl same) = ap (λ (b : Serving L H). b.held) same
   paused-held after next (inr paused) = paused.2
 
-  is-turn : (line : Option (ℕ × List ℕ)) (before : Serving L H) (old : Writing W)
+  is-turn : (next : Next) (before : Serving L H) (old : Writing W)
       (after : Serving L H) (new : Writing W) (answer : Result ℕ WriteFault)
-      (goes : TurnGoes step acts contents asks line before old after new answer)
-      → IsTurn before.held (turn_in step acts contents asks line before old after new answer goes)
-  is-turn line before old after new answer goes = record {
+      (goes : TurnGoes step acts contents asks next before old after new answer)
+      → IsTurn before.held (turn_in step acts contents asks next before old after new answer goes)
+  is-turn next before old after new answer goes = record {
     all_read = goes.serves.all_read;
     all_offered = goes.serves.all_offered;
-    of_process = line-process (text_of_next line);
-    not_before = omega arith;
+    in_time = in-time goes.clock next.given before.held goes.right;
     commands = goes.serves.commands;
   }
 

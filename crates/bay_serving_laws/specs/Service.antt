@@ -13,16 +13,17 @@ use Rattle.bay_device.specs.Told.{told_all}
 use Rattle.bay_io.specs.Calls.{WriteCall}
 use Rattle.bay_io.specs.Watched.{Writing}
 use Rattle.bay_io.specs.declared.outbox.WriteFault.{WriteFault}
-use Rattle.bay_trace.specs.Trace.{NamedData}
 use Rattle.bay_replay.specs.History.{AllFresh, EachPast, answers_of, events_of}
 use Rattle.bay_serve.specs.Calls.{Call}
-use Rattle.bay_serve.specs.Served.{line_in}
+use Rattle.bay_serve.specs.Served.{event_in}
 use Rattle.bay_serve.specs.Turns.{Held, Script, after_turn, moment_at}
+use Rattle.bay_serve.specs.declared.process.ProcessEvent.{ProcessEvent}
 use Rattle.bay_serve.specs.declared.told.Turn.{Turn}
 use Rattle.bay_serve_laws.specs.Events.{ChosenEvent, turn_events}
-use Rattle.bay_serve_laws.specs.Flows.{IsOfProcess}
+use Rattle.bay_serve_laws.specs.Flows.{IsInTime}
 use Rattle.bay_serving.specs.Host.{HostCall}
-use Rattle.bay_serving.specs.ServeReport.{AfterTurn, Serving, ServesTurns, TurnGoes, text_of_next}
+use Rattle.bay_serving.specs.ServeReport.{AfterTurn, Serving, ServesTurns, TurnGoes}
+use Rattle.bay_serving.specs.declared.process.Next.{Next}
 
 -- ---- a server as it is made
 
@@ -33,11 +34,11 @@ pub record IsBegun (h : Held) : Type 0 where
 
 -- ---- turns
 
--- a turn that was done: its moment, what its line tells, what the link and the memory decided, and
--- what it told
+-- a turn that was done: its moment, what happened to the process, what the link and the memory
+-- decided, and what it told
 pub record DoneTurn : Type 0 where
   pub now : ℕ
-  pub line : Option NamedData
+  pub line : Option ProcessEvent
   pub script : Script
   pub told : Turn
 
@@ -50,13 +51,12 @@ abbrev pub held_after : List DoneTurn → Held → Held
 held_after [] h = h
 held_after (t ∷ ts) h = held_after ts (held_behind t h)
 
--- A turn was done on a server: the link answered to eight reads and eight offers, the line tells of
--- the process, the moment is not before the last, and the turn told the commands that it noted.
+-- A turn was done on a server: the link answered to eight reads and eight offers, the moment is not
+-- before the last nor too large, and the turn told the commands that it noted.
 pub record IsTurn (h : Held) (t : DoneTurn) : Type 0 where
   pub all_read : length t.script.readings ≡ 8
   pub all_offered : length t.script.offers ≡ 8
-  pub of_process : IsOfProcess t.line
-  pub not_before : h.device.moment ≤ t.now
+  pub in_time : IsInTime t.now h
   pub commands : t.told.commands ≡ (after_turn t.now t.line t.script h).noted.commands
 
 -- So was each, on what the turns before it left.
@@ -74,12 +74,12 @@ later_turns Ends Goes (Ok status) goes more = more goes
 
 module _ {L H W : Type 0} (step : L → Call → L → Type 0) (acts : H → HostCall L → H → Type 0)
     (contents : W → Option (List ℕ)) (asks : W → WriteCall → W → Type 0) where
-  abbrev pub turn_in : (line : Option (ℕ × List ℕ)) (before : Serving L H) (old : Writing W)
+  abbrev pub turn_in : (next : Next) (before : Serving L H) (old : Writing W)
       (after : Serving L H) (new : Writing W) (answer : Result ℕ WriteFault)
-      → TurnGoes step acts contents asks line before old after new answer → DoneTurn
-  turn_in line before old after new answer goes = record {
+      → TurnGoes step acts contents asks next before old after new answer → DoneTurn
+  turn_in next before old after new answer goes = record {
     now = moment_at goes.clock before.held;
-    line = line_in (text_of_next line);
+    line = event_in next.given;
     script = goes.serves.script;
     told = goes.turn;
   }

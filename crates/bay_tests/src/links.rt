@@ -138,8 +138,8 @@ fn link_of_two<'a, R: Runtime<A = Global> + Net<Listener = TcpListener, Stream =
     rt: &R,
     clock: &'a SetClock,
 ) -> Result<(TcpLink<'a, SetClock>, [TcpStream; 2]), Fail> {
-    let readiness = Readiness::new(rt, rt.alloc())?;
-    let mut link = TcpLink::bind(rt, clock, &readiness, 0)?;
+    let mut readiness = Readiness::new(rt, rt.alloc())?;
+    let mut link = TcpLink::bind(rt, clock, &mut readiness, 0)?;
     let first = client_of(rt, &link)?;
     let is_first = take(rt, &mut link, 1)?;
     let second = client_of(rt, &link)?;
@@ -189,11 +189,13 @@ fn waited(rt: &impl Clock, readiness: &mut Readiness, most: u64) -> Result<u128,
 #[test]
 fn a_wait_ends_where_a_socket_is_ready(rt: HostRuntime) -> Result<(), Fail> {
     let mut readiness = Readiness::new(&rt, rt.alloc())?;
-    let mut link = TcpLink::bind(&rt, &rt, &readiness, 0)?;
+    let mut link = TcpLink::bind(&rt, &rt, &mut readiness, 0)?;
+    assert_eq!(rt; link.accept(1), Ok(None));
     assert!(rt; waited(&rt, &mut readiness, 50)? >= 45);
+    assert_eq!(rt; link.accept(1), Ok(None));
     let stream = client_of(&rt, &link)?;
     assert!(rt; waited(&rt, &mut readiness, 30_000)? < 15_000);
-    assert!(rt; take(&rt, &mut link, 1)?);
+    assert!(rt; matches!(link.accept(1), Ok(Some(_))));
     waited(&rt, &mut readiness, 50)?;
     assert!(rt; waited(&rt, &mut readiness, 50)? >= 45);
     (&mut &stream).write_all(b"a")?;

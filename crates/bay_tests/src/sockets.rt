@@ -51,8 +51,8 @@ fn ask<R: Runtime<A = Global>>(
 pub fn link_at<R: Runtime<A = Global> + Net<Listener = TcpListener, Stream = TcpStream>>(
     rt: &R,
 ) -> Result<TcpLink<'_, R>, Fail> {
-    let readiness = Readiness::new(rt, rt.alloc())?;
-    Ok(TcpLink::bind(rt, rt, &readiness, 0)?)
+    let mut readiness = Readiness::new(rt, rt.alloc())?;
+    Ok(TcpLink::bind(rt, rt, &mut readiness, 0)?)
 }
 
 /// Connects a client to the server. Its calls do not block.

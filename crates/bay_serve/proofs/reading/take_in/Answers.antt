@@ -4,7 +4,7 @@ use Rattle.bay_serve.proofs.reading.take_in.Goals as goal
 
 pub returns-clause-takes : goal.returns-clause-takes
 returns-clause-takes c =
-    taken _ _ _ _ _ _ _ _ _ _ _ _ _ _ _ _ _ refl c.step.ensures.steps c.in-Ok.is c.step.ensures.queues
+    taken _ _ _ _ _ _ _ _ _ _ _ _ _ _ _ _ c.step.ensures.steps c.in-Ok.is c.step.ensures.queues
     c.leave_if_closed.ensures c.put_ended.ensures.after
     c.as_slice.ensures c.put_all.ensures.after c.as_slice-2.ensures c.tell_commands.ensures.after
     refl c.decide.ensures

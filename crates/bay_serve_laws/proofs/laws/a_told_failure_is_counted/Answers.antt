@@ -1,6 +1,5 @@
 use Rattle.std.proofs.Common.{ap, sym, ◌∙◌}
 use Rattle.bay_serve.specs.Turns.{turn_calls}
-use Rattle.bay_serve_laws.specs.Events.{HasNoOctets}
 use Rattle.bay_serve_laws.specs.Faults.{tells_failure}
 use Rattle.bay_serve_laws.proofs.BlameLemmas.{counts, only-failed}
 use Rattle.bay_serve_laws.proofs.PartLemmas.{Part-turn}
@@ -9,6 +8,6 @@ use Rattle.bay_serve_laws.proofs.laws.a_told_failure_is_counted.Goals as goal
 pub returns : goal.returns
 returns g c = λ old new now line before after turn serves told h.
     let calls = turn_calls now line serves.script before in
-    let whole = Part-turn (HasNoOctets line) now line serves.script before (λ q. q) in
+    let whole = Part-turn now line serves.script before in
     counts g.L.Link.does g.L.Link.failures old calls new serves.talks h
     (only-failed calls (whole.blames (sym (ap tells_failure serves.closed) ∙ told)))

@@ -1,4 +1,5 @@
 use Rattle.std.proofs.Common.{◌≤◌, ◌-◌}
+use Rattle.bay_serving.specs.Serving.{with_host}
 use Rattle.bay_serving.proofs.ServeLemmas.{Reached}
 use Rattle.bay_serve.specs.Calls.{Called}
 use Rattle.bay_serving.proofs.serving.serve_lines.Given as goal
@@ -7,16 +8,6 @@ abbrev pub invariant-loop-turn : goal.invariant-loop-turn
 invariant-loop-turn g l = record {
   within : l.turn ≤ l.turns;
   reached : Reached (Called g.L.Link.does g.L.Link.failures) g.H.Host.does g.W.Sink.contents
-      g.W.Sink.does
-      l.turns l.initial.lines
-      (record {
-        link = l.initial.link.link;
-        held = l.initial.server;
-        host = l.initial.host;
-        process = l.initial.process;
-      })
-      l.initial.writer
-      (l.turns - l.turn) l.lines
-      (record { link = l.link.link; held = l.server; host = l.host; process = l.process })
-      l.writer;
+      g.W.Sink.does l.turns l.initial.lines (with_host l.initial.served l.initial.host)
+      l.initial.writer (l.turns - l.turn) l.lines (with_host l.served l.host) l.writer;
 }

@@ -3,6 +3,6 @@ use Rattle.bay_serving.proofs.turns.tell_turn.Goals as goal
 pub returns : goal.returns
 returns g c = record {
   mid = c.log_turn.new.writer;
-  logged = rw c.octets_in.ensures at c.log_turn.ensures;
+  logged = c.log_turn.ensures;
   printed = c.print_turn.ensures;
 }

@@ -1,7 +1,7 @@
 use Rattle.std.proofs.Common.{◌≡◌, ap, rules}
 use Rattle.bay_serve.specs.Turns.{moment_at, turning}
 use Rattle.bay_serve.proofs.PartLemmas.{serves-as, serves-with}
-use Rattle.bay_serve.proofs.turn.serve_turn.Goals as goal
+use Rattle.bay_serve.proofs.turn.serve_event.Goals as goal
 
 pub returns-clause-ok : goal.returns-clause-ok
 returns-clause-ok g c =
@@ -12,4 +12,4 @@ returns-clause-ok g c =
     c.read_each.ensures
     c.tell_line.ensures.talks c.tell_line.ensures.after c.scan.ensures.talks c.scan.ensures.after
     c.offer_each.ensures c.into_turn.ensures)
-    now c.in_ok-line.ensures.ok
+    now (search rules)
