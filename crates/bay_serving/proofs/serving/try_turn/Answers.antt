@@ -38,8 +38,11 @@ returns-in_ok-attend_process-in-Ok g c =
     let now : c.max-moment.result ≡ moment_at c.now-clock.result c.args.served.now.server =
     search rules in (
       c.in_ok-attend_process-in-Ok.field-0,
-      rw (c.is_idle-was_idle.ensures.link, c.is_idle-was_idle.ensures.server,
-          c.is_idle-was_idle.ensures.process)
+      rw (
+        c.is_idle-was_idle.ensures.link,
+        c.is_idle-was_idle.ensures.server,
+        c.is_idle-was_idle.ensures.process,
+      )
           (turn-goes (λ busy. busy.link) g.L.Link.does g.L.Link.failures g.H.Host.does
           g.W.Sink.contents g.W.Sink.does _ _ _ _ _ _ _ _ _ _ _ _ _ _ _ _ _ _
           now
