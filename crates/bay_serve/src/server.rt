@@ -36,6 +36,7 @@ pub struct Server {
 impl Model for Server {
     ghost use Rattle.bay_serve.specs.Turns.{Held};
     ghost use Rattle.std.specs.Coded.{codes};
+    ghost use Rattle.std.specs.Prelude.{◌≡◌, length};
 
     ghost Value = { Held };
 

@@ -6,8 +6,7 @@
 // ASK VIEW` and `MS cancel A K`, whose answer is `ok` or the number of the cause; `MS advance`,
 // whose answer is the place of the switch whose execution ran out, or `none`; `contact K POSITION`,
 // whether it ends the execution; `close A`, which ends the association's selection; `selected`, the
-// place of the selected switch, or `none`; `keep`, which keeps a copy of the controls, and
-// `restore`, which goes on with it.
+// place of the selected switch, or `none`.
 //
 // An ASK is `POSITION,CATEGORY/IDENTITY` with `on` or `off` and the identity's octets, and `,test`
 // for a test. A VIEW is the position, `fresh` or `stale`, and EnaOpn and EnaCls, as `01`.
@@ -117,13 +116,12 @@ fn table_of(alloc: Global, controls: &str) -> Result<ControlTable> {
     Ok(ControlTable::new(&bay))
 }
 
-/// The controls of a bay, and a copy of them that was kept.
+/// The controls of a bay.
 #[derive(Drop)]
 pub struct ControlSession {
     alloc: Global,
     table: ControlTable,
     controls: Controls,
-    kept: Option<Controls>,
 }
 
 impl ControlSession {
@@ -133,7 +131,6 @@ impl ControlSession {
             alloc,
             table: table_of(alloc, "status")?,
             controls: Controls::new(),
-            kept: None,
         })
     }
 
@@ -150,12 +147,14 @@ impl ControlSession {
             ("cancel", []) => self.controls.cancel(table, association, switch, now),
             ("select-with", [ask]) => {
                 let ask = ask_of(self.alloc, ask)?;
-                self.controls.select_with(table, association, switch, ask, now)
+                self.controls
+                    .select_with(table, association, switch, ask, now)
             }
             ("operate", [ask, position, age, released]) => {
                 let ask = ask_of(self.alloc, ask)?;
                 let view = view_of(position, age, released)?;
-                self.controls.operate(table, association, switch, ask, view, now)
+                self.controls
+                    .operate(table, association, switch, ask, view, now)
             }
             _ => bail!("there is no request {what}"),
         })
@@ -178,19 +177,11 @@ impl ControlSession {
         Ok(format!(in self.alloc; "{ends}")?)
     }
 
-    /// Answers `restore`.
-    fn restore(&mut self) -> Result<()> {
-        self.controls = self.kept.take().context("nothing was kept")?;
-        Ok(())
-    }
-
     /// Answers a question.
     fn answer(&mut self, words: &[&str]) -> Result<String> {
         match words {
             ["selected"] => return Ok(place_text(self.alloc, self.controls.selected())?),
             ["contact", switch, position] => return self.contact(switch, position),
-            ["keep"] => self.kept = Some(self.controls),
-            ["restore"] => self.restore()?,
             ["close", association] => self.controls.drop_owner(association.parse::<u16>()?),
             [moment, rest @ ..] => return self.timed(moment, rest),
             [] => bail!("no question"),
@@ -203,7 +194,6 @@ impl ControlSession {
         if let ("bay", controls) = first_word(line) {
             self.table = table_of(self.alloc, controls)?;
             self.controls = Controls::new();
-            self.kept = None;
             return Ok(());
         }
         let (question, wanted) = line.split_once(" -> ").context("no answer")?;
