@@ -284,7 +284,7 @@ module _ {L H W : Type 0} (step : L → Call → L → Type 0) (acts : H → Hos
       (given : Next) (lines-after : List (ℕ × List ℕ))
       (process-after : Option (Hearing L))
       (same : given ≡ (chosen here.held.device rest here.process).next)
-      (dropped : lines-after ≡ (chosen here.held.device rest here.process).nexts)
+      (dropped : lines-after ≡ (chosen here.held.device rest here.process).lines)
       (left-as : process-after ≡ (chosen here.held.device rest here.process).process) where
     -- what is served as the turn begins
     abbrev pub there : Serving L H

@@ -218,5 +218,5 @@ module _ {L H W : Type 0} (step : L → Call → L → Type 0) (acts : H → Hos
       told
       × AfterTurn told ((host ≡ after.host) × (new ≡ mid) × (answer ≡ told))
       ((next : Serving L H) × MayPause acts after next
-      × ServesTurns turns (chosen before.held.device lines before.process).nexts next mid host new
+      × ServesTurns turns (chosen before.held.device lines before.process).lines next mid host new
       answer))

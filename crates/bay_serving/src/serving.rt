@@ -17,6 +17,7 @@ use bay_io::outbox::WriteFault;
 use bay_io::writer::WatchedWriter;
 use bay_report::output::Status;
 use bay_serve::link::Link;
+use bay_serve::process::Given;
 use bay_serve::server::Server;
 use bay_serve::turn::serve_event;
 
@@ -38,14 +39,15 @@ struct Served<L> {
 }
 
 impl<L> Served<L> {
-    /// Whether a turn, which was given an event or not, left nothing to do at once.
-    fn is_idle(&mut self, had_event: bool) -> bool
+    /// Whether a turn left nothing to do at once, given what it was given.
+    fn is_idle(&mut self, given: Given) -> bool
         ensures server { self.new.server ≡ self.old.server }
         ensures link { self.new.link.link ≡ self.old.link.link }
         ensures process { self.new.process ≡ self.old.process }
     {
         let was_link_busy = self.link.was_busy();
         let was_process_busy = was_busy(&mut self.process);
+        let had_event = matches!(given, Ok(Some(_)));
         !was_link_busy && !was_process_busy && !had_event
     }
 }
@@ -68,7 +70,7 @@ fn try_turn<L: Link, H: Host<L>, W: Sink>(
             let device = served.server.device();
             tell_turn(writer, device, moment, &next.shown, &turn)?;
             attend_process(&mut served.process, device, moment, &turn, writer)?;
-            let was_idle = served.is_idle(matches!(next.given, Ok(Some(_))));
+            let was_idle = served.is_idle(next.given);
             Ok(Tried::Done { was_idle })
         }
         Err(fault) => {

@@ -194,10 +194,10 @@ received-words (word ∷ octets) d e =
       only-text octets_of octets xs.0 (λ w h. octets-text w xs.0 h) xs.1,
     )
 
-association-text : (word : List ℕ) (words : List (List ℕ)) (d : NamedData)
+association_event-text : (word : List ℕ) (words : List (List ℕ)) (d : NamedData)
     → association_event_of word words ≡ Some d
     → AreText (word ∷ words)
-association-text word words d e =
+association_event-text word words d e =
     verb word (codes "open") words _ _ d refl (association-words connects words d)
     (verb word (codes "close") words _ _ d refl (association-words disconnects words d)
     (verb word (codes "recv") words _ None d refl (received-words words d) (λ none. absurd cc)))
@@ -210,7 +210,7 @@ event-text (word ∷ []) d e =
 event-text (word ∷ name ∷ words) d e = by_test (is_association_verb word) refl
   where
     by_test : (v : Bool) → is_association_verb word ≡ v → AreText (word ∷ name ∷ words)
-    by_test true is = association-text word (name ∷ words) d (rw is at e)
+    by_test true is = association_event-text word (name ∷ words) d (rw is at e)
     by_test false is =
         let parts : Parts (λ n. named_of word n words) (name_of name) d =
         and_then _ (name_of name) d (rw is at e) in

@@ -1,4 +1,4 @@
 use Rattle.bay_serving.proofs.log_lines.log_bad_line.Goals as goal
 
 pub returns : goal.returns
-returns g c = rw (c.as_slice.ensures, c.new-line.ensures) at c.log.ensures
+returns g c = rw c.as_slice.ensures at c.log.ensures
