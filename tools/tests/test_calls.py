@@ -17,6 +17,8 @@ FOR_USERS = {
     'replay_run',  # a replay between any reader and any writer
     'scan',  # a scan with a list of inputs and of outputs
     'scan_ranges',  # what a scan may leave, without limits on timers
+    'serve_turn',  # a turn with a line of text
+    'tree',  # the tree of a device's values
     'write_type', 'write_value',  # the text of a type, and of a value
 }
 OUTSIDE = re.compile(r'//.*|^\s*ghost .*$', re.M)

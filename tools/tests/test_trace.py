@@ -95,9 +95,9 @@ class Reading(unittest.TestCase):
             borne = Resolver(Promise(PAGES[1], '', 1, '', by, ('bay_device',))).resolved()
             return {it.title: labels for it, labels in borne.calls.items()}, borne.unknown
         self.assertEqual(resolved('`step` and `run`: `commanded`; at most one: `single`, with '
-                                  '`load`: `timed`'),
+                                  '`load`: `idle`'),
                          ({'Device::step': {'commanded', 'single'},
-                           'Device::run': {'commanded', 'single'}, 'load': {'timed'}}, []))
+                           'Device::run': {'commanded', 'single'}, 'load': {'idle'}}, []))
         self.assertEqual(resolved('`no_such_call`, `load`: `no_such_label`'),
                          ({'load': set()}, ['no_such_call', 'no_such_label']))
 
