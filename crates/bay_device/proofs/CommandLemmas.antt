@@ -5,7 +5,7 @@ use Rattle.bay_tree.specs.declared.leaf.Dbpos.{Dbpos}
 use Rattle.bay_nodes.specs.declared.switch.Switch.{Switch}
 use Rattle.bay_config.specs.declared.bay.MeterField.{MeterField}
 use Rattle.bay_control.specs.Decisions as control
-use Rattle.bay_connection.specs.Talk.{Indication, answers, tells, releases, ends as ends-heard, fails, Talk, Terms, indications, left_by, sending}
+use Rattle.bay_connection.specs.Talk.{Indication, answers, tells, releases, ends as ends-heard, fails, Talk, Terms, indications, sending}
 use Rattle.bay_services.specs.Answers.{pdu_answer}
 use Rattle.bay_services.specs.Released.{AreTimed, Leaves}
 use Rattle.bay_services.specs.Released as services
@@ -14,13 +14,12 @@ use Rattle.bay_services.proofs.ReleaseLemmas.{Sole, all-of, answer-sent, at-most
 use Rattle.bay_device.specs.Commands.{AreCommanded, CommandedAt, IsReleasedAt, IsSingle}
 use Rattle.bay_device.specs.Device.{State, device_at, bay_of, ended_at, is_recent}
 use Rattle.bay_device.specs.Hearing.{Done, AllHeard, client_at, after_indications, on_heard, after_pdu, sent_on, with_sent}
-use Rattle.bay_device.specs.Outcomes.{Outcome, close_outcome, connection_at, contact_outcome, event_outcome, input_outcome, first_talk, last_moment, measure_outcome, nothing_done, octets_outcome, open_outcome, place_of, quiet_step, recv_after, recv_outcome, with_connection, without_owner}
+use Rattle.bay_device.specs.Outcomes.{Outcome, close_outcome, connection_at, contact_outcome, event_outcome, input_outcome, last_moment, measure_outcome, nothing_done, octets_outcome, open_outcome, place_of, quiet_step, recv_outcome}
 use Rattle.bay_device.specs.Steps.{Steps}
 use Rattle.bay_device.specs.declared.event.Event.{Event}
 use Rattle.bay_device.specs.declared.event.Event.TheVariants.{Open, Recv, Close, Contact, Input, Measure, Scan}
 use Rattle.bay_device.specs.declared.event.Sent.{Sent}
 use Rattle.bay_device.specs.declared.event.Step.{Step}
-use Rattle.bay_device.specs.declared.event.Why.{Why}
 use Rattle.bay_device.specs.declared.fault.StepFault.{StepFault}
 
 -- what a device notes of its scans, and its inputs, which no client changes

@@ -1,5 +1,5 @@
 -- Behind each command is a fresh scan, by what the process told after each event since.
-use Rattle.std.proofs.Common.{◌≡◌, ◌≢◌, ◌≤◌, ◌+◌, ◌-◌, ℕ, ℤ, Bool, true, false, not, ◌||◌, cond, nat_lt, List, [], ◌∷◌, ◌++◌, All, map, slice_get, slice_set, unwrap_or, Option, None, Some, Result, Ok, Err, IfOk, IsOk, refl, ap, ap₂, sym, ◌∙◌, subst, arith}
+use Rattle.std.proofs.Common.{◌≡◌, ◌≢◌, ◌≤◌, ◌+◌, ◌-◌, ℕ, ℤ, Bool, true, false, not, cond, nat_lt, List, [], ◌∷◌, ◌++◌, All, map, slice_get, slice_set, unwrap_or, Option, None, Some, Result, Ok, Err, IfOk, IsOk, refl, ap, ap₂, sym, ◌∙◌, subst, arith}
 use Rattle.std.specs.Bool.{beq}
 use Rattle.std.specs.List.{AllByRecursion}
 use Rattle.std.proofs.lemmas.Bool.{and_parts, leb-true, or_parts, not-false, not-true}

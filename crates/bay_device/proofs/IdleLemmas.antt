@@ -13,7 +13,6 @@ use Rattle.il_compile.specs.Compiled.{compiled_of}
 use Rattle.il_compile.specs.declared.fault.CompileFault.{CompileFault}
 use Rattle.il_image.specs.Images.{Image}
 use Rattle.il_image.specs.declared.fault.ImageFault.{ImageFault}
-use Rattle.bay_control.specs.Decisions.{controls_of}
 use Rattle.bay_device.specs.Device.{State}
 use Rattle.bay_device.specs.Entries.{IsIdle}
 use Rattle.bay_device.specs.Load.{IsCompiled, IsLoaded, LoadsRead, initial_device, of_bay, of_checked, of_compiled}

@@ -1,5 +1,5 @@
 -- What is made of an answer.
-use Rattle.std.proofs.Common.{◌≡◌, ◌≤◌, ℕ, suc, All, List, [], ◌∷◌, ◌++◌, length, map, take, Option, Some, None, IsSome, IfSome, Result, Ok, Err, refl, ap, ap₂, ◌∙◌, arith}
+use Rattle.std.proofs.Common.{◌≡◌, ℕ, List, [], ◌∷◌, ◌++◌, length, map, take, Option, Some, None, IsSome, IfSome, Result, Ok, Err, refl, ap, ap₂, ◌∙◌}
 use Rattle.std.specs.Result.{IfOk, OnOk}
 use Rattle.bay_assoc.specs.declared.hearing.AssociationTerms.{AssociationTerms}
 use Rattle.bay_connection.specs.Talk.{Terms, sending}

@@ -1,6 +1,5 @@
 -- A run, event by event.
-use Rattle.std.proofs.Common.{◌≡◌, ℕ, List, [], ◌∷◌, ◌++◌, All, length, None, Option, Result, refl, subst, sym, append_assoc, append-nil}
-use Rattle.std.specs.List.{AllByRecursion}
+use Rattle.std.proofs.Common.{◌≡◌, ℕ, List, [], ◌∷◌, ◌++◌, length, None, Option, Result, refl, subst, sym, append_assoc, append-nil}
 use Rattle.bay_connection.specs.Talk.{Talk}
 use Rattle.bay_control.specs.Backing.{AreBacked}
 use Rattle.bay_control.specs.Happenings.{Leads}
@@ -8,7 +7,6 @@ use Rattle.bay_control.proofs.BackingLemmas.{all-backed}
 use Rattle.bay_control.proofs.LeadsLemmas.{none-leads, two-lead}
 use Rattle.bay_services.specs.Accepted.{AreNamedAlike}
 use Rattle.bay_services.specs.Bay.{Bay}
-use Rattle.bay_services.proofs.ReleaseLemmas.{all-of}
 use Rattle.bay_device.specs.Device.{State, bay_of}
 use Rattle.bay_device.specs.Entries.{opens}
 use Rattle.bay_device.specs.Operates.{AllOperate}

@@ -1,5 +1,5 @@
 -- When a device issues a command.
-use Rattle.std.specs.Prelude.{ℕ, ◌≡◌, ◌≢◌, ◌≤◌, true, List, [], length, All, None, Result, IfOk}
+use Rattle.std.specs.Prelude.{ℕ, ◌≡◌, ◌≢◌, ◌≤◌, true, [], length, All, None, Result, IfOk}
 use Rattle.bay_tree.specs.Rows.{leaf_of}
 use Rattle.bay_process.specs.Values.{is_truth}
 use Rattle.bay_control.specs.Decisions as control

@@ -3,7 +3,7 @@ use Rattle.std.proofs.Math.ListN.{drop_of_length-le}
 use Rattle.std.proofs.lemmas.Grind.{common_steps}
 use Rattle.std.proofs.lemmas.List.Elements.{All-nil, All-push}
 use Rattle.bay_device.specs.Commands.{IsSingle}
-use Rattle.bay_device.specs.Device.{State, bay_of}
+use Rattle.bay_device.specs.Device.{bay_of}
 use Rattle.bay_device.specs.Meaning.{Runs}
 use Rattle.bay_device.specs.declared.event.Event.{Event}
 use Rattle.bay_device.specs.declared.event.Event.TheVariants.{Open}
