@@ -1,5 +1,5 @@
 -- Lemmas on serving files.
-use Rattle.std.proofs.Common.{◌≡◌, ℕ, IsErr, List, Result, Ok, Err, refl}
+use Rattle.std.proofs.Common.{◌≡◌, ℕ, IsErr, List, Option, Result, Ok, Err, refl}
 use Rattle.bay_device.specs.Device.{State}
 use Rattle.bay_device.specs.Report.{IsReport}
 use Rattle.bay_device.specs.declared.report.Report.{Report}
@@ -49,7 +49,7 @@ module _ {L H W : Type 0} (step : L → Call → L → Type 0) (acts : H → Hos
         done = done;
         are = refl;
         run =
-            service-of step acts contents asks turns lines before old host new answer serves
+            service-of step acts contents asks turns lines before old new host answer serves
             begun.loaded;
         ordered = ordered-from before.held done begun are;
         printed = printed-from before.held done begun ids are;

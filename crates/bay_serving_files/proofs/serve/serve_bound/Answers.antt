@@ -8,5 +8,5 @@ returns g c = (
   c.log_start.new.writer,
   c.log_start.ensures,
   one-run (Called g.L.Link.does g.L.Link.failures) g.H.Host.does g.W.Sink.contents g.W.Sink.does _
-      _ _ _ _ _ _ c.serve_turns.ensures c.args.requires.begun c.args.requires.named,
+      _ _ _ _ _ _ c.serve_turns.ensures c.requires.begun c.requires.named,
 )

@@ -35,7 +35,7 @@ returns g c = record {
   goes_on = record {
     bound = Err c.in-Err.why;
     host = c.bind_ports.new.host;
-    binds = c.in-Err.ensures;
+    binds = c.in-Err.ensures.binds;
     goes_on = (c.tell_unserved.ensures, refl);
   };
 }
