@@ -226,8 +226,7 @@ impl ServedBay {
         requires { controls.old ≡ self.now.controls }
         ensures { IfOk result (λ answer. AnswersAs answer (controls_left self.now controls.new)
             (bay_view self.now)
-            (write_asked client id (bay_view self.now) (map naming names.now) (data_in values.now)))
-                }
+            (write_asked client id (bay_view self.now) (map naming names.now) (data_in values.now))) }
     {
         let mut done = Written {
             response: WriteResponse::new(alloc),

@@ -141,8 +141,7 @@ impl ServedBay {
         requires { IsHandle self.now.tree part.row }
         ensures { OnOk result (reports.new.items
             ≡ reports.old.items ++ refusal_reports client part.switch
-            (name_at self.now.tree part.row) (cancelling control.now) (bay_view self.now) (Err why))
-                }
+            (name_at self.now.tree part.row) (cancelling control.now) (bay_view self.now) (Err why)) }
     {
         if !self.has_reports(part.switch) {
             return Ok(());
