@@ -1,8 +1,8 @@
 -- Lemmas on lines that a turn can take.
-use Rattle.std.proofs.Common.{◌≡◌, ℕ, Bool, true, false, not, ◌&&◌, ◌==◌, List, [], ◌∷◌, length, Option, None, Some, is_none, is_some, option_and_then, unwrap_or, Ok, refl, sym, ap, ◌∙◌, subst, arith}
+use Rattle.std.proofs.Common.{◌≡◌, ℕ, true, false, ◌==◌, List, [], ◌∷◌, length, Option, None, Some, is_none, is_some, option_and_then, Ok, refl, sym, ◌∙◌, arith}
 use Rattle.std.proofs.lemmas.Bool.Decides.{nat_tests}
 use Rattle.bay_device.specs.Device.{State}
-use Rattle.bay_serve.specs.Served.{line_of, process_event, told_by, understood}
+use Rattle.bay_serve.specs.Served.{process_event, told_by, understood}
 use Rattle.bay_serve.specs.declared.process.ProcessEvent.{ProcessEvent}
 use Rattle.bay_trace.specs.Trace.{LineData, NamedData, blank, at_moment, connects, receives, disconnects, contact, input, measure, scan, process_of, trace_line_of}
 use Rattle.bay_trace.specs.Trace as trace
