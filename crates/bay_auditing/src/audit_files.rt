@@ -27,10 +27,10 @@ use bay_rules::rule::Rule;
 use il_verify::verify::Verified;
 use std::alloc::{AllocError, Global};
 
-/// The most passes over the code for one rule.
+// The most passes over the code for one rule.
 const PASSES: u32 = 10_000;
 
-/// The lines behind a load's line, the exit status, and why rules are refused, if they are.
+// The lines behind a load's line, the exit status, and why rules are refused, if they are.
 #[derive(Drop)]
 struct Said {
     text: Vec<u8>,
@@ -38,7 +38,7 @@ struct Said {
     refused: Option<RuleFault>,
 }
 
-/// Returns the lines of the answers to rules.
+// Returns the lines of the answers to rules.
 fn answers_said(
     alloc: Global,
     bay: &Bay,
@@ -69,7 +69,7 @@ fn answers_said(
     })
 }
 
-/// Returns the line of rules that are refused.
+// Returns the line of rules that are refused.
 fn refusal_said(alloc: Global, fault: RuleFault) -> Result<Said, AllocError>
     ensures { IfOk result
         (λ said. SaysRefused fault said.refused said.text.items (code_of said.status)) }
@@ -85,7 +85,7 @@ fn refusal_said(alloc: Global, fault: RuleFault) -> Result<Said, AllocError>
     })
 }
 
-/// Returns what is printed for a text of rules.
+// Returns what is printed for a text of rules.
 fn rules_said(
     alloc: Global,
     bay: &Bay,
@@ -104,7 +104,7 @@ fn rules_said(
     }
 }
 
-/// Reads once more the bay of a file that was loaded.
+// Reads once more the bay of a file that was loaded.
 fn bay_again(alloc: Global, octets: &[u8]) -> Result<Bay, AllocError>
     requires { is_ok (file_of octets.now) ≡ true }
     ensures { IfOk result (λ bay. file_of octets.now ≡ Ok bay) }
@@ -119,7 +119,7 @@ fn bay_again(alloc: Global, octets: &[u8]) -> Result<Bay, AllocError>
     }
 }
 
-/// Returns what is printed behind the line of a load.
+// Returns what is printed behind the line of a load.
 fn device_said(
     alloc: Global,
     both: &BothFiles,
@@ -136,7 +136,7 @@ fn device_said(
     rules_said(alloc, &bay, device.verified(), form, program, rules)
 }
 
-/// Logs why rules are refused, if they are.
+// Logs why rules are refused, if they are.
 fn log_refused<W: Sink>(writer: &mut WatchedWriter<W>, refused: Option<RuleFault>)
     ensures { LogsSome W.contents W.does writer.old (log_in refused) writer.new }
 {
@@ -157,8 +157,8 @@ fn log_refused<W: Sink>(writer: &mut WatchedWriter<W>, refused: Option<RuleFault
     ]);
 }
 
-/// Writes the line of a load and the text behind it, and then logs why rules are refused, if they
-/// are.
+// Writes the line of a load and the text behind it, and then logs why rules are refused, if they
+// are.
 fn write_said<W: Sink>(
     writer: &mut WatchedWriter<W>,
     report: Report,
@@ -178,7 +178,7 @@ fn write_said<W: Sink>(
     Ok(status)
 }
 
-/// Writes the line of a device's load, and the answers to a text of rules.
+// Writes the line of a device's load, and the answers to a text of rules.
 fn audit_device<W: Sink>(
     alloc: Global,
     both: &BothFiles,
@@ -205,7 +205,7 @@ fn audit_device<W: Sink>(
     }
 }
 
-/// Loads what was read, and answers a text of rules.
+// Loads what was read, and answers a text of rules.
 fn audit_octets<W: Sink>(
     alloc: Global,
     both: &BothFiles,
@@ -223,7 +223,7 @@ fn audit_octets<W: Sink>(
     }
 }
 
-/// Reads the rules, and answers them for what was read.
+// Reads the rules, and answers them for what was read.
 fn audit_both<F: FileSystem, W: Sink>(
     alloc: Global,
     both: &BothFiles,

@@ -34,7 +34,7 @@ impl<'a> Model for Names<'a> {
 }
 
 impl<'a> Names<'a> {
-    /// Adds the name of a variable or a timer.
+    // Adds the name of a variable or a timer.
     fn add(&mut self, declared: &Declaration<'a>) -> Result<(), AllocError> {
         match (declared.scope, declared.kind) {
             (Scope::External, _) => {}

@@ -14,21 +14,21 @@ use bay_tree::leaf::Dbpos;
 use itoa::Buffer;
 use std::alloc::AllocError;
 
-/// Adds a number.
+// Adds a number.
 fn put_number(text: &mut Vec<u8>, number: u64) -> Result<(), AllocError>
     ensures { OnOk result (text.new.items ≡ text.old.items ++ decimal number) }
 {
     text.extend_from_slice(Buffer::new().format(number).as_bytes())
 }
 
-/// Adds a number with its sign.
+// Adds a number with its sign.
 fn put_signed(text: &mut Vec<u8>, number: i64) -> Result<(), AllocError>
     ensures { OnOk result (text.new.items ≡ text.old.items ++ signed_decimal number) }
 {
     text.extend_from_slice(Buffer::new().format(number).as_bytes())
 }
 
-/// Adds the digit of a position that a switch may have, behind a bar if another stands before it.
+// Adds the digit of a position that a switch may have, behind a bar if another stands before it.
 fn put_position(
     text: &mut Vec<u8>,
     may_be: bool,
@@ -47,7 +47,7 @@ fn put_position(
     text.extend_from_slice(digit)
 }
 
-/// Adds the positions that a switch may have.
+// Adds the positions that a switch may have.
 fn put_positions(text: &mut Vec<u8>, case: &Case, switch: usize) -> Result<(), AllocError>
     ensures { OnOk result
         (text.new.items ≡ text.old.items ++ spec.positions_text case.now switch) }
@@ -62,7 +62,7 @@ fn put_positions(text: &mut Vec<u8>, case: &Case, switch: usize) -> Result<(), A
     put_position(text, bad, intermediate || off || on, b"3")
 }
 
-/// Whether a switch may have each position.
+// Whether a switch may have each position.
 fn is_any_position(case: &Case, switch: usize) -> bool
     ensures { result ≡ spec.is_any_position case.now switch }
 {
@@ -72,7 +72,7 @@ fn is_any_position(case: &Case, switch: usize) -> bool
         && case.may_be(switch, Dbpos::Bad)
 }
 
-/// Adds ` NAME=`.
+// Adds ` NAME=`.
 fn put_name(text: &mut Vec<u8>, name: &str) -> Result<(), AllocError>
     ensures { OnOk result (text.new.items ≡ text.old.items ++ spec.name_text name.now) }
 {
@@ -81,7 +81,7 @@ fn put_name(text: &mut Vec<u8>, name: &str) -> Result<(), AllocError>
     text.extend_from_slice(b"=")
 }
 
-/// Adds what a case says of the switch with this id.
+// Adds what a case says of the switch with this id.
 fn put_known(text: &mut Vec<u8>, case: &Case, switch: usize, id: &str) -> Result<(), AllocError>
     ensures { OnOk result
         (text.new.items ≡ text.old.items ++ spec.known_text case.now switch id.now) }
@@ -93,7 +93,7 @@ fn put_known(text: &mut Vec<u8>, case: &Case, switch: usize, id: &str) -> Result
     put_positions(text, case, switch)
 }
 
-/// Adds what a case says of a switch.
+// Adds what a case says of a switch.
 fn put_switch(text: &mut Vec<u8>, bay: &Bay, case: &Case, switch: usize) -> Result<(), AllocError>
     ensures { OnOk result (text.new.items ≡ text.old.items
         ++ spec.switch_text case.now switch (slice_get bay.now.switches switch)) }
@@ -104,7 +104,7 @@ fn put_switch(text: &mut Vec<u8>, bay: &Bay, case: &Case, switch: usize) -> Resu
     }
 }
 
-/// Adds what a case says of an input.
+// Adds what a case says of an input.
 fn put_input(text: &mut Vec<u8>, case: &Case, input: usize, name: &str) -> Result<(), AllocError>
     ensures { OnOk result
         (text.new.items ≡ text.old.items ++ spec.input_text case.now input name.now) }
@@ -118,7 +118,7 @@ fn put_input(text: &mut Vec<u8>, case: &Case, input: usize, name: &str) -> Resul
     text.extend_from_slice(digit)
 }
 
-/// Adds a range of numbers.
+// Adds a range of numbers.
 fn put_range(text: &mut Vec<u8>, low: i64, high: i64) -> Result<(), AllocError>
     ensures { OnOk result (text.new.items ≡ text.old.items ++ spec.range_text low high) }
 {
@@ -130,7 +130,7 @@ fn put_range(text: &mut Vec<u8>, low: i64, high: i64) -> Result<(), AllocError>
     put_signed(text, high)
 }
 
-/// Adds what a case says of a measured value.
+// Adds what a case says of a measured value.
 fn put_measure(
     text: &mut Vec<u8>,
     case: &Case,
@@ -150,8 +150,8 @@ fn put_measure(
     put_range(text, low, high)
 }
 
-/// Adds what a case says of what a point stands for. What is said of a switch stands at its
-/// position.
+// Adds what a case says of what a point stands for. What is said of a switch stands at its
+// position.
 fn put_point(text: &mut Vec<u8>, bay: &Bay, case: &Case, point: &Point) -> Result<(), AllocError>
     ensures { OnOk result
         (text.new.items ≡ text.old.items ++ spec.point_text bay.now case.now point.now) }
@@ -180,7 +180,7 @@ pub fn put_case(text: &mut Vec<u8>, bay: &Bay, case: &Case) -> Result<(), AllocE
     Ok(())
 }
 
-/// Adds the name at an index, or else a word and the index.
+// Adds the name at an index, or else a word and the index.
 fn put_named(
     text: &mut Vec<u8>,
     names: &[&str],
@@ -200,7 +200,7 @@ fn put_named(
     }
 }
 
-/// Adds the name of a slot: that of a point, or of a variable.
+// Adds the name of a slot: that of a point, or of a variable.
 fn put_slot(text: &mut Vec<u8>, names: &Names<'_>, slot: usize) -> Result<(), AllocError>
     ensures { OnOk result
         (text.new.items ≡ text.old.items ++ spec.slot_text names.now slot) }
@@ -217,7 +217,7 @@ fn put_slot(text: &mut Vec<u8>, names: &Names<'_>, slot: usize) -> Result<(), Al
     )
 }
 
-/// Adds what a release hangs on: ` by` and the names of points, variables and timers.
+// Adds what a release hangs on: ` by` and the names of points, variables and timers.
 fn put_kept(text: &mut Vec<u8>, names: &Names<'_>, kept: &Kept) -> Result<(), AllocError>
     ensures { OnOk result
         (text.new.items ≡ text.old.items ++ spec.kept_text names.now kept.now) }
@@ -232,7 +232,7 @@ fn put_kept(text: &mut Vec<u8>, names: &Names<'_>, kept: &Kept) -> Result<(), Al
     Ok(())
 }
 
-/// Adds the front of the line of a rule's answer.
+// Adds the front of the line of a rule's answer.
 fn put_front(text: &mut Vec<u8>, rule: &Rule, word: &[u8]) -> Result<(), AllocError>
     ensures { OnOk result
         (text.new.items ≡ text.old.items ++ spec.front_text rule.now.line word.now) }
@@ -242,7 +242,7 @@ fn put_front(text: &mut Vec<u8>, rule: &Rule, word: &[u8]) -> Result<(), AllocEr
     text.extend_from_slice(word)
 }
 
-/// Adds what an answer says behind the line of its rule.
+// Adds what an answer says behind the line of its rule.
 fn put_said(
     text: &mut Vec<u8>,
     bay: &Bay,
@@ -278,7 +278,7 @@ fn put_said(
     }
 }
 
-/// Adds the line of a rule's answer.
+// Adds the line of a rule's answer.
 fn put_answer(
     text: &mut Vec<u8>,
     bay: &Bay,
@@ -313,7 +313,7 @@ pub fn put_answers(
     Ok(())
 }
 
-/// Adds a word and what a case says.
+// Adds a word and what a case says.
 fn put_word(text: &mut Vec<u8>, bay: &Bay, word: &[u8], case: &Case) -> Result<(), AllocError>
     ensures { OnOk result
         (text.new.items ≡ text.old.items ++ (word.now ++ spec.case_text bay.now case.now)) }
@@ -322,7 +322,7 @@ fn put_word(text: &mut Vec<u8>, bay: &Bay, word: &[u8], case: &Case) -> Result<(
     put_case(text, bay, case)
 }
 
-/// Adds what is told of a release in a case.
+// Adds what is told of a release in a case.
 fn put_told(
     text: &mut Vec<u8>,
     bay: &Bay,
@@ -342,7 +342,7 @@ fn put_told(
     }
 }
 
-/// Adds the line of a case of a release.
+// Adds the line of a case of a release.
 fn put_told_line(
     text: &mut Vec<u8>,
     bay: &Bay,
@@ -356,7 +356,7 @@ fn put_told_line(
     text.extend_from_slice(b"\n")
 }
 
-/// Adds the number of the cases of a release and the line of each.
+// Adds the number of the cases of a release and the line of each.
 fn put_cases(
     text: &mut Vec<u8>,
     bay: &Bay,
@@ -375,7 +375,7 @@ fn put_cases(
     Ok(())
 }
 
-/// Adds the lines of a release of the switch with this id.
+// Adds the lines of a release of the switch with this id.
 fn put_release(
     text: &mut Vec<u8>,
     bay: &Bay,
@@ -397,7 +397,7 @@ fn put_release(
     }
 }
 
-/// Adds the lines of a release, if the bay has its switch.
+// Adds the lines of a release, if the bay has its switch.
 fn put_release_of(
     text: &mut Vec<u8>,
     bay: &Bay,
@@ -456,7 +456,7 @@ pub fn fault_words(fault: RuleFault) -> &'static [u8]
     }
 }
 
-/// Whether an answer leaves its rule unbroken: it holds, or has a time and was not asked.
+// Whether an answer leaves its rule unbroken: it holds, or has a time and was not asked.
 fn is_passed(answer: &Answer) -> bool
     ensures { result ≡ spec.is_passed answer.now }
 {

@@ -60,7 +60,7 @@ pub enum ReservedWord {
     False,
 }
 
-/// All reserved words in upper case, each once.
+// All reserved words in upper case, each once.
 const RESERVED_WORDS: [(&str, ReservedWord); 47] = [
     ("LD", ReservedWord::Ld),
     ("LDN", ReservedWord::Ldn),
@@ -111,14 +111,14 @@ const RESERVED_WORDS: [(&str, ReservedWord); 47] = [
     ("FALSE", ReservedWord::False),
 ];
 
-/// Returns all reserved words with their spellings.
+// Returns all reserved words with their spellings.
 fn reserved_words() -> &'static [(&'static str, ReservedWord)]
     ensures { map (λ entry. (entry.0.now, entry.1)) result.now ≡ spec.reserved_words }
 {
     &RESERVED_WORDS
 }
 
-/// Returns the first entry whose spelling is the given word.
+// Returns the first entry whose spelling is the given word.
 fn entry_of<'a>(
     entries: &'a [(&'static str, ReservedWord)],
     text: &str,
@@ -128,7 +128,7 @@ fn entry_of<'a>(
     entries.iter().find(|entry| same_name(text, entry.0))
 }
 
-/// Returns the reserved word of an entry.
+// Returns the reserved word of an entry.
 fn word_of(entry: Option<&(&'static str, ReservedWord)>) -> Option<ReservedWord>
     ensures { result ≡ option_map (λ one. one.1) (option_copied entry.entry) }
 {

@@ -31,7 +31,7 @@ impl Outgoing {
         Outgoing { octets, first: 0 }
     }
 
-    // Octets from a place on; those before it are room.
+    /// Octets from a place on; those before it are room.
     pub(crate) fn behind(octets: Vec<u8>, first: usize) -> Self
         requires { first ≤ length octets.items }
         ensures { result ≡ drop first octets.items }

@@ -30,7 +30,7 @@ pub fn is_known(known: &[&str], key: &str) -> bool
     known.iter().any(|one| key == *one)
 }
 
-/// Returns whether any key of the table is unknown.
+// Returns whether any key of the table is unknown.
 fn has_unknown_key(table: &Table, known: &[&str]) -> bool
     ensures { result ≡ list_any
         (λ key. not (list_any (λ k. bytes_eq (string_bytes key) k.now) known.now))

@@ -10,7 +10,7 @@ ghost use Rattle.bay_config.specs.Section.{list_checks};
 use crate::fault::BayFault;
 use toml::Value;
 
-/// Returns whether each value is a table.
+// Returns whether each value is a table.
 fn are_tables(values: &[Value]) -> bool
     ensures { result ≡ list_all (λ v. is_some (as_table (view v))) values.now }
 {

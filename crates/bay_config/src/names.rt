@@ -26,7 +26,7 @@ pub enum NameSection {
 }
 
 impl NameSection {
-    /// Returns the key of the section.
+    // Returns the key of the section.
     fn name(self) -> &'static str
         ensures { result.now ≡ section_name self }
     {
@@ -36,7 +36,7 @@ impl NameSection {
         }
     }
 
-    /// Returns the only key of each of its tables.
+    // Returns the only key of each of its tables.
     fn key(self) -> &'static str
         ensures { result.now ≡ name_key self }
     {
@@ -46,7 +46,7 @@ impl NameSection {
         }
     }
 
-    /// Returns the keys of each of its tables.
+    // Returns the keys of each of its tables.
     fn keys(self) -> &'static [&'static str]
         ensures { map (λ k. k.now) result.now ≡ name_key self ∷ [] }
     {
@@ -56,7 +56,7 @@ impl NameSection {
         }
     }
 
-    /// Returns the most tables that the section may have.
+    // Returns the most tables that the section may have.
     fn most(self) -> usize
         ensures { result ≡ most_names self }
     {
@@ -67,7 +67,7 @@ impl NameSection {
     }
 }
 
-/// Reads the name in a table.
+// Reads the name in a table.
 fn name_from(alloc: Global, table: &Table, which: NameSection) -> Result<Text, BayFault>
     ensures { let t = table_view table.now in
         Gives OutOfMemory (λ x. x) result
@@ -77,7 +77,7 @@ fn name_from(alloc: Global, table: &Table, which: NameSection) -> Result<Text, B
     identifier_at(alloc, table, which.key(), 16)
 }
 
-/// Reads the names in the tables of a list.
+// Reads the names in the tables of a list.
 fn names_from(
     alloc: Global,
     values: &[Value],
@@ -98,8 +98,8 @@ fn names_from(
     Ok(Listing::new(names))
 }
 
-/// Reads the names in a list. Refuses a list with too many values, or with a value that is not a
-/// table.
+// Reads the names in a list. Refuses a list with too many values, or with a value that is not a
+// table.
 fn names_of(alloc: Global, values: &[Value], which: NameSection) -> Result<Listing<Text>, BayFault>
     ensures { let items = items_view values.now in
         Gives OutOfMemory (λ x. x) result

@@ -9,7 +9,7 @@ use bay_nodes::names as names;
 use bay_nodes::names::{CONTROL, INTERLOCKING, METER, class_of, is_breaker, is_of};
 use std::alloc::{AllocError, Global};
 
-/// Counts the switches that are breakers, or those that are not.
+// Counts the switches that are breakers, or those that are not.
 fn count_of(switches: &[Switch], breakers: bool) -> usize
     ensures counted { result ≡ length (filter (is_of breakers) switches.now) }
     ensures bounded { result ≤ length switches.now }

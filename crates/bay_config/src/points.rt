@@ -15,7 +15,7 @@ use bay_base::types::ElementaryType;
 use bay_base::words::reserved_word;
 use std::alloc::{AllocError, Global};
 
-/// Adds a point. Its name is `id` in upper case followed by `ending`.
+// Adds a point. Its name is `id` in upper case followed by `ending`.
 fn push_point(
     alloc: Global,
     points: &mut Vec<Point>,
@@ -45,7 +45,7 @@ fn push_point(
     Ok(())
 }
 
-/// Adds the points with the position of a switch, which the program reads.
+// Adds the points with the position of a switch, which the program reads.
 fn push_position(
     alloc: Global,
     points: &mut Vec<Point>,
@@ -97,7 +97,7 @@ fn push_position(
     Ok(())
 }
 
-/// Adds the points that allow a switch to move, which the program writes.
+// Adds the points that allow a switch to move, which the program writes.
 fn push_enables(
     alloc: Global,
     points: &mut Vec<Point>,
@@ -135,7 +135,7 @@ fn push_enables(
     Ok(())
 }
 
-/// Adds the points of the switch at an index.
+// Adds the points of the switch at an index.
 fn push_points(
     alloc: Global,
     points: &mut Vec<Point>,
@@ -151,7 +151,7 @@ fn push_points(
     Ok(())
 }
 
-/// Adds the points of the switches, in their order.
+// Adds the points of the switches, in their order.
 fn push_switches(
     alloc: Global,
     points: &mut Vec<Point>,
@@ -165,7 +165,7 @@ fn push_switches(
     Ok(())
 }
 
-/// Adds the points of the inputs, which the program reads.
+// Adds the points of the inputs, which the program reads.
 fn push_inputs(alloc: Global, points: &mut Vec<Point>, inputs: &[Text]) -> Result<(), AllocError>
     ensures { IfOk result (λ _. points.new.items ≡ points.old.items ++ inputs_from 0 inputs.now) }
 {
@@ -183,7 +183,7 @@ fn push_inputs(alloc: Global, points: &mut Vec<Point>, inputs: &[Text]) -> Resul
     Ok(())
 }
 
-/// Adds the point of one field of a meter.
+// Adds the point of one field of a meter.
 fn push_field(
     alloc: Global,
     points: &mut Vec<Point>,
@@ -207,7 +207,7 @@ fn push_field(
     )
 }
 
-/// Adds the points of the meter at an index, which the program reads.
+// Adds the points of the meter at an index, which the program reads.
 fn push_meter(
     alloc: Global,
     points: &mut Vec<Point>,
@@ -225,7 +225,7 @@ fn push_meter(
     Ok(())
 }
 
-/// Adds the points of the meters, in their order.
+// Adds the points of the meters, in their order.
 fn push_meters(alloc: Global, points: &mut Vec<Point>, meters: &[Text]) -> Result<(), AllocError>
     ensures { IfOk result (λ _. points.new.items ≡ points.old.items ++ meters_from 0 meters.now) }
 {
@@ -251,14 +251,14 @@ pub fn points_of(
     Ok(Listing::new(points))
 }
 
-/// Returns whether a point has this name.
+// Returns whether a point has this name.
 fn has_name(points: &[Point], name: &str) -> bool
     ensures { result ≡ list_any (λ p. bytes_eq name.now p.name) points.now }
 {
     points.iter().any(|point| name == point.name.as_str())
 }
 
-/// Returns whether two points have the same name.
+// Returns whether two points have the same name.
 fn has_twin(points: &[Point]) -> bool
     ensures { result ≡ spec.has_twin (map (λ p. p.name) points.now) }
 {
@@ -272,7 +272,7 @@ fn has_twin(points: &[Point]) -> bool
     false
 }
 
-/// Returns whether a point has the name of a reserved word.
+// Returns whether a point has the name of a reserved word.
 fn has_reserved_name(points: &[Point]) -> bool
     ensures { result ≡ list_any (λ p. is_some (reserved_of p.name)) points.now }
 {

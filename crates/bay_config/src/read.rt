@@ -27,7 +27,7 @@ use bay_tree::row::Row;
 use std::alloc::Global;
 use toml::Table;
 
-/// What the sections of a file say.
+// What the sections of a file say.
 #[derive(Drop)]
 struct Sections {
     nameplate: Nameplate,
@@ -36,7 +36,7 @@ struct Sections {
     meters: Listing<Text>,
 }
 
-/// Reads the sections of a file, in their order.
+// Reads the sections of a file, in their order.
 fn sections_at(alloc: Global, file: &Table) -> Result<Sections, BayFault>
     ensures { let f = table_view file.now in
         Gives OutOfMemory (λ x. x) result
@@ -62,15 +62,15 @@ fn sections_at(alloc: Global, file: &Table) -> Result<Sections, BayFault>
     })
 }
 
-/// What is derived from the sections: the points of the program and the rows of the tree.
+// What is derived from the sections: the points of the program and the rows of the tree.
 #[derive(Drop)]
 struct Lists {
     points: Listing<Point>,
     rows: Listing<Row>,
 }
 
-/// Returns the points and the rows. Refuses two points of the same name, and a point with the name
-/// of a reserved word.
+// Returns the points and the rows. Refuses two points of the same name, and a point with the name
+// of a reserved word.
 fn lists_of(alloc: Global, sections: &Sections) -> Result<Lists, BayFault>
     ensures { let s = sections.now in let points = points_of_all s.switches s.inputs s.meters in
         Gives OutOfMemory (λ x. x) result
@@ -85,7 +85,7 @@ fn lists_of(alloc: Global, sections: &Sections) -> Result<Lists, BayFault>
     Ok(Lists { points, rows })
 }
 
-/// Makes a bay of sections and lists.
+// Makes a bay of sections and lists.
 fn bay_with(sections: Sections, lists: Lists) -> Bay
     ensures { let n = sections.nameplate in result ≡ record {
       domain = n.domain;
@@ -120,7 +120,7 @@ fn bay_with(sections: Sections, lists: Lists) -> Bay
     }
 }
 
-/// Reads the bay from the table of a file.
+// Reads the bay from the table of a file.
 fn bay_from(alloc: Global, file: &Table) -> Result<Bay, BayFault>
     ensures read { Gives OutOfMemory (λ x. x) result (bay_of_table (table_view file.now)) }
     ensures sound { IfOk result IsBay }
@@ -130,10 +130,10 @@ fn bay_from(alloc: Global, file: &Table) -> Result<Bay, BayFault>
     Ok(bay_with(sections, lists))
 }
 
-/// The most octets of a bay file.
+// The most octets of a bay file.
 const MAX_OCTETS: usize = 262_144;
 
-/// Parses the table of a bay file. Does not parse a text that is too long.
+// Parses the table of a bay file. Does not parse a text that is too long.
 #[tactic(auto, unfolding(crate::specs::Bay::document_of))]
 fn document_at(alloc: Global, text: &str) -> Result<Table, BayFault>
     ensures { Gives OutOfMemory table_view result (ok_or (document_of text.now) BadToml) }

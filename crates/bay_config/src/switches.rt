@@ -18,7 +18,7 @@ use bay_base::listing::Listing;
 use std::alloc::Global;
 use toml::{Table, Value};
 
-/// Returns the kind of switch that a word names.
+// Returns the kind of switch that a word names.
 fn kind_named(word: &str) -> Option<SwitchKind>
     ensures { result ≡ value_named kinds word.now }
 {
@@ -30,7 +30,7 @@ fn kind_named(word: &str) -> Option<SwitchKind>
     }
 }
 
-/// Returns the kind of control that a word names.
+// Returns the kind of control that a word names.
 fn control_named(word: &str) -> Option<Control>
     ensures { result ≡ value_named controls word.now }
 {
@@ -61,7 +61,7 @@ fn kind_at(table: &Table) -> Result<SwitchKind, BayFault>
     }
 }
 
-/// Returns the kind of control in a table, if it can be read.
+// Returns the kind of control in a table, if it can be read.
 fn readable_control(table: &Table) -> Option<Control>
     ensures { result ≡ control_of (table_view table.now) }
 {
@@ -93,7 +93,7 @@ fn control_at(table: &Table) -> Result<Control, BayFault>
     }
 }
 
-/// Returns the names of the keys of a switch with this control.
+// Returns the names of the keys of a switch with this control.
 fn switch_key_names(control: Option<Control>) -> &'static [&'static str]
     ensures { map (λ k. k.now) result.now
         ≡ codes "id" ∷ codes "kind" ∷ codes "control" ∷ map (λ k. k.name) (time_keys control) }
@@ -111,7 +111,7 @@ fn switch_key_names(control: Option<Control>) -> &'static [&'static str]
     }
 }
 
-/// Reads how long a selection lasts and how long the switch may travel.
+// Reads how long a selection lasts and how long the switch may travel.
 fn both_times_at(table: &Table) -> Result<(u32, u32), BayFault>
     ensures { let t = table_view table.now in
         result ≡ unless_refused (first_of (map (key_refusal t) (sbo_timeout_key ∷ travel_key ∷ [])))
@@ -122,8 +122,8 @@ fn both_times_at(table: &Table) -> Result<(u32, u32), BayFault>
     Ok((sbo_timeout_ms, travel_ms))
 }
 
-/// Reads how long a selection lasts and how long the switch may travel; 0 if the control excludes
-/// the key.
+// Reads how long a selection lasts and how long the switch may travel; 0 if the control excludes
+// the key.
 fn times_at(table: &Table, control: Control) -> Result<(u32, u32), BayFault>
     requires known { has_unknown (map (λ k. k.name) (switch_keys (table_view table.now)))
         (table_view table.now) ≡ false }
@@ -143,7 +143,7 @@ fn times_at(table: &Table, control: Control) -> Result<(u32, u32), BayFault>
     }
 }
 
-/// Reads the switch in a table.
+// Reads the switch in a table.
 fn switch_from(alloc: Global, table: &Table) -> Result<Switch, BayFault>
     ensures { let t = table_view table.now in
         Gives OutOfMemory (λ x. x) result
@@ -163,7 +163,7 @@ fn switch_from(alloc: Global, table: &Table) -> Result<Switch, BayFault>
     })
 }
 
-/// Reads the switches in the tables of a list.
+// Reads the switches in the tables of a list.
 fn switches_from(alloc: Global, values: &[Value]) -> Result<Listing<Switch>, BayFault>
     ensures { let tables = tables_of (items_view values.now) in
         Gives OutOfMemory (λ x. x) result
@@ -180,7 +180,7 @@ fn switches_from(alloc: Global, values: &[Value]) -> Result<Listing<Switch>, Bay
     Ok(Listing::new(switches))
 }
 
-/// Reads the switches in a list, which must have 1 to 32 values, each a table.
+// Reads the switches in a list, which must have 1 to 32 values, each a table.
 fn switches_of(alloc: Global, values: &[Value]) -> Result<Listing<Switch>, BayFault>
     ensures { let items = items_view values.now in
         Gives OutOfMemory (λ x. x) result

@@ -32,7 +32,7 @@ impl SwitchControl {
 impl Default for SwitchControl {
     ghost is_default = { λ c. c ≡ no_control };
 
-    /// Returns the control of a switch that has none.
+    // Returns the control of a switch that has none.
     fn default() -> Self {
         SwitchControl {
             model: Control::Status,

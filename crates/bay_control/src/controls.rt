@@ -37,7 +37,7 @@ impl Controls {
         }
     }
 
-    /// Returns whether the association has selected the switch.
+    // Returns whether the association has selected the switch.
     fn is_selected_by(&self, association: u16, switch: usize) -> bool
         ensures { result ≡ spec.is_selected_by association switch self.now.selection }
     {
@@ -46,7 +46,7 @@ impl Controls {
             .is_some_and(|s| s.association == association && s.switch == switch)
     }
 
-    /// Returns whether a select with value was granted for what is asked for.
+    // Returns whether a select with value was granted for what is asked for.
     fn is_chosen(&self, ask: &Ask) -> bool
         ensures { result ≡ spec.is_chosen (asked_choice ask.now) self.now.selection }
     {
@@ -61,14 +61,14 @@ impl Controls {
         }
     }
 
-    /// Returns whether the switch is operating.
+    // Returns whether the switch is operating.
     fn is_executing(&self, switch: usize) -> bool
         ensures { result ≡ spec.is_executing switch self.now.execution }
     {
         self.execution.is_some_and(|e| e.switch == switch)
     }
 
-    /// Returns whether the selection has expired.
+    // Returns whether the selection has expired.
     fn is_selection_over(&self, table: &ControlTable, now: u64) -> bool
         ensures { (if result then None else self.now.selection)
             ≡ selection_at now table.now self.now.selection }
@@ -82,7 +82,7 @@ impl Controls {
         }
     }
 
-    /// Returns the execution that still lasts at a time.
+    // Returns the execution that still lasts at a time.
     fn lasting_execution(&self, table: &ControlTable, now: u64) -> Option<Execution>
         ensures { result ≡ execution_at now table.now self.now.execution }
     {
@@ -109,7 +109,7 @@ impl Controls {
         self.end(table, now)
     }
 
-    /// Ends what has expired, and returns the switch whose execution has.
+    // Ends what has expired, and returns the switch whose execution has.
     #[inline(never)]
     fn end(&mut self, table: &ControlTable, now: u64) -> Option<usize>
         ensures run_out { result ≡ run_out now table.now self.old.execution }
@@ -127,8 +127,8 @@ impl Controls {
         }
     }
 
-    /// Refuses a select, with value or without, that the current state of the controls does not
-    /// allow.
+    // Refuses a select, with value or without, that the current state of the controls does not
+    // allow.
     fn check_select(
         &self,
         is_supported: bool,
@@ -217,7 +217,7 @@ impl Controls {
         Ok(())
     }
 
-    /// Refuses an operate that the current state of the controls or the view does not allow.
+    // Refuses an operate that the current state of the controls or the view does not allow.
     fn check_operate(
         &self,
         table: &ControlTable,

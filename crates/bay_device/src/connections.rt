@@ -26,7 +26,7 @@ impl Model for Connections {
     ghost invariant = { λ c. AreEight (talks c.places) };
 }
 
-/// Returns the lowest place without a connection.
+// Returns the lowest place without a connection.
 fn free_place_in(places: &[Option<Connection>; ASSOCIATIONS]) -> Option<usize>
     ensures lowest { result ≡ position is_none places.now }
     ensures within { IfSome result (λ place. place < 8) }
@@ -34,7 +34,7 @@ fn free_place_in(places: &[Option<Connection>; ASSOCIATIONS]) -> Option<usize>
     places.iter().position(|place| place.is_none())
 }
 
-/// Removes and returns the connection at a place.
+// Removes and returns the connection at a place.
 fn take_at(places: &mut [Option<Connection>; ASSOCIATIONS], place: usize) -> Option<Connection>
     requires { place < 8 }
     ensures value { result ≡ slice_index_or places.old place None }
@@ -43,7 +43,7 @@ fn take_at(places: &mut [Option<Connection>; ASSOCIATIONS], place: usize) -> Opt
     places[place].take()
 }
 
-/// Puts a connection, or none, at a place.
+// Puts a connection, or none, at a place.
 fn put_at(
     places: &mut [Option<Connection>; ASSOCIATIONS],
     place: usize,

@@ -19,7 +19,7 @@ pub struct Due {
     pub negative: Option<Outgoing>,
 }
 
-/// Returns what is sent to an association, if there are octets.
+// Returns what is sent to an association, if there are octets.
 fn sent_to(association: u16, octets: Option<Outgoing>) -> Option<Sent>
     ensures { result ≡ spec.sent_to association octets }
 {

@@ -26,7 +26,7 @@ pub enum LoadFault {
     OutOfMemory,
 }
 
-/// Returns the fault with a number at a line; want of memory alone has no number.
+// Returns the fault with a number at a line; want of memory alone has no number.
 fn fault_of(code: Option<u8>, line: usize) -> LoadFault
     ensures { result ≡ spec.fault_of code line }
 {

@@ -56,8 +56,8 @@ use il_verify::verify::{Verified, verify};
 use std::alloc::{AllocError, Global};
 use std::mem::replace;
 
-/// Returns the rows of the controls of `count` switches in a tree, and makes the tree show that
-/// none is selected.
+// Returns the rows of the controls of `count` switches in a tree, and makes the tree show that
+// none is selected.
 fn shown_rows(
     alloc: Global,
     tree: &mut Tree,
@@ -84,7 +84,7 @@ pub struct BoundBay {
     pub told: ToldValues,
 }
 
-/// Takes the items out of a list, which is empty afterwards. Does not allocate.
+// Takes the items out of a list, which is empty afterwards. Does not allocate.
 fn take_items<T>(alloc: Global, list: &mut Listing<T>) -> Vec<T>
     ensures value { result.items ≡ list.old }
     ensures after { list.new ≡ [] }
@@ -92,7 +92,7 @@ fn take_items<T>(alloc: Global, list: &mut Listing<T>) -> Vec<T>
     replace(list, Listing::new(Vec::new(alloc))).into_vec()
 }
 
-/// Makes a bay with nothing selected, whose switches and meters are bound to the rows of its tree.
+// Makes a bay with nothing selected, whose switches and meters are bound to the rows of its tree.
 fn bound_bay(alloc: Global, mut bay: Box<Bay>, writes: &[Source]) -> Result<BoundBay, AllocError>
     requires { IsTimedBay bay.value }
     ensures { IfOk result (IsBoundBay bay.value writes.now) }
@@ -133,7 +133,7 @@ fn bound_bay(alloc: Global, mut bay: Box<Bay>, writes: &[Source]) -> Result<Boun
     })
 }
 
-/// Makes the state of a device from a bay and a verified image, before its first event.
+// Makes the state of a device from a bay and a verified image, before its first event.
 fn state_of(
     alloc: Global,
     bay: Box<Bay>,
@@ -174,7 +174,7 @@ fn state_of(
     Ok(state)
 }
 
-/// Makes the device from a bay and a verified image.
+// Makes the device from a bay and a verified image.
 fn device_of(alloc: Global, bay: Box<Bay>, verified: Verified) -> Result<Device, AllocError>
     requires bay { IsTimedBay bay.value }
     requires verified { IsVerified bay.value.points verified }
@@ -184,7 +184,7 @@ fn device_of(alloc: Global, bay: Box<Bay>, verified: Verified) -> Result<Device,
     Device::of_state(alloc, state)
 }
 
-/// Verifies the image for these points.
+// Verifies the image for these points.
 fn verified_for(alloc: Global, image: Image, points: &[Point]) -> Result<Verified, LoadFault>
     ensures same { IfOk result (λ verified. verified ≡ image) }
     ensures accepted { IfOk result (λ verified. IsVerified points.now image) }
@@ -199,7 +199,7 @@ fn verified_for(alloc: Global, image: Image, points: &[Point]) -> Result<Verifie
     }
 }
 
-/// Makes the device from a bay and a checked program.
+// Makes the device from a bay and a checked program.
 fn load_checked(alloc: Global, bay: Box<Bay>, typed: Typed) -> Result<Device, LoadFault>
     requires bay { IsTimedBay bay.value }
     requires checked { (program : PlainProgram)
@@ -214,7 +214,7 @@ fn load_checked(alloc: Global, bay: Box<Bay>, typed: Typed) -> Result<Device, Lo
     Ok(device)
 }
 
-/// Makes the device from a bay and a program.
+// Makes the device from a bay and a program.
 fn load_program(alloc: Global, bay: Box<Bay>, program: &Program<'_>) -> Result<Device, LoadFault>
     requires { IsTimedBay bay.value }
     ensures device { Gives OutOfMemory (λ device. device) result
@@ -227,7 +227,7 @@ fn load_program(alloc: Global, bay: Box<Bay>, program: &Program<'_>) -> Result<D
     load_checked(alloc, bay, typed)
 }
 
-/// Reads the program in a text. A text reads as exactly one program or one fault.
+// Reads the program in a text. A text reads as exactly one program or one fault.
 fn program_in<'a>(alloc: Global, logic: &'a str) -> Result<Program<'a>, TextFault>
     ensures ok { IfOk result (λ program. program_of logic.now ≡ Ok (plain_program program)) }
     ensures refused { IfErr result
@@ -237,7 +237,7 @@ fn program_in<'a>(alloc: Global, logic: &'a str) -> Result<Program<'a>, TextFaul
     Ok(program)
 }
 
-/// Makes the device from a bay and the text of a program.
+// Makes the device from a bay and the text of a program.
 fn load_text(alloc: Global, bay: Box<Bay>, logic: &str) -> Result<Device, LoadFault>
     requires { IsTimedBay bay.value }
     ensures device { Gives OutOfMemory (λ device. device) result
@@ -250,7 +250,7 @@ fn load_text(alloc: Global, bay: Box<Bay>, logic: &str) -> Result<Device, LoadFa
     load_program(alloc, bay, &program)
 }
 
-/// Makes the device from the texts of a bay file and a program, stage by stage.
+// Makes the device from the texts of a bay file and a program, stage by stage.
 fn load_texts(alloc: Global, bay: &str, logic: &str) -> Result<Device, LoadFault>
     ensures device { Gives OutOfMemory (λ device. device) result
         (of_bay (bay_of bay.now) (program_of logic.now)) }
@@ -287,7 +287,7 @@ pub fn load(alloc: Global, bay: &str, logic: &str) -> Result<Device, LoadFault>
     load_texts(alloc, bay, logic)
 }
 
-/// Makes the device from a bay and an image.
+// Makes the device from a bay and an image.
 fn load_decoded(alloc: Global, bay: Box<Bay>, image: Image) -> Result<Device, LoadFault>
     requires { IsTimedBay bay.value }
     ensures ok { IfOk result (λ device. LoadsImage bay.value image (Ok device)) }
@@ -298,7 +298,7 @@ fn load_decoded(alloc: Global, bay: Box<Bay>, image: Image) -> Result<Device, Lo
     Ok(device)
 }
 
-/// Makes the device from a bay and the octets of an image.
+// Makes the device from a bay and the octets of an image.
 fn load_octets(alloc: Global, bay: Box<Bay>, image: &[u8]) -> Result<Device, LoadFault>
     requires { IsTimedBay bay.value }
     ensures ok { IfOk result (λ device. LoadsRead bay.value (image_spelled image.now) (Ok device)) }

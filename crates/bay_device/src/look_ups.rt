@@ -15,7 +15,7 @@ use bay_process::switch::Enabled;
 use bay_tree::leaf::Dbpos;
 use bay_tree::tree::Tree;
 
-/// Returns the interlocking values that the tree holds.
+// Returns the interlocking values that the tree holds.
 fn enabled_at(tree: &Tree, rows: &SwitchRows) -> Enabled
     requires { AreSwitchRows (layout_of tree.now) rows.now }
     ensures may_open { result.may_open

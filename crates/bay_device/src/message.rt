@@ -44,7 +44,7 @@ impl Made {
     }
 }
 
-/// Returns the octets that send a report, if there is one.
+// Returns the octets that send a report, if there is one.
 fn framed(connection: &Connection, report: Option<Outgoing>) -> Result<Option<Outgoing>, AllocError>
     requires { IsSome (association_terms connection.now.talk.phase) }
     ensures { IfOk result (λ octets. octets ≡ sending_if (terms_of connection.now.talk) report) }
@@ -58,7 +58,7 @@ fn framed(connection: &Connection, report: Option<Outgoing>) -> Result<Option<Ou
     }
 }
 
-/// Returns what will report to an association the end of what it operates.
+// Returns what will report to an association the end of what it operates.
 fn due_of(connection: &Connection, association: u16, ending: Ending) -> Result<Due, AllocError>
     requires { IsSome (association_terms connection.now.talk.phase) }
     ensures { IfOk result (λ due. due
@@ -73,7 +73,7 @@ fn due_of(connection: &Connection, association: u16, ending: Ending) -> Result<D
     })
 }
 
-/// Like `due_of`, or `None` if the association operates nothing whose end is reported.
+// Like `due_of`, or `None` if the association operates nothing whose end is reported.
 fn due_if(
     connection: &Connection,
     association: u16,
@@ -92,7 +92,7 @@ fn due_if(
     }
 }
 
-/// Replaces what is due by what is due for a new execution, if there is one.
+// Replaces what is due by what is due for a new execution, if there is one.
 fn replace_due(due: &mut Option<Due>, new: Option<Due>)
     ensures { due.new ≡ later_due due.old new }
 {
@@ -101,7 +101,7 @@ fn replace_due(due: &mut Option<Due>, new: Option<Due>)
     }
 }
 
-/// Sends these PDUs on an association.
+// Sends these PDUs on an association.
 fn send_all(
     connection: &Connection,
     association: u16,
@@ -124,9 +124,9 @@ fn send_all(
     Ok(())
 }
 
-/// Adds the PDUs of an answer to what is sent, its commands to those to issue, and its decisions.
-/// Returns what will report the end of what it operates. If an allocation fails, more may have been
-/// added.
+// Adds the PDUs of an answer to what is sent, its commands to those to issue, and its decisions.
+// Returns what will report the end of what it operates. If an allocation fails, more may have been
+// added.
 fn reply(
     connection: &Connection,
     association: u16,
@@ -158,8 +158,8 @@ fn reply(
     due_if(connection, association, answer.ending)
 }
 
-/// Answers a PDU. `controls` becomes the controls after it. Changes nothing else but what is made:
-/// if an allocation fails, more may have been added to it.
+// Answers a PDU. `controls` becomes the controls after it. Changes nothing else but what is made:
+// if an allocation fails, more may have been added to it.
 fn answer(
     alloc: Global,
     state: &DeviceState,
@@ -185,7 +185,7 @@ fn answer(
     reply(connection, client.association, answer, made)
 }
 
-/// Puts in what an answered PDU does: the controls after it, and what is due of a new execution.
+// Puts in what an answered PDU does: the controls after it, and what is due of a new execution.
 fn put_in(state: &mut DeviceState, controls: Controls, due: Option<Due>)
     ensures { (connections : List (Option Talk))
         → state_view connections state.new

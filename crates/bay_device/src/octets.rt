@@ -24,7 +24,7 @@ impl From<AllocError> for Why {
     }
 }
 
-/// Sends octets on an association.
+// Sends octets on an association.
 fn send(association: u16, octets: Vec<u8>, made: &mut Made) -> Result<(), AllocError>
     ensures ok { OnOk result
         (made.new.sent.items ≡ made.old.sent.items ++ sent_on association octets.items ∷ []) }
@@ -40,7 +40,7 @@ fn send(association: u16, octets: Vec<u8>, made: &mut Made) -> Result<(), AllocE
     Ok(())
 }
 
-/// Handles what an association received, or returns why the association has to be closed.
+// Handles what an association received, or returns why the association has to be closed.
 fn hear(
     alloc: Global,
     now: u64,
@@ -84,8 +84,8 @@ fn hear(
     }
 }
 
-/// Takes octets up to the end of the first thing that they complete and handles it, or takes all of
-/// them. Returns how many it took.
+// Takes octets up to the end of the first thing that they complete and handles it, or takes all of
+// them. Returns how many it took.
 fn turn(
     alloc: Global,
     now: u64,

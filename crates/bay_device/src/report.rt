@@ -17,7 +17,7 @@ pub struct Report {
     pub budget: u32,
 }
 
-/// Counts the instructions in code.
+// Counts the instructions in code.
 fn instruction_count(code: &[u8]) -> u32
     requires code { IsCode code.now }
     requires size { length code.now ≤ 65_535 }

@@ -29,7 +29,7 @@ use bay_services::bay::ServedBay;
 use bay_tree::leaf::Dbpos;
 use il_scan::machine::Machine;
 
-/// Returns the first, or the later if there is no first.
+// Returns the first, or the later if there is no first.
 fn or_else(first: Option<Sent>, later: Option<Sent>) -> Option<Sent>
     ensures { result ≡ spec_outcomes.or_else first later }
 {
@@ -39,8 +39,8 @@ fn or_else(first: Option<Sent>, later: Option<Sent>) -> Option<Sent>
     }
 }
 
-/// Runs the program once on the current positions, inputs and measured values. Returns the number
-/// of its steps.
+// Runs the program once on the current positions, inputs and measured values. Returns the number
+// of its steps.
 fn run_program(
     machine: &mut Machine,
     bay: &ServedBay,
@@ -98,7 +98,7 @@ impl DeviceState {
         }
     }
 
-    /// Takes the position of the switch at an index, and reports the execution that it ends.
+    // Takes the position of the switch at an index, and reports the execution that it ends.
     fn take_contact(&mut self, now: u64, switch: usize, position: Dbpos) -> Option<Sent>
         requires { switch < length self.old.bay.switches }
         ensures sent { (connections : List (Option Talk))

@@ -9,7 +9,7 @@ use bay_base::text::Text;
 use bay_process::meter::BoundMeter;
 use bay_process::switch::BoundSwitch;
 
-/// The number of keys.
+// The number of keys.
 const KEYS: usize = 64;
 
 /// Something that has a name.
@@ -47,7 +47,7 @@ impl Named for BoundMeter {
     }
 }
 
-/// Returns the key of a name. The case of its letters does not change the key.
+// Returns the key of a name. The case of its letters does not change the key.
 fn key_of(name: &str) -> usize
     ensures key { result ≡ spec.key_of name.now }
     ensures within { result < 64 }
@@ -59,8 +59,8 @@ fn key_of(name: &str) -> usize
     key
 }
 
-/// Returns whether two names are the same, ignoring the case of their letters. The usual case of
-/// the same spelling is fast.
+// Returns whether two names are the same, ignoring the case of their letters. The usual case of
+// the same spelling is fast.
 fn is_named(own: &str, name: &str) -> bool
     ensures { result ≡ same_name own.now name.now }
 {
@@ -74,7 +74,7 @@ pub struct NameTable {
 }
 
 impl NameTable {
-    /// Records that a name with this key is at a place.
+    // Records that a name with this key is at a place.
     fn note(&mut self, key: usize, place: usize)
         requires { key < 64 }
         ensures { self.new.firsts ≡ with_place_of key place self.old.firsts }

@@ -14,13 +14,13 @@ use std::rt::Files;
 use std::{fs, io};
 use thiserror::Error;
 
-/// The most octets that a bay file, a program or an image may have.
+// The most octets that a bay file, a program or an image may have.
 const FILE_LIMIT: usize = 16_777_216;
 
-/// How many temporary names are tried next to the file being written.
+// How many temporary names are tried next to the file being written.
 const TRIES: u32 = 100;
 
-/// How many links are followed to a file that is written, as the system does.
+// How many links are followed to a file that is written, as the system does.
 const LINKS: u32 = 40;
 
 /// Why writing a file failed.
@@ -157,7 +157,7 @@ impl<'a, R: Files> SystemFiles<'a, R> {
     }
 }
 
-/// Converts an error of the system to a fault of reading.
+// Converts an error of the system to a fault of reading.
 fn read_fault(error: &io::Error) -> ReadFault {
     if error.kind() == ErrorKind::OutOfMemory {
         ReadFault::OutOfMemory
@@ -166,7 +166,7 @@ fn read_fault(error: &io::Error) -> ReadFault {
     }
 }
 
-/// Converts an error of the system to a fault of writing.
+// Converts an error of the system to a fault of writing.
 fn file_fault(error: &io::Error) -> FileFault {
     if error.kind() == ErrorKind::OutOfMemory {
         FileFault::OutOfMemory
@@ -175,7 +175,7 @@ fn file_fault(error: &io::Error) -> FileFault {
     }
 }
 
-/// Where a name leads.
+// Where a name leads.
 #[derive(Drop)]
 struct Target {
     /// The name behind all links.
@@ -185,7 +185,7 @@ struct Target {
 }
 
 impl<R: Files> SystemFiles<'_, R> {
-    /// Returns where a link leads, from the folder that it is in.
+    // Returns where a link leads, from the folder that it is in.
     fn led_by(&self, alloc: Global, link: &PathBuf) -> Result<PathBuf, FileFault> {
         let to = self
             .rt
@@ -197,7 +197,7 @@ impl<R: Files> SystemFiles<'_, R> {
         }
     }
 
-    /// Returns where a name leads, by at most 40 links, if a regular file or nothing is there.
+    // Returns where a name leads, by at most 40 links, if a regular file or nothing is there.
     fn target_of(&self, alloc: Global, name: &str) -> Result<Target, FileFault> {
         let mut name = PathBuf::from_str(alloc, name)?;
         for _ in 0..LINKS {
@@ -217,8 +217,8 @@ impl<R: Files> SystemFiles<'_, R> {
         Err(FileFault::Failed)
     }
 
-    /// Fills the new file named `beside`, waits until the system has stored it, and gives it the
-    /// name of the target.
+    // Fills the new file named `beside`, waits until the system has stored it, and gives it the
+    // name of the target.
     fn fill(
         &self,
         mut file: R::File,

@@ -75,6 +75,6 @@ impl<W: Write> Sink for W {
         self.flush()
     }
 
-    /// A writer of std has no log.
+    // A writer of std has no log.
     fn log_line(&mut self, _parts: &[Part<'_>]) {}
 }

@@ -8,7 +8,7 @@ use std::alloc::{AllocError, Global};
 use std::io::ErrorKind;
 use thiserror::Error;
 
-/// How many octets a single read asks for.
+// How many octets a single read asks for.
 const PIECE: usize = 65_536;
 
 /// Why reading the input failed.
@@ -24,7 +24,7 @@ pub enum ReadFault {
     OutOfMemory,
 }
 
-/// Adds octets to those kept, if all octets before them were kept.
+// Adds octets to those kept, if all octets before them were kept.
 fn keep(all: &mut Vec<u8>, kept: Result<(), AllocError>, octets: &[u8]) -> Result<(), AllocError>
     ensures { is_ok result ≡ true
         → (is_ok kept ≡ true) × (all.new.items ≡ all.old.items ++ octets.now) }

@@ -8,10 +8,10 @@ use itoa::Buffer;
 use std::marker::Model;
 use thiserror::Error;
 
-/// The capacity of the buffer in octets.
+// The capacity of the buffer in octets.
 const ROOM: usize = 65_536;
 
-/// The most octets that a short text has.
+// The most octets that a short text has.
 const SHORT: usize = 4;
 
 /// A write or a flush failed, or a write accepted none of the octets it was given.
@@ -19,7 +19,7 @@ const SHORT: usize = 4;
 #[error("a write failed")]
 pub struct WriteFault;
 
-/// Adds a short text octet by octet, which is cheaper than a call that copies it.
+// Adds a short text octet by octet, which is cheaper than a call that copies it.
 fn keep_octets(pending: &mut ArrayVec<u8, ROOM>, text: &[u8])
     requires { length pending.old.items + length text.now ≤ 65536 }
     ensures { pending.new.items ≡ pending.old.items ++ text.now }
@@ -29,7 +29,7 @@ fn keep_octets(pending: &mut ArrayVec<u8, ROOM>, text: &[u8])
     }
 }
 
-/// Adds a text that is usually short, if it fits. Returns whether it fitted.
+// Adds a text that is usually short, if it fits. Returns whether it fitted.
 #[inline(always)]
 fn keep_short(pending: &mut ArrayVec<u8, ROOM>, text: &[u8]) -> bool
     requires { length pending.old.items ≤ 65536 }

@@ -89,7 +89,7 @@ impl<W> Watched<W> {
     }
 }
 
-/// Returns whether a write of a text failed or accepted none of it.
+// Returns whether a write of a text failed or accepted none of it.
 fn write_fails(text: &[u8], outcome: &io::Result<usize>) -> bool
     ensures { result ≡ spec.write_fails text.now outcome.now }
 {

@@ -13,7 +13,7 @@ use crate::watched::Watched;
 use itoa::Buffer;
 use std::marker::Model;
 
-/// Writes the whole text; on a fault only a prefix of it. Does not write to a sink that has failed.
+// Writes the whole text; on a fault only a prefix of it. Does not write to a sink that has failed.
 fn write_out<W: Sink>(sink: &mut Watched<W>, text: &[u8]) -> Result<(), WriteFault>
     ensures ok { OnOk result
         (Appends (W.contents sink.old.inner) (W.contents sink.new.inner) text.now) }
@@ -39,7 +39,7 @@ fn write_out<W: Sink>(sink: &mut Watched<W>, text: &[u8]) -> Result<(), WriteFau
     Ok(())
 }
 
-/// Flushes the sink. Does not flush a sink that has failed.
+// Flushes the sink. Does not flush a sink that has failed.
 fn flush_out<W: Sink>(sink: &mut Watched<W>) -> Result<(), WriteFault>
     ensures kept { Keeps (W.contents sink.old.inner) (W.contents sink.new.inner) }
     ensures flushed { OnOk result (sink.new.is_flushed ≡ true) }
@@ -137,7 +137,7 @@ impl<W> WatchedWriter<W> {
 }
 
 impl<W: Sink> WatchedWriter<W> {
-    /// Writes out the buffer.
+    // Writes out the buffer.
     fn write_pending(&mut self) -> Result<(), WriteFault>
         ensures ok { OnOk result
             (Appends (W.contents self.old.inner) (W.contents self.new.inner) self.old.pending) }
@@ -155,8 +155,8 @@ impl<W: Sink> WatchedWriter<W> {
         Ok(())
     }
 
-    /// Adds the text to the empty buffer, or writes it out directly if it is longer than the
-    /// buffer.
+    // Adds the text to the empty buffer, or writes it out directly if it is longer than the
+    // buffer.
     fn put_first(&mut self, text: &[u8])
         requires { self.old.pending ≡ [] }
         ensures { Puts W.contents W.does self.old text.now self.new }
@@ -166,7 +166,7 @@ impl<W: Sink> WatchedWriter<W> {
         }
     }
 
-    /// Writes out the buffer and then adds the text.
+    // Writes out the buffer and then adds the text.
     #[inline(never)]
     fn put_after_flush(&mut self, text: &[u8])
         ensures { Puts W.contents W.does self.old text.now self.new }

@@ -3,7 +3,7 @@ ghost use Rattle.std.specs.Prelude.{◌≡◌, ◌+◌, ◌<◌, ◌≤◌, drop
 ghost use Rattle.bay_lines.specs.Fronts.{LiesIn, Whole, front, front_view, is_end, without_return};
 ghost use Rattle.bay_lines.specs.Fronts as spec;
 
-/// The most octets of a line before its LF.
+// The most octets of a line before its LF.
 const MOST: usize = 256;
 
 /// What the octets begin with.
@@ -17,7 +17,7 @@ pub enum Found {
     Whole { line: usize, end: usize },
 }
 
-/// Returns whether a line has a CR before its LF.
+// Returns whether a line has a CR before its LF.
 fn ends_in_return(line: &[u8]) -> bool
     ensures { result ≡ spec.ends_in_return line.now }
 {
@@ -27,7 +27,7 @@ fn ends_in_return(line: &[u8]) -> bool
     }
 }
 
-/// Returns the length of a line without the CR that may come before its LF.
+// Returns the length of a line without the CR that may come before its LF.
 fn length_of(line: &[u8]) -> usize
     ensures value { take result line.now ≡ without_return line.now }
     ensures within { result ≤ length line.now }
@@ -39,7 +39,7 @@ fn length_of(line: &[u8]) -> usize
     }
 }
 
-/// Returns the first line, whose LF is at index `at`.
+// Returns the first line, whose LF is at index `at`.
 fn line_at(octets: &[u8], at: usize) -> Found
     requires within { at < length octets.now }
     requires short { at ≤ 256 }
@@ -53,14 +53,14 @@ fn line_at(octets: &[u8], at: usize) -> Found
     }
 }
 
-/// Returns the index of the first LF.
+// Returns the index of the first LF.
 fn first_end(octets: &[u8]) -> Option<usize>
     ensures { result ≡ position is_end octets.now }
 {
     octets.iter().position(|octet| *octet == b'\n')
 }
 
-/// Returns the index of the LF of the first line, if the line is not too long.
+// Returns the index of the LF of the first line, if the line is not too long.
 fn end_in_reach(octets: &[u8]) -> Option<usize>
     ensures value { result ≡ position is_end (take 257 octets.now) }
     ensures within { IfSome result (λ at. (at < length octets.now) × (at ≤ 256)) }

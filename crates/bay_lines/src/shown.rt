@@ -7,10 +7,10 @@ ghost use Rattle.bay_lines.specs.Shown as spec;
 use arrayvec::ArrayVec;
 use std::marker::Model;
 
-/// The most octets that are shown.
+// The most octets that are shown.
 const MOST: usize = 80;
 
-/// The most octets of a text: four for each that is shown, and the dots.
+// The most octets of a text: four for each that is shown, and the dots.
 const ROOM: usize = 322;
 
 /// A text of printable ASCII that shows at most 80 octets: other octets and the backslash as `\x1b`,
@@ -28,14 +28,14 @@ impl Model for Shown {
     ghost view = { λ s. s.text.items };
 }
 
-/// Whether an octet stands for itself.
+// Whether an octet stands for itself.
 fn is_plain(octet: u8) -> bool
     ensures { result ≡ spec.is_plain octet }
 {
     octet >= b' ' && octet <= b'~' && octet != b'\\'
 }
 
-/// Returns the hexadecimal digit of a value.
+// Returns the hexadecimal digit of a value.
 fn digit(value: u8) -> u8
     requires { value < 16 }
     ensures { result ≡ digit_char value }
@@ -47,7 +47,7 @@ fn digit(value: u8) -> u8
     }
 }
 
-/// Appends an octet as it is shown.
+// Appends an octet as it is shown.
 fn show(text: &mut ArrayVec<u8, ROOM>, octet: u8)
     requires { length text.old.items + 4 ≤ 322 }
     ensures items { text.new.items ≡ text.old.items ++ shown_octet octet }
@@ -63,7 +63,7 @@ fn show(text: &mut ArrayVec<u8, ROOM>, octet: u8)
     }
 }
 
-/// Returns at most 80 octets as they are shown.
+// Returns at most 80 octets as they are shown.
 fn show_all(octets: &[u8]) -> ArrayVec<u8, ROOM>
     requires { length octets.now ≤ 80 }
     ensures items { result.items ≡ shown_octets octets.now }

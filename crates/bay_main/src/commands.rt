@@ -26,7 +26,7 @@ use bay_words::task::{Asked, Program, Task};
 use bay_words::words::{WordsFault, task_of};
 use std::alloc::{AllocError, Global};
 
-/// Checks a bay file and a program or an image, by their names.
+// Checks a bay file and a program or an image, by their names.
 fn check<F: FileSystem, W: Sink>(
     alloc: Global,
     form: Form,
@@ -51,7 +51,7 @@ fn check<F: FileSystem, W: Sink>(
     }
 }
 
-/// Logs that a file can't be written, and answers that.
+// Logs that a file can't be written, and answers that.
 fn fail_unwritten<W: Sink>(writer: &mut WatchedWriter<W>, out: &str) -> Result<u8, WriteFault>
     ensures { Unwritten W.contents W.does out.now writer.old writer.new result }
 {
@@ -59,7 +59,7 @@ fn fail_unwritten<W: Sink>(writer: &mut WatchedWriter<W>, out: &str) -> Result<u
     Err(WriteFault)
 }
 
-/// Makes a device's image, and writes it to the file with this name.
+// Makes a device's image, and writes it to the file with this name.
 fn write_image<F: FileSystem, W: Sink>(
     alloc: Global,
     device: &Device,
@@ -82,7 +82,7 @@ fn write_image<F: FileSystem, W: Sink>(
     }
 }
 
-/// Writes the line of a device's load, and then its image to the file with this name.
+// Writes the line of a device's load, and then its image to the file with this name.
 fn compile_device<F: FileSystem, W: Sink>(
     alloc: Global,
     device: &Device,
@@ -98,7 +98,7 @@ fn compile_device<F: FileSystem, W: Sink>(
     write_image(alloc, device, out, files, writer)
 }
 
-/// Compiles the contents of a bay file and a program to the file with this name.
+// Compiles the contents of a bay file and a program to the file with this name.
 fn compile_files<F: FileSystem, W: Sink>(
     alloc: Global,
     both: &BothFiles,
@@ -116,7 +116,7 @@ fn compile_files<F: FileSystem, W: Sink>(
     }
 }
 
-/// Compiles a bay file and a program to a file, by their names.
+// Compiles a bay file and a program to a file, by their names.
 fn compile<F: FileSystem, W: Sink>(
     alloc: Global,
     bay: &str,
@@ -137,7 +137,7 @@ fn compile<F: FileSystem, W: Sink>(
     }
 }
 
-/// Returns the form of a program and the name of its file.
+// Returns the form of a program and the name of its file.
 fn form_of<'a>(program: Program<&'a str>) -> (Form, &'a str)
     ensures form { result.0 ≡ spec.form_of (program_view program.entry) }
     ensures name { result.1.now ≡ name_of (program_view program.entry) }
@@ -148,7 +148,7 @@ fn form_of<'a>(program: Program<&'a str>) -> (Form, &'a str)
     }
 }
 
-/// Does a task.
+// Does a task.
 fn do_task<F: FileSystem, L: Link + Drop, H: Host<L>, R: Source, W: Sink>(
     alloc: Global,
     task: Task<&str>,
@@ -205,7 +205,7 @@ fn do_task<F: FileSystem, L: Link + Drop, H: Host<L>, R: Source, W: Sink>(
     }
 }
 
-/// Starts the log, if it is asked for.
+// Starts the log, if it is asked for.
 fn start_log_if<W>(writer: &mut WatchedWriter<W>, log: bool)
     ensures { writer.new ≡ logging log writer.old }
 {
@@ -214,7 +214,7 @@ fn start_log_if<W>(writer: &mut WatchedWriter<W>, log: bool)
     }
 }
 
-/// Logs that standard output can't be written, if it can't.
+// Logs that standard output can't be written, if it can't.
 fn log_unprinted<W: Sink>(writer: &mut WatchedWriter<W>)
     ensures { LogsSome W.contents W.does writer.old (unprinted_line writer.old) writer.new }
 {

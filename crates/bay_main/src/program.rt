@@ -23,10 +23,10 @@ use std::process::ExitCode;
 use std::rt::Runtime;
 use std::{env, io};
 
-/// The output of the program, over its standard output and its standard error.
+// The output of the program, over its standard output and its standard error.
 type SystemOutput<'a, R, O, E> = Output<Descriptor<'a, R, O>, Descriptor<'a, R, E>>;
 
-/// Why reading the program's words failed.
+// Why reading the program's words failed.
 #[derive(Drop)]
 enum Unheard {
     /// A word is not UTF-8 text.
@@ -50,19 +50,19 @@ impl From<io::Error> for Unheard {
     }
 }
 
-/// Returns the words after the program's name.
+// Returns the words after the program's name.
 fn words_of<R: Runtime<A = Global>>(rt: &R) -> Result<Vec<String>, Unheard> {
     let words = env::args(rt)?.skip(1).collect(rt.alloc())?;
     Ok(words)
 }
 
-/// Whether the words begin with `serve`.
+// Whether the words begin with `serve`.
 fn is_serving(words: &[&str]) -> bool {
     matches!(words.first(), Some(word) if *word == "serve")
 }
 
-/// Returns the output of a command. No reader of it holds up a server, nor does one of the log hold
-/// up any command.
+// Returns the output of a command. No reader of it holds up a server, nor does one of the log hold
+// up any command.
 fn output_of<'a, R: AllocGlobal, O: Drop, E: Drop>(
     rt: &'a R,
     out: O,
@@ -80,7 +80,7 @@ fn output_of<'a, R: AllocGlobal, O: Drop, E: Drop>(
     Ok(Output::new(out, err, Some(queue)))
 }
 
-/// Does what the words ask for, and concludes.
+// Does what the words ask for, and concludes.
 fn obey_words<
     R: Runtime<A = Global> + Net<Listener = TcpListener, Stream = TcpStream>,
     O: Write + AsRawFd + Drop,
@@ -109,7 +109,7 @@ fn obey_words<
     Ok(conclude(rt, &ended))
 }
 
-/// Does what the program's words ask for, and concludes.
+// Does what the program's words ask for, and concludes.
 fn obey_program<
     R: Runtime<A = Global> + Net<Listener = TcpListener, Stream = TcpStream>,
     O: Write + AsRawFd + Drop,
@@ -119,7 +119,7 @@ fn obey_program<
     obey_words(rt, out, err, words.as_slice())
 }
 
-/// Returns how the program ends if reading its words failed.
+// Returns how the program ends if reading its words failed.
 fn end_unheard<R: Runtime<A = Global>>(rt: &R, why: Unheard) -> Ended {
     let text = match why {
         Unheard::NoText => {
@@ -136,8 +136,8 @@ fn end_unheard<R: Runtime<A = Global>>(rt: &R, why: Unheard) -> Ended {
     }
 }
 
-/// Writes what waits in the output, and returns how the program ends: as before, or, if some of it
-/// is left, by a failed write. After a failed write nothing more is written.
+// Writes what waits in the output, and returns how the program ends: as before, or, if some of it
+// is left, by a failed write. After a failed write nothing more is written.
 fn drained<R: Net + AllocGlobal, O: Write + AsRawFd, E: Write + AsRawFd>(
     output: &mut SystemOutput<'_, R, O, E>,
     ended: Ended,
@@ -153,7 +153,7 @@ fn drained<R: Net + AllocGlobal, O: Write + AsRawFd, E: Write + AsRawFd>(
     }
 }
 
-/// Writes complaints to standard error, and returns the exit status.
+// Writes complaints to standard error, and returns the exit status.
 fn conclude<R: Runtime<A = Global>>(rt: &R, ended: &Ended) -> ExitCode
     ensures { exit_status result ≡ status_of ended.now }
 {

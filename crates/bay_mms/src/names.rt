@@ -53,14 +53,14 @@ impl NameTexts {
         Ok(NameTexts { octets, ends })
     }
 
-    // How many names there are.
+    /// How many names there are.
     pub(crate) fn count(&self) -> usize
         ensures { result ≡ length self.now.ends }
     {
         self.ends.len()
     }
 
-    // How many octets so many names from a place on take.
+    /// How many octets so many names from a place on take.
     pub(crate) fn size(&self, start: usize, count: usize) -> usize
         requires { start + count ≤ length self.now.ends }
         ensures { result ≡ begin_at self.now.ends (start + count) - begin_at self.now.ends start }
@@ -68,7 +68,7 @@ impl NameTexts {
         begin(&self.ends, start + count) - begin(&self.ends, start)
     }
 
-    // The texts of so many names from a place on.
+    /// The texts of so many names from a place on.
     pub(crate) fn texts(&self, start: usize, count: usize) -> &[u8]
         requires { start + count ≤ length self.now.ends }
         ensures { (names : List (List ℕ)) → self.now ≡ text_of_names names

@@ -9,10 +9,10 @@ use std::os::fd::AsRawFd;
 use std::rc::Rc;
 use std::time::Duration;
 
-/// The maximum number of events that one wait takes. The next wait takes more.
+// The maximum number of events that one wait takes. The next wait takes more.
 const EVENTS: usize = 32;
 
-/// The token of every connection: after a wait, all connections are looked at.
+// The token of every connection: after a wait, all connections are looked at.
 const ANY: Token = Token(usize::MAX);
 
 /// Reports when sockets of links are ready.

@@ -12,10 +12,10 @@ use std::net::{Ipv4Addr, Net, SocketAddr, SocketAddrV4, TcpListener, TcpStream};
 use std::rc::Rc;
 use std::time::{Clock, Instant};
 
-/// The number of seconds for which a connection may send nothing at all before it counts as failed.
+// The number of seconds for which a connection may send nothing at all before it counts as failed.
 const SILENCE: u64 = 10;
 
-/// An accepted connection, and the time of accepting it until its first octet has come.
+// An accepted connection, and the time of accepting it until its first octet has come.
 #[derive(Drop)]
 struct Peer {
     stream: TcpStream,
@@ -33,12 +33,12 @@ pub struct TcpLink<'a, C> {
     failures: u64,
 }
 
-/// Whether a call would have blocked.
+// Whether a call would have blocked.
 fn would_wait(error: &io::Error) -> bool {
     error.kind() == ErrorKind::WouldBlock || error.kind() == ErrorKind::Interrupted
 }
 
-/// Whether an accept would have blocked.
+// Whether an accept would have blocked.
 fn is_blocked<T>(accepted: &io::Result<T>) -> bool {
     match accepted {
         Ok(_) => false,
@@ -46,13 +46,13 @@ fn is_blocked<T>(accepted: &io::Result<T>) -> bool {
     }
 }
 
-/// Returns the error of a read or a write without an open connection.
+// Returns the error of a read or a write without an open connection.
 fn not_connected() -> io::Error {
     io::Error::from(ErrorKind::NotConnected)
 }
 
 impl Peer {
-    /// Whether no octet has come for so long that the connection counts as failed.
+    // Whether no octet has come for so long that the connection counts as failed.
     fn is_idle<C: Clock>(&self, clock: &C) -> bool {
         match (&self.silent_since, Instant::now(clock)) {
             (Some(since), Ok(now)) => now.saturating_duration_since(*since).as_secs() >= SILENCE,
@@ -61,7 +61,7 @@ impl Peer {
     }
 }
 
-/// Reads from a connection, if it is open.
+// Reads from a connection, if it is open.
 fn read_some(peer: &Option<Peer>, room: &mut [u8]) -> io::Result<usize>
     ensures { ReadsAtMost result room.new }
 {
@@ -71,7 +71,7 @@ fn read_some(peer: &Option<Peer>, room: &mut [u8]) -> io::Result<usize>
     }
 }
 
-/// Writes to a connection, if it is open.
+// Writes to a connection, if it is open.
 fn write_some(peer: &Option<Peer>, octets: &[u8]) -> io::Result<usize>
     ensures { WritesAtMost result octets.now }
 {
@@ -118,8 +118,8 @@ impl<'a, C: Clock> TcpLink<'a, C> {
         self.failures
     }
 
-    /// Accepts a waiting connection, and returns it with the address of its client, which is one of
-    /// IPv4. Its reads and writes do not block, and what is written is sent at once.
+    // Accepts a waiting connection, and returns it with the address of its client, which is one of
+    // IPv4. Its reads and writes do not block, and what is written is sent at once.
     fn accept_one(&self) -> io::Result<(Peer, SocketAddrV4)> {
         let (stream, address) = self.listener.accept()?;
         let SocketAddr::V4(from) = address else {
@@ -136,7 +136,7 @@ impl<'a, C: Clock> TcpLink<'a, C> {
         Ok((peer, from))
     }
 
-    /// Whether a connection has been silent for too long since it was accepted.
+    // Whether a connection has been silent for too long since it was accepted.
     fn is_idle(&self, place: usize) -> bool {
         match self.peers.get(place) {
             Some(Some(peer)) => peer.is_idle(self.clock),
@@ -144,7 +144,7 @@ impl<'a, C: Clock> TcpLink<'a, C> {
         }
     }
 
-    /// Notes that a connection has sent octets.
+    // Notes that a connection has sent octets.
     fn hear(&mut self, place: usize)
         ensures { self.new.failures ≡ self.old.failures }
     {
@@ -153,7 +153,7 @@ impl<'a, C: Clock> TcpLink<'a, C> {
         }
     }
 
-    /// Counts a failed call.
+    // Counts a failed call.
     fn failed(&mut self) -> LinkFault
         ensures { self.new.failures ≡ min (self.old.failures + 1) 18446744073709551615 }
     {
@@ -165,8 +165,8 @@ impl<'a, C: Clock> TcpLink<'a, C> {
 impl<C: Clock> Link for TcpLink<'_, C> {
     ghost failures = { λ link. link.failures };
 
-    /// Asks the system for nothing behind a wait that told of no connection. A connection that
-    /// can't be accepted, as for want of descriptors, is asked for again.
+    // Asks the system for nothing behind a wait that told of no connection. A connection that
+    // can't be accepted, as for want of descriptors, is asked for again.
     fn accept(&mut self, association: u16) -> Result<Option<SocketAddrV4>, LinkFault> {
         if self.bell.was_quiet() {
             return Ok(None);

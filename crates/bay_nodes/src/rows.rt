@@ -18,7 +18,7 @@ use bay_tree::leaf::{Dbpos, Leaf, Quality};
 use bay_tree::row::Row;
 use std::alloc::{AllocError, Global};
 
-/// Returns the initial value of a row; `None` for a structure.
+// Returns the initial value of a row; `None` for a structure.
 fn leaf_from(
     alloc: Global,
     nameplate: &Nameplate,
@@ -45,8 +45,8 @@ fn leaf_from(
     Ok(Some(leaf))
 }
 
-/// Adds a row of a node. Its name is the node's name followed by the path of the row within the
-/// node.
+// Adds a row of a node. Its name is the node's name followed by the path of the row within the
+// node.
 fn push_row(
     alloc: Global,
     rows: &mut Vec<Row>,
@@ -65,7 +65,7 @@ fn push_row(
     Ok(())
 }
 
-/// Adds the rows of a table to a node.
+// Adds the rows of a table to a node.
 fn push_table(
     alloc: Global,
     rows: &mut Vec<Row>,
@@ -83,7 +83,7 @@ fn push_table(
     Ok(())
 }
 
-/// Adds a node with the rows of a table.
+// Adds a node with the rows of a table.
 fn push_node(
     alloc: Global,
     rows: &mut Vec<Row>,
@@ -99,7 +99,7 @@ fn push_node(
     Ok(())
 }
 
-/// Adds the nodes of the device itself (IEC 61850-7-4, LLN0 and LPHD).
+// Adds the nodes of the device itself (IEC 61850-7-4, LLN0 and LPHD).
 fn push_device(alloc: Global, rows: &mut Vec<Row>, nameplate: &Nameplate) -> Result<(), AllocError>
     ensures { IfOk result (λ _. rows.new.items
         ≡ rows.old.items ++ flat_map node_rows
@@ -110,7 +110,7 @@ fn push_device(alloc: Global, rows: &mut Vec<Row>, nameplate: &Nameplate) -> Res
     Ok(())
 }
 
-/// Adds the node of a breaker or another switch (IEC 61850-7-4, XCBR and XSWI).
+// Adds the node of a breaker or another switch (IEC 61850-7-4, XCBR and XSWI).
 fn push_position_node(
     alloc: Global,
     rows: &mut Vec<Row>,
@@ -128,7 +128,7 @@ fn push_position_node(
     Ok(())
 }
 
-/// Adds the control rows (`$CO`) of a switch that is selected by the rows of the table `select`.
+// Adds the control rows (`$CO`) of a switch that is selected by the rows of the table `select`.
 fn push_selection(
     alloc: Global,
     rows: &mut Vec<Row>,
@@ -149,7 +149,7 @@ fn push_selection(
     Ok(())
 }
 
-/// Adds the control rows (`$CO`) of a switch with this kind of control.
+// Adds the control rows (`$CO`) of a switch with this kind of control.
 fn push_commands(
     alloc: Global,
     rows: &mut Vec<Row>,
@@ -178,7 +178,7 @@ fn push_commands(
     }
 }
 
-/// Adds the node of the control of a switch (IEC 61850-7-4, CSWI).
+// Adds the node of the control of a switch (IEC 61850-7-4, CSWI).
 fn push_control_node(
     alloc: Global,
     rows: &mut Vec<Row>,
@@ -213,7 +213,7 @@ fn push_control_node(
     Ok(())
 }
 
-/// Adds the node of the switch with this number.
+// Adds the node of the switch with this number.
 fn push_position(
     alloc: Global,
     rows: &mut Vec<Row>,
@@ -229,7 +229,7 @@ fn push_position(
     Ok(())
 }
 
-/// Adds the node of the control with this number.
+// Adds the node of the control with this number.
 fn push_control(
     alloc: Global,
     rows: &mut Vec<Row>,
@@ -245,7 +245,7 @@ fn push_control(
     Ok(())
 }
 
-/// Adds the node of the interlocking with this number (IEC 61850-7-4, CILO).
+// Adds the node of the interlocking with this number (IEC 61850-7-4, CILO).
 fn push_interlocking(
     alloc: Global,
     rows: &mut Vec<Row>,
@@ -267,7 +267,7 @@ fn push_interlocking(
     Ok(())
 }
 
-/// Adds the node of the meter with this number (IEC 61850-7-4, MMXU).
+// Adds the node of the meter with this number (IEC 61850-7-4, MMXU).
 fn push_meter(
     alloc: Global,
     rows: &mut Vec<Row>,
@@ -283,7 +283,7 @@ fn push_meter(
     Ok(())
 }
 
-/// Adds the nodes of the breakers, or of the other switches, numbered from 1.
+// Adds the nodes of the breakers, or of the other switches, numbered from 1.
 fn push_positions(
     alloc: Global,
     rows: &mut Vec<Row>,
@@ -304,7 +304,7 @@ fn push_positions(
     Ok(())
 }
 
-/// Adds the nodes of the controls, numbered from 1.
+// Adds the nodes of the controls, numbered from 1.
 fn push_controls(
     alloc: Global,
     rows: &mut Vec<Row>,
@@ -320,7 +320,7 @@ fn push_controls(
     Ok(())
 }
 
-/// Adds the nodes of the interlocking of the switches, numbered from 1.
+// Adds the nodes of the interlocking of the switches, numbered from 1.
 fn push_interlockings(
     alloc: Global,
     rows: &mut Vec<Row>,
@@ -336,7 +336,7 @@ fn push_interlockings(
     Ok(())
 }
 
-/// Adds the nodes of the meters, numbered from 1.
+// Adds the nodes of the meters, numbered from 1.
 fn push_meters(
     alloc: Global,
     rows: &mut Vec<Row>,

@@ -9,21 +9,21 @@ use std::net::Net;
 use std::os::fd::{AsRawFd, RawFd};
 use std::time::Duration;
 
-/// The most octets that a descriptor which is ready takes without waiting: one page of a pipe
-/// (Linux, pipe(7), PIPE_BUF).
+// The most octets that a descriptor which is ready takes without waiting: one page of a pipe
+// (Linux, pipe(7), PIPE_BUF).
 const PIECE: usize = 4_096;
 
-/// The token of the one descriptor that is registered.
+// The token of the one descriptor that is registered.
 const TOKEN: Token = Token(0);
 
-/// What tells whether a descriptor is ready.
+// What tells whether a descriptor is ready.
 #[derive(Drop)]
 struct Readiness {
     poll: Poll,
     events: Events<Global>,
 }
 
-/// What is known of a descriptor.
+// What is known of a descriptor.
 #[derive(Drop)]
 enum Gate {
     /// Nothing was written yet.
@@ -43,7 +43,7 @@ pub struct Descriptor<'a, R, W> {
 }
 
 impl Readiness {
-    /// Registers a descriptor.
+    // Registers a descriptor.
     fn new<R: Net + AllocGlobal>(rt: &R, descriptor: RawFd) -> io::Result<Readiness> {
         let poll = Poll::new(rt)?;
         let events = Events::with_capacity(rt.alloc(), 1)?;
@@ -53,7 +53,7 @@ impl Readiness {
         Ok(Readiness { poll, events })
     }
 
-    /// Waits until the descriptor is ready or the time is up. Returns whether it is ready.
+    // Waits until the descriptor is ready or the time is up. Returns whether it is ready.
     fn wait(&mut self, descriptor: RawFd, most: Duration) -> io::Result<bool> {
         let mut source = SourceFd(&descriptor);
         // The system reports a change. Registering anew, it reports what is.
@@ -66,7 +66,7 @@ impl Readiness {
 }
 
 impl Gate {
-    /// Returns what there is to know of a descriptor.
+    // Returns what there is to know of a descriptor.
     fn of<R: Net + AllocGlobal>(rt: &R, descriptor: RawFd) -> io::Result<Gate> {
         match Readiness::new(rt, descriptor) {
             Ok(readiness) => Ok(Gate::Polled(readiness)),
@@ -101,7 +101,7 @@ impl<R: Net + AllocGlobal, W: AsRawFd> Descriptor<'_, R, W> {
         Ok(())
     }
 
-    /// Waits until the descriptor is ready or the time is up. Returns whether it is ready.
+    // Waits until the descriptor is ready or the time is up. Returns whether it is ready.
     fn is_ready(&mut self, most: Duration) -> io::Result<bool> {
         let descriptor = self.writer.as_raw_fd();
         if matches!(&self.gate, Gate::Unknown) {
@@ -114,7 +114,7 @@ impl<R: Net + AllocGlobal, W: AsRawFd> Descriptor<'_, R, W> {
     }
 }
 
-/// Whether a call would have blocked.
+// Whether a call would have blocked.
 fn would_wait(error: &io::Error) -> bool {
     error.kind() == ErrorKind::WouldBlock || error.kind() == ErrorKind::Interrupted
 }
@@ -137,6 +137,6 @@ impl<R: Net + AllocGlobal, W: Write + AsRawFd> Sink for Descriptor<'_, R, W> {
         self.writer.flush()
     }
 
-    /// A descriptor has no log.
+    // A descriptor has no log.
     fn log_line(&mut self, _parts: &[Part<'_>]) {}
 }

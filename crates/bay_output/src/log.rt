@@ -27,7 +27,7 @@ impl Model for Log {
     ghost view = { λ log. record { waiting = log.waiting; lost = log.lost } };
 }
 
-/// Adds a part of a line if it fits. Returns whether it fitted.
+// Adds a part of a line if it fits. Returns whether it fitted.
 fn keep_part(waiting: &mut Outbox, part: Part<'_>) -> bool
     ensures fits { result ≡ has_room waiting.old (part_text part.entry) }
     ensures after { waiting.new
@@ -39,7 +39,7 @@ fn keep_part(waiting: &mut Outbox, part: Part<'_>) -> bool
     }
 }
 
-/// Adds the parts of a line if all fit, and else those that do. Returns whether all fitted.
+// Adds the parts of a line if all fit, and else those that do. Returns whether all fitted.
 fn keep_parts(waiting: &mut Outbox, parts: &[Part<'_>]) -> bool
     requires { length waiting.old ≤ 65536 }
     ensures { Keeps waiting.old (parts_text parts.now) waiting.new result }
@@ -63,7 +63,7 @@ impl Log {
         }
     }
 
-    /// Adds the line that tells how many were lost, if any were. Returns whether it fitted.
+    // Adds the line that tells how many were lost, if any were. Returns whether it fitted.
     fn keep_notice(&mut self) -> bool
         requires { length self.old.waiting ≤ 65536 }
         ensures notice { Keeps self.old.waiting (notice self.old.lost) self.new.waiting result }

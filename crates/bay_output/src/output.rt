@@ -12,7 +12,7 @@ use std::net::Net;
 use std::os::fd::AsRawFd;
 use std::time::Duration;
 
-/// How often the end of a program waits for the reader of its output, for a millisecond at most.
+// How often the end of a program waits for the reader of its output, for a millisecond at most.
 const WAITS: usize = 1_000;
 
 /// A sink of octets and a sink of the log's lines. With a queue, octets that the first does not
@@ -41,8 +41,8 @@ impl<O, E> Output<O, E> {
     }
 }
 
-/// Puts octets into a queue, and if it has no room for them, after what the sink takes now. Octets
-/// that still don't fit are a failed write.
+// Puts octets into a queue, and if it has no room for them, after what the sink takes now. Octets
+// that still don't fit are a failed write.
 fn put_in<O: Sink>(queue: &mut Queue, out: &mut O, octets: &[u8]) -> io::Result<usize>
     ensures { PutsIn O.contents O.does queue.old out.old octets.now queue.new out.new result }
 {
@@ -67,7 +67,7 @@ impl<O: Sink, E: Sink> Sink for Output<O, E> {
         }
     }
 
-    /// Of octets in a queue, writes what the sink takes now.
+    // Of octets in a queue, writes what the sink takes now.
     fn flush_octets(&mut self) -> io::Result<()> {
         let _ = self.log.send(&mut self.err);
         match &mut self.queue {

@@ -6,7 +6,7 @@ use bay_io::calls::Sink;
 use bay_lines::kept::Kept;
 use std::io;
 
-/// The maximum number of octets in a queue.
+// The maximum number of octets in a queue.
 const ROOM: usize = 1_048_576;
 
 /// A queue of at most 1,048,576 octets. Its room is allocated up front.

@@ -13,9 +13,9 @@ use bay_device::device::Device;
 use bay_serve::link::Link;
 use bay_serve::told::Turn;
 
-/// Talks to a connected process: tells it what the turn reported and which releases have changed,
-/// offers what is waiting, reads it, and checks its line. An error means that its connection is to
-/// be closed.
+// Talks to a connected process: tells it what the turn reported and which releases have changed,
+// offers what is waiting, reads it, and checks its line. An error means that its connection is to
+// be closed.
 fn talk<L: Link>(
     port: &mut Port,
     link: &mut L,
@@ -33,7 +33,7 @@ fn talk<L: Link>(
     port.check()
 }
 
-/// Takes a process that was accepted, unless it has gone while it waited.
+// Takes a process that was accepted, unless it has gone while it waited.
 fn welcome<L: Link>(port: &mut Port, link: &mut L) -> Option<News>
     ensures { Attends (Called L.does L.failures)
         (λ script. welcomed port.old
@@ -52,7 +52,7 @@ fn welcome<L: Link>(port: &mut Port, link: &mut L) -> Option<News>
     }
 }
 
-/// Accepts a waiting connection, if there is one.
+// Accepts a waiting connection, if there is one.
 fn accept<L: Link>(port: &mut Port, link: &mut L) -> Option<News>
     ensures { Attends (Called L.does L.failures)
         (λ script. accepted_in script.accepted (script.heard, script.again) port.old)
@@ -65,7 +65,7 @@ fn accept<L: Link>(port: &mut Port, link: &mut L) -> Option<News>
     }
 }
 
-/// Allows another process to come once every switch is bad and every input FALSE.
+// Allows another process to come once every switch is bad and every input FALSE.
 fn leave(port: &mut Port, device: &Device)
     ensures { port.new ≡ (left_in (spec.is_forgotten device.now) port.old).port }
 {

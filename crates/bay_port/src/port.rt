@@ -22,10 +22,10 @@ use bay_serve::told::Turn;
 use std::alloc::{AllocError, Global};
 use std::marker::Model;
 
-/// The maximum number of octets read at once.
+// The maximum number of octets read at once.
 const PIECE: usize = 4096;
 
-/// The maximum number of octets kept: a line that is not whole yet, and what is read at once.
+// The maximum number of octets kept: a line that is not whole yet, and what is read at once.
 const ROOM: usize = 4352;
 
 /// The number of the process in its link.
@@ -51,7 +51,7 @@ pub struct Said {
 }
 
 impl Said {
-    /// Creates an event without a line.
+    // Creates an event without a line.
     fn alone(event: Option<ProcessEvent>) -> Said
         ensures event { result.event ≡ event }
         ensures shown { result.shown ≡ [] }
@@ -142,7 +142,7 @@ impl Port {
         self.told = told_if(tells_releases);
     }
 
-    /// Takes the first line of what was sent, if there is one. An invalid one stays.
+    // Takes the first line of what was sent, if there is one. An invalid one stays.
     fn take_front(&mut self, device: &Device) -> Said
         ensures event { result.event
             ≡ (taken_front device.now (front self.old.kept) self.old).event }

@@ -10,7 +10,7 @@ use crate::telling::{QUEUE, Queue, put_parts};
 use bay_device::device::Device;
 use std::marker::Model;
 
-/// The maximum number of switches in a bay.
+// The maximum number of switches in a bay.
 const SWITCHES: usize = 32;
 
 /// Whether a switch may be opened, and whether it may be closed.
@@ -44,7 +44,7 @@ impl Told {
         }
     }
 
-    /// Sets what was told last to the releases of a device.
+    // Sets what was told last to the releases of a device.
     fn learn(&mut self, device: &Device)
         ensures { self.new ≡ map (enabled_of device.now) (range_with_len 0 (length self.old)) }
     {
@@ -65,7 +65,7 @@ pub fn told_if(tells_releases: bool) -> Option<Told>
     }
 }
 
-/// Whether a release is what was told last.
+// Whether a release is what was told last.
 fn is_same(last: Option<Release>, release: Release) -> bool
     ensures { result ≡ spec.is_same last release }
 {
@@ -75,7 +75,7 @@ fn is_same(last: Option<Release>, release: Release) -> bool
     }
 }
 
-/// Appends the line of the release of the switch with this id.
+// Appends the line of the release of the switch with this id.
 fn put_release_line(queue: &mut Queue, id: &str, release: Release) -> bool
     ensures { PutsWhole queue.old (release_line id.now release) queue.new result }
 {
@@ -84,7 +84,7 @@ fn put_release_line(queue: &mut Queue, id: &str, release: Release) -> bool
     put_parts(queue, &[id.as_bytes(), b"=", opens, closes, b"\n"])
 }
 
-/// Appends the line of the release of the switch at a place, if there is one.
+// Appends the line of the release of the switch at a place, if there is one.
 fn put_release(queue: &mut Queue, device: &Device, place: usize, release: Release) -> bool
     ensures { PutsWhole queue.old (release_part release (slice_get device.now.switches place))
         queue.new result }
@@ -95,7 +95,7 @@ fn put_release(queue: &mut Queue, device: &Device, place: usize, release: Releas
     }
 }
 
-/// Appends the line of the switch at a place, if its release is not what was told last.
+// Appends the line of the switch at a place, if its release is not what was told last.
 fn put_change(queue: &mut Queue, device: &Device, place: usize, last: Option<Release>) -> bool
     ensures { PutsWhole queue.old
         (releases_text device.now (said_at place last (enabled_of device.now place))) queue.new
@@ -113,7 +113,7 @@ fn put_change(queue: &mut Queue, device: &Device, place: usize, last: Option<Rel
     }
 }
 
-/// Appends the line of each switch whose release is not what was told last.
+// Appends the line of each switch whose release is not what was told last.
 fn put_changes(queue: &mut Queue, device: &Device, told: &[Option<Release>]) -> bool
     ensures { PutsWhole queue.old (releases_text device.now (said_from device.now 0 told.now))
         queue.new result }

@@ -7,7 +7,7 @@ use bay_device::device::Device;
 use bay_serve::process::ProcessEvent;
 use bay_tree::leaf::Dbpos;
 
-/// Whether the control of the switch at an index tells the position bad.
+// Whether the control of the switch at an index tells the position bad.
 fn is_bad(device: &Device, switch: usize) -> bool
     ensures { result ≡ spec.is_bad device.now switch }
 {
@@ -17,7 +17,7 @@ fn is_bad(device: &Device, switch: usize) -> bool
     }
 }
 
-/// Returns the index of the first switch that is not bad.
+// Returns the index of the first switch that is not bad.
 fn first_sound(device: &Device) -> Option<usize>
     ensures { result ≡ spec.first_sound device.now }
 {

@@ -28,7 +28,7 @@ pub fn put_parts(queue: &mut Queue, parts: &[&[u8]]) -> bool
     true
 }
 
-/// Appends the line of a refusal with this number.
+// Appends the line of a refusal with this number.
 fn put_refusal_line(queue: &mut Queue, moment: u64, code: u8) -> bool
     ensures { PutsWhole queue.old (refusal_line moment code) queue.new result }
 {
@@ -45,7 +45,7 @@ fn put_refusal_line(queue: &mut Queue, moment: u64, code: u8) -> bool
     )
 }
 
-/// Appends the line of a refusal, if there was one.
+// Appends the line of a refusal, if there was one.
 fn put_refusal(queue: &mut Queue, moment: u64, refused: Option<u8>) -> bool
     ensures { PutsWhole queue.old (refusal_text moment refused) queue.new result }
 {
@@ -55,7 +55,7 @@ fn put_refusal(queue: &mut Queue, moment: u64, refused: Option<u8>) -> bool
     }
 }
 
-/// Appends the line of a command to the switch with this id.
+// Appends the line of a command to the switch with this id.
 fn put_command_line(queue: &mut Queue, moment: u64, id: &str, on: bool) -> bool
     ensures { PutsWhole queue.old (command_line moment id.now on) queue.new result }
 {
@@ -72,7 +72,7 @@ fn put_command_line(queue: &mut Queue, moment: u64, id: &str, on: bool) -> bool
     )
 }
 
-/// Appends the line of a command.
+// Appends the line of a command.
 fn put_command(queue: &mut Queue, device: &Device, moment: u64, command: Command) -> bool
     ensures { PutsWhole queue.old (command_text moment device.now command) queue.new result }
 {
@@ -82,7 +82,7 @@ fn put_command(queue: &mut Queue, device: &Device, moment: u64, command: Command
     }
 }
 
-/// Appends the lines of all commands.
+// Appends the lines of all commands.
 fn put_commands(queue: &mut Queue, device: &Device, moment: u64, commands: &[Command]) -> bool
     ensures { PutsWhole queue.old (commands_text moment device.now commands.now) queue.new result }
 {

@@ -15,7 +15,7 @@ use bay_config::bay::{Point, Source, Switch, SwitchPoint};
 use il_image::image::ImagePoint;
 use std::alloc::{AllocError, Global};
 
-/// Returns whether a point of an image is this point of the bay.
+// Returns whether a point of an image is this point of the bay.
 fn is_same(point: &ImagePoint, other: &Point) -> bool
     ensures { result ≡ is_image_point point.now other.now }
 {
@@ -24,7 +24,7 @@ fn is_same(point: &ImagePoint, other: &Point) -> bool
         && point.writable == other.writable
 }
 
-/// Returns what a point of an image stands for in the bay, if the bay has it.
+// Returns what a point of an image stands for in the bay, if the bay has it.
 fn source_of(bay: &[Point], point: &ImagePoint) -> Option<Source>
     ensures { result ≡ spec_sources.source_of bay.now point.now }
 {
@@ -54,7 +54,7 @@ pub fn sources_of(
     Ok(sources)
 }
 
-/// Returns whether a source is this point of the switch at an index.
+// Returns whether a source is this point of the switch at an index.
 fn is_point(source: Source, switch: usize, point: SwitchPoint) -> bool
     ensures { result ≡ spec.is_point switch point source }
 {
@@ -67,7 +67,7 @@ fn is_point(source: Source, switch: usize, point: SwitchPoint) -> bool
     }
 }
 
-/// Returns the place of a point of a switch among the sources, if it is there.
+// Returns the place of a point of a switch among the sources, if it is there.
 fn output_place(writes: &[Source], switch: usize, point: SwitchPoint) -> Option<usize>
     ensures { result ≡ position (spec.is_point switch point) writes.now }
 {
@@ -76,7 +76,7 @@ fn output_place(writes: &[Source], switch: usize, point: SwitchPoint) -> Option<
         .position(|source| is_point(*source, switch, point))
 }
 
-/// Returns the places of the interlocking values of a switch among the writable points.
+// Returns the places of the interlocking values of a switch among the writable points.
 fn outputs_at(writes: &[Source], switch: usize) -> SwitchOutputs
     ensures { result ≡ spec_layout.outputs_at writes.now switch }
 {

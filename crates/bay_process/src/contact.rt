@@ -9,7 +9,7 @@ use crate::rows::{StatusRows, SwitchRows, count_at, is_position, is_quality, put
 use bay_tree::leaf::{Dbpos, Leaf, Quality};
 use bay_tree::tree::Tree;
 
-/// Returns the quality of a position (IEC 61850-7-3).
+// Returns the quality of a position (IEC 61850-7-3).
 fn position_quality(position: Dbpos) -> Quality
     ensures { result ≡ spec.position_quality position }
 {
@@ -19,7 +19,7 @@ fn position_quality(position: Dbpos) -> Quality
     }
 }
 
-/// Returns whether a position is one of the two end positions.
+// Returns whether a position is one of the two end positions.
 fn is_end_position(position: Dbpos) -> bool
     ensures { result ≡ spec.is_end_position position }
 {
@@ -29,7 +29,7 @@ fn is_end_position(position: Dbpos) -> bool
     }
 }
 
-/// Counts one more operation, unless the count has its greatest value.
+// Counts one more operation, unless the count has its greatest value.
 fn count_operation(tree: &mut Tree, rows: StatusRows, now: u64)
     requires { AreStatusRows (layout_of tree.old) leaf_type.Int32 rows }
     ensures rows { tree.new ≡ operation_counted (status_in (layout_of tree.old) rows) now tree.old }
@@ -42,7 +42,7 @@ fn count_operation(tree: &mut Tree, rows: StatusRows, now: u64)
     }
 }
 
-/// Returns whether the rows hold a position with its quality already.
+// Returns whether the rows hold a position with its quality already.
 fn tells(tree: &Tree, rows: StatusRows, position: Dbpos) -> bool
     requires { AreStatusRows (layout_of tree.now) leaf_type.Dbpos rows }
     ensures { result ≡ spec.tells (status_in (layout_of tree.now) rows) position tree.now }
@@ -52,8 +52,8 @@ fn tells(tree: &Tree, rows: StatusRows, position: Dbpos) -> bool
     is_same && has_same_quality
 }
 
-/// Writes a new position of a switch, to its control too. Counts an operation if the switch reaches
-/// an end position.
+// Writes a new position of a switch, to its control too. Counts an operation if the switch reaches
+// an end position.
 fn put_position(tree: &mut Tree, rows: &SwitchRows, position: Dbpos, now: u64)
     requires { AreSwitchRows (layout_of tree.old) rows.now }
     ensures rows { tree.new ≡ rows_after_change (switch_in (layout_of tree.old) rows.now) position

@@ -31,7 +31,7 @@ pub struct ControlRows {
     pub cancel: Option<Handle>,
 }
 
-/// Returns the handle of the row at a path of a node, if the tree has it.
+// Returns the handle of the row at a path of a node, if the tree has it.
 fn handle_at(
     alloc: Global,
     tree: &Tree,
@@ -47,7 +47,7 @@ fn handle_at(
     }
 }
 
-/// Returns the handle of the row that says whether the switch of a control is selected.
+// Returns the handle of the row that says whether the switch of a control is selected.
 fn selected_at(alloc: Global, tree: &Tree, node: &str) -> Result<Handle, AllocError>
     requires { HasLeaf tree.now (control_names_of node.now).selected leaf_type.Truth }
     ensures { IfOk result (λ handle. place_of tree.now (control_names_of node.now).selected

@@ -47,7 +47,7 @@ impl MeterRows {
     }
 }
 
-/// Returns whether a row holds this number.
+// Returns whether a row holds this number.
 fn is_number(tree: &Tree, handle: Handle, number: i32) -> bool
     requires { HasLeafType (layout_of tree.now) handle leaf_type.Int32 }
     ensures { result ≡ spec.is_number number

@@ -26,7 +26,7 @@ pub fn all_meter_nodes(alloc: Global, bay: &Bay) -> Result<Vec<Text>, AllocError
     Ok(all)
 }
 
-/// Returns the rows of the meter with this node.
+// Returns the rows of the meter with this node.
 fn meter_rows(alloc: Global, tree: &Tree, node: &str) -> Result<MeterRows, AllocError>
     requires { HasMeterLeaves tree.now (meter_names_of node.now) }
     ensures { IfOk result (AreMeterRowsOf (layout_of tree.now) (meter_names_of node.now)) }

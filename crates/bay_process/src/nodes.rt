@@ -24,7 +24,7 @@ pub struct Nodes {
     pub interlocking: Text,
 }
 
-/// Returns the names of the nodes of the switch at an index.
+// Returns the names of the nodes of the switch at an index.
 fn nodes_at(alloc: Global, bay: &Bay, place: usize) -> Result<Nodes, AllocError>
     requires { place < length bay.now.switches }
     ensures { IfOk result (AreNodesOf bay.now place) }
@@ -52,7 +52,7 @@ pub fn all_nodes(alloc: Global, bay: &Bay) -> Result<Vec<Nodes>, AllocError>
     Ok(all)
 }
 
-/// Returns the handle of the row with this name, which must have a value.
+// Returns the handle of the row with this name, which must have a value.
 fn handle_of(tree: &Tree, name: &str) -> Handle
     requires { leaf_of name.now tree.now ≢ None }
     ensures { IsFound tree.now name.now result }
@@ -63,7 +63,7 @@ fn handle_of(tree: &Tree, name: &str) -> Handle
     }
 }
 
-/// Returns the handle of the row at a path of a node, which must have a value.
+// Returns the handle of the row at a path of a node, which must have a value.
 fn handle_at(alloc: Global, tree: &Tree, node: &str, path: &str) -> Result<Handle, AllocError>
     requires { leaf_of (node.now ++ path.now) tree.now ≢ None }
     ensures { IfOk result (IsFound tree.now (node.now ++ path.now)) }
@@ -92,7 +92,7 @@ pub fn status_rows(
     })
 }
 
-/// Returns the rows of a switch: those of its node, of its control and of its interlocking.
+// Returns the rows of a switch: those of its node, of its control and of its interlocking.
 fn switch_rows(alloc: Global, tree: &Tree, nodes: &Nodes) -> Result<SwitchRows, AllocError>
     requires { HasSwitch tree.now (nodes_names nodes.now) }
     ensures { IfOk result (AreRowsOf (layout_of tree.now) (nodes_names nodes.now)) }

@@ -30,7 +30,7 @@ pub struct WiredMachine {
     pub writes: Vec<Source>,
 }
 
-/// Creates a machine with a verified image, before its first scan.
+// Creates a machine with a verified image, before its first scan.
 fn machine_of(alloc: Global, verified: Verified) -> Result<Machine, AllocError>
     ensures { IfOk result (λ machine. machine ≡ held_first verified) }
 {
@@ -88,8 +88,8 @@ pub struct BoundRows {
     pub told: ToldValues,
 }
 
-/// Binds the switches of a bay to the rows that their nodes name, and to the places of their
-/// interlocking values.
+// Binds the switches of a bay to the rows that their nodes name, and to the places of their
+// interlocking values.
 fn bound_switches(
     alloc: Global,
     tree: &Tree,

@@ -26,7 +26,7 @@ use bay_tree::tree::Tree;
 use il_image::value::Value;
 use il_scan::points::{Inputs, Outputs};
 
-/// Returns the number of a position (IEC 61850-8-1, Dbpos): 0 intermediate, 1 off, 2 on, 3 bad.
+// Returns the number of a position (IEC 61850-8-1, Dbpos): 0 intermediate, 1 off, 2 on, 3 bad.
 fn number_of_position(position: Dbpos) -> i16
     ensures { result ≡ spec_values.number_of_position (Some (leaves.Dbpos position)) }
 {
@@ -38,7 +38,7 @@ fn number_of_position(position: Dbpos) -> i16
     }
 }
 
-/// Returns the value of a point of a switch at the switch's position.
+// Returns the value of a point of a switch at the switch's position.
 fn position_value(tree: &Tree, rows: StatusRows, point: SwitchPoint) -> Value
     requires { AreStatusRows (layout_of tree.now) leaf_type.Dbpos rows }
     ensures value { result ≡ spec_values.position_value point (leaf_at tree.now rows.value) }
@@ -54,7 +54,7 @@ fn position_value(tree: &Tree, rows: StatusRows, point: SwitchPoint) -> Value
     }
 }
 
-/// Returns the value of a point of a missing switch.
+// Returns the value of a point of a missing switch.
 fn no_position(point: SwitchPoint) -> Value
     ensures value { result ≡ spec.switch_value [] point None }
     ensures typed { type_of result ≡ type_of_switch_point point }
@@ -66,7 +66,7 @@ fn no_position(point: SwitchPoint) -> Value
     }
 }
 
-/// Returns the value that the contacts give to a point of the switch at an index.
+// Returns the value that the contacts give to a point of the switch at an index.
 fn switch_value(tree: &Tree, switches: &[BoundSwitch], switch: usize, point: SwitchPoint) -> Value
     requires { AreLeafTyped (layout_of tree.now) switches.now }
     ensures value { result ≡ spec.switch_value tree.now point (slice_get switches.now switch) }
@@ -79,7 +79,7 @@ fn switch_value(tree: &Tree, switches: &[BoundSwitch], switch: usize, point: Swi
     }
 }
 
-/// Returns the measured value of a field of the meter at an index.
+// Returns the measured value of a field of the meter at an index.
 fn meter_value(tree: &Tree, meters: &[BoundMeter], meter: usize, field: MeterField) -> Value
     requires { AreMetersLeafTyped (layout_of tree.now) meters.now }
     ensures value { result ≡ spec.meter_value tree.now field (slice_get meters.now meter) }
@@ -92,7 +92,7 @@ fn meter_value(tree: &Tree, meters: &[BoundMeter], meter: usize, field: MeterFie
     }
 }
 
-/// Returns the value that the contacts, the inputs or the measured values give to a point.
+// Returns the value that the contacts, the inputs or the measured values give to a point.
 fn point_value(
     tree: &Tree,
     switches: &[BoundSwitch],
@@ -153,7 +153,7 @@ impl<'a> Inputs for ReadPoints<'a> {
         ∙ sym (length-map points.reads.now type_of_source) };
 }
 
-/// Writes the value of its point to an interlocking value.
+// Writes the value of its point to an interlocking value.
 fn set_enabled(tree: &mut Tree, rows: StatusRows, value: bool, now: u64)
     requires { AreStatusRows (layout_of tree.old) leaf_type.Truth rows }
     ensures rows { tree.new ≡ with_enabled (status_in (layout_of tree.old) rows) value now
@@ -169,7 +169,7 @@ fn set_enabled(tree: &mut Tree, rows: StatusRows, value: bool, now: u64)
     put_status(tree, rows, Leaf::Truth(value), Quality::Good, now)
 }
 
-/// Returns the value of an output; FALSE if the program does not name its point.
+// Returns the value of an output; FALSE if the program does not name its point.
 fn output(outputs: &Outputs<'_>, place: Option<usize>) -> bool
     ensures { result ≡ is_true (output_at place outputs.now) }
 {
@@ -179,7 +179,7 @@ fn output(outputs: &Outputs<'_>, place: Option<usize>) -> bool
     }
 }
 
-/// Writes new interlocking values to the rows of a switch.
+// Writes new interlocking values to the rows of a switch.
 fn write_output(tree: &mut Tree, rows: &SwitchRows, enabled: Enabled, now: u64)
     requires { AreSwitchRows (layout_of tree.old) rows.now }
     ensures rows { tree.new ≡ with_output (switch_in (layout_of tree.old) rows.now) enabled.may_open
@@ -192,7 +192,7 @@ fn write_output(tree: &mut Tree, rows: &SwitchRows, enabled: Enabled, now: u64)
     set_enabled(tree, rows.ena_cls, enabled.may_close, now);
 }
 
-/// Writes a new interlocking value over the value `stood`, which the row holds with a good quality.
+// Writes a new interlocking value over the value `stood`, which the row holds with a good quality.
 fn change_enabled(tree: &mut Tree, rows: StatusRows, stood: bool, value: bool, now: u64)
     requires rows { AreStatusRows (layout_of tree.old) leaf_type.Truth rows }
     requires stands { Stands tree.old (status_in (layout_of tree.old) rows) stood }
@@ -206,8 +206,8 @@ fn change_enabled(tree: &mut Tree, rows: StatusRows, stood: bool, value: bool, n
     put_status(tree, rows, Leaf::Truth(value), Quality::Good, now)
 }
 
-/// Writes new interlocking values of the switch at an index. Does not read again what the last scan
-/// wrote.
+// Writes new interlocking values of the switch at an index. Does not read again what the last scan
+// wrote.
 fn tell(
     tree: &mut Tree,
     told: &mut ToldValues,

@@ -16,7 +16,7 @@ use bay_trace::placing::{placed_event, take_octets};
 use bay_trace::trace::{NamedEvent, TraceLine, read_trace_line};
 use std::alloc::AllocError;
 
-/// Does an event, and writes what is printed for it.
+// Does an event, and writes what is printed for it.
 fn answer_event<W: Sink>(
     writer: &mut WatchedWriter<W>,
     device: &mut Device,
@@ -30,8 +30,8 @@ fn answer_event<W: Sink>(
     put_step(writer, device, moment, &answer);
 }
 
-/// Does an event, and writes what is printed for it. Returns true if the replay ends there because
-/// there is no memory for the event's octets.
+// Does an event, and writes what is printed for it. Returns true if the replay ends there because
+// there is no memory for the event's octets.
 fn answer_named<W: Sink>(
     writer: &mut WatchedWriter<W>,
     device: &mut Device,

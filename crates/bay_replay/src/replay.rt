@@ -24,11 +24,11 @@ use bay_trace::octets::LineOctets;
 use bay_trace::trace::read_trace_line;
 use std::alloc::Global;
 
-/// The maximum number of octets in a scenario.
+// The maximum number of octets in a scenario.
 const SCENARIO_LIMIT: usize = 16_777_216;
 
-/// Flushes what was written up to the last line, whose number is given, and logs the line if it can't
-/// be read.
+// Flushes what was written up to the last line, whose number is given, and logs the line if it can't
+// be read.
 fn end_at<W: Sink>(
     writer: &mut WatchedWriter<W>,
     number: usize,
@@ -44,8 +44,8 @@ fn end_at<W: Sink>(
     Ok(status)
 }
 
-/// Writes the line of a device's load and replays a trace on it line by line, writing the report as
-/// it goes.
+// Writes the line of a device's load and replays a trace on it line by line, writing the report as
+// it goes.
 fn replay_device<W: Sink>(
     alloc: Global,
     device: &mut Device,
@@ -75,7 +75,7 @@ fn replay_device<W: Sink>(
     finish(writer, Status::Clean)
 }
 
-/// Loads the parts of a scenario and replays the trace.
+// Loads the parts of a scenario and replays the trace.
 fn replay_parts<W: Sink>(
     alloc: Global,
     scenario: Scenario<'_>,
@@ -92,7 +92,7 @@ fn replay_parts<W: Sink>(
     }
 }
 
-/// Replays a scenario from memory.
+// Replays a scenario from memory.
 fn replay_scenario<W: Sink>(
     alloc: Global,
     text: &[u8],

@@ -18,14 +18,14 @@ pub struct Scenario<'a> {
     pub trace: &'a [u8],
 }
 
-/// Whether the line separates two parts of a scenario.
+// Whether the line separates two parts of a scenario.
 fn is_separator(line: &[u8]) -> bool
     ensures { result ≡ spec.is_separator line.now }
 {
     line == b"%%".as_slice()
 }
 
-/// Returns what precedes the first line that is `%%`, and what follows that line.
+// Returns what precedes the first line that is `%%`, and what follows that line.
 fn cut_part(text: &[u8]) -> Option<(&[u8], &[u8])>
     ensures part { option_map (λ p. (p.0.now, p.1.now)) result ≡ part_of (pieces text.now) }
     ensures within { IfSome result (λ p. length p.1.now ≤ length text.now) }

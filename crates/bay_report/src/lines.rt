@@ -12,24 +12,24 @@ use bay_io::calls::Sink;
 use bay_io::writer::WatchedWriter;
 use bay_services::answer::Command;
 
-/// The number of octets that are written as digits at a time.
+// The number of octets that are written as digits at a time.
 const CHUNK: usize = 256;
 
-/// Returns the digit of a truth value.
+// Returns the digit of a truth value.
 fn digit(truth: bool) -> u8
     ensures { result ∷ [] ≡ digit_of truth }
 {
     b'0' + u8::from(truth)
 }
 
-/// Returns the two digits that say whether a switch may be opened and closed.
+// Returns the two digits that say whether a switch may be opened and closed.
 fn digits(opens: bool, closes: bool) -> [u8; 2]
     ensures { result ≡ digit_of opens ++ digit_of closes }
 {
     [digit(opens), digit(closes)]
 }
 
-/// Writes a switch's part of a scan's line: its id, and whether it may be opened and closed.
+// Writes a switch's part of a scan's line: its id, and whether it may be opened and closed.
 fn put_switch<W: Sink>(writer: &mut WatchedWriter<W>, id: &str, opens: bool, closes: bool)
     ensures { Puts W.contents W.does writer.old (switch_text id.now opens closes) writer.new }
 {
@@ -39,7 +39,7 @@ fn put_switch<W: Sink>(writer: &mut WatchedWriter<W>, id: &str, opens: bool, clo
     writer.put(digits(opens, closes).as_slice());
 }
 
-/// Writes the part of a scan's line for the switch at an index, if there is one.
+// Writes the part of a scan's line for the switch at an index, if there is one.
 fn put_place<W: Sink>(writer: &mut WatchedWriter<W>, device: &Device, place: usize)
     ensures { Puts W.contents W.does writer.old
         (switch_part device.now place (slice_get device.now.switches place)) writer.new }
@@ -53,7 +53,7 @@ fn put_place<W: Sink>(writer: &mut WatchedWriter<W>, device: &Device, place: usi
     put_switch(writer, id, opens, closes);
 }
 
-/// Writes the parts of a scan's line for all switches.
+// Writes the parts of a scan's line for all switches.
 fn put_switches<W: Sink>(writer: &mut WatchedWriter<W>, device: &Device)
     ensures { Puts W.contents W.does writer.old (switches_text device.now 0 device.now.switches)
         writer.new }
@@ -63,7 +63,7 @@ fn put_switches<W: Sink>(writer: &mut WatchedWriter<W>, device: &Device)
     }
 }
 
-/// Writes the line of a scan.
+// Writes the line of a scan.
 fn put_scan<W: Sink>(writer: &mut WatchedWriter<W>, device: &Device, moment: u64, steps: u32)
     ensures { Puts W.contents W.does writer.old (scan_text moment steps device.now) writer.new }
 {
@@ -74,7 +74,7 @@ fn put_scan<W: Sink>(writer: &mut WatchedWriter<W>, device: &Device, moment: u64
     writer.put(b"\n");
 }
 
-/// Writes the line of a scan, if there was one.
+// Writes the line of a scan, if there was one.
 fn put_ran<W: Sink>(writer: &mut WatchedWriter<W>, device: &Device, moment: u64, scan: Option<u32>)
     ensures { Puts W.contents W.does writer.old (ran_text moment scan device.now) writer.new }
 {
@@ -95,7 +95,7 @@ pub fn put_refusal<W: Sink>(writer: &mut WatchedWriter<W>, moment: u64, code: u8
     writer.put(b"\n");
 }
 
-/// Writes the digits of a chunk of octets, using `room` for them.
+// Writes the digits of a chunk of octets, using `room` for them.
 fn put_chunk<W: Sink>(writer: &mut WatchedWriter<W>, room: &mut [u8], chunk: &[u8])
     requires { 2 * length chunk.now ≤ length room.old }
     ensures { Puts W.contents W.does writer.old (encode_lower chunk.now) writer.new }
@@ -105,7 +105,7 @@ fn put_chunk<W: Sink>(writer: &mut WatchedWriter<W>, room: &mut [u8], chunk: &[u
     writer.put(digits);
 }
 
-/// Writes octets as hexadecimal digits.
+// Writes octets as hexadecimal digits.
 fn put_digits<W: Sink>(writer: &mut WatchedWriter<W>, octets: &[u8])
     ensures { Puts W.contents W.does writer.old (encode_lower octets.now) writer.new }
 {
@@ -118,7 +118,7 @@ fn put_digits<W: Sink>(writer: &mut WatchedWriter<W>, octets: &[u8])
     }
 }
 
-/// Writes the line of sent octets.
+// Writes the line of sent octets.
 #[cold]
 fn put_send<W: Sink>(writer: &mut WatchedWriter<W>, moment: u64, sent: &Sent)
     ensures { Puts W.contents W.does writer.old (send_text moment sent.now) writer.new }
@@ -131,7 +131,7 @@ fn put_send<W: Sink>(writer: &mut WatchedWriter<W>, moment: u64, sent: &Sent)
     writer.put(b"\n");
 }
 
-/// Writes the lines of everything sent.
+// Writes the lines of everything sent.
 fn put_sends<W: Sink>(writer: &mut WatchedWriter<W>, moment: u64, sends: &[Sent])
     ensures { Puts W.contents W.does writer.old (sends_text moment sends.now) writer.new }
 {
@@ -140,7 +140,7 @@ fn put_sends<W: Sink>(writer: &mut WatchedWriter<W>, moment: u64, sends: &[Sent]
     }
 }
 
-/// Writes the line of the report that an operation ended, if there is one.
+// Writes the line of the report that an operation ended, if there is one.
 fn put_ended<W: Sink>(writer: &mut WatchedWriter<W>, moment: u64, ended: &Option<Sent>)
     ensures { Puts W.contents W.does writer.old (ended_text moment ended.now) writer.new }
 {
@@ -150,14 +150,14 @@ fn put_ended<W: Sink>(writer: &mut WatchedWriter<W>, moment: u64, ended: &Option
     }
 }
 
-/// Returns the end of a command's line.
+// Returns the end of a command's line.
 fn order(on: bool) -> &'static [u8]
     ensures { result.now ≡ order_text on }
 {
     if on { b" on\n" } else { b" off\n" }
 }
 
-/// Writes the line of a command to the switch with this id.
+// Writes the line of a command to the switch with this id.
 #[cold]
 fn put_command_line<W: Sink>(writer: &mut WatchedWriter<W>, moment: u64, id: &str, on: bool)
     ensures { Puts W.contents W.does writer.old (command_line moment id.now on) writer.new }
@@ -168,7 +168,7 @@ fn put_command_line<W: Sink>(writer: &mut WatchedWriter<W>, moment: u64, id: &st
     writer.put(order(on));
 }
 
-/// Writes the line of a command.
+// Writes the line of a command.
 fn put_command<W: Sink>(
     writer: &mut WatchedWriter<W>,
     device: &Device,
@@ -199,7 +199,7 @@ pub fn put_commands<W: Sink>(
     }
 }
 
-/// Writes why an association was closed, at the end of its line.
+// Writes why an association was closed, at the end of its line.
 fn put_why<W: Sink>(writer: &mut WatchedWriter<W>, why: Why)
     ensures { Puts W.contents W.does writer.old (why_text why) writer.new }
 {
@@ -230,7 +230,7 @@ pub fn put_closing_line<W: Sink>(
     put_why(writer, why);
 }
 
-/// Writes the line of the closed association, if one was closed.
+// Writes the line of the closed association, if one was closed.
 fn put_closed<W: Sink>(writer: &mut WatchedWriter<W>, moment: u64, closed: Option<(u16, Why)>)
     ensures { Puts W.contents W.does writer.old (closed_text moment closed) writer.new }
 {
@@ -240,7 +240,7 @@ fn put_closed<W: Sink>(writer: &mut WatchedWriter<W>, moment: u64, closed: Optio
     }
 }
 
-/// Writes what is printed for an accepted event.
+// Writes what is printed for an accepted event.
 fn put_done<W: Sink>(writer: &mut WatchedWriter<W>, device: &Device, moment: u64, step: &Step)
     ensures { Puts W.contents W.does writer.old (done_text moment step.now device.now) writer.new }
 {

@@ -26,8 +26,8 @@ pub enum Form {
     Image,
 }
 
-/// Returns the fault of a bay file, or else that of a program that is not UTF-8: a bad token at its
-/// first line.
+// Returns the fault of a bay file, or else that of a program that is not UTF-8: a bad token at its
+// first line.
 fn refuse_logic(alloc: Global, bay: &str) -> Result<Device, LoadFault>
     ensures device { Gives LoadFault.OutOfMemory (λ device. device) result
         (of_bay (bay_of bay.now) (Err (BadToken 1))) }
@@ -39,7 +39,7 @@ fn refuse_logic(alloc: Global, bay: &str) -> Result<Device, LoadFault>
     Err(LoadFault::from(TextFault::BadToken { line: 1 }))
 }
 
-/// Loads the device of a bay file's text and a program's octets.
+// Loads the device of a bay file's text and a program's octets.
 fn load_logic(alloc: Global, bay: &str, logic: &[u8]) -> Result<Device, LoadFault>
     ensures device { Gives LoadFault.OutOfMemory (λ device. device) result
         (of_bay (bay_of bay.now) (text_of logic.now)) }
@@ -68,7 +68,7 @@ pub fn load_octets(alloc: Global, bay: &[u8], logic: &[u8]) -> Result<Device, Lo
     }
 }
 
-/// Loads the device of the octets of a bay file and an image.
+// Loads the device of the octets of a bay file and an image.
 fn load_image_octets(alloc: Global, bay: &[u8], image: &[u8]) -> Result<Device, LoadFault>
     ensures ok { IfOk result
         (λ device. Loads (file_of bay.now) (image_spelled image.now) (Ok device)) }

@@ -15,7 +15,7 @@ use bay_io::writer::WatchedWriter;
 use bay_lines::shown::Shown;
 use std::io::ErrorKind;
 
-/// Returns why the system can't read, in words.
+// Returns why the system can't read, in words.
 fn kind_words(kind: ErrorKind) -> &'static [u8]
     ensures { result.now ≡ spec.kind_words kind }
 {
@@ -30,7 +30,7 @@ fn kind_words(kind: ErrorKind) -> &'static [u8]
     }
 }
 
-/// Returns what a fault of a load means, by its number.
+// Returns what a fault of a load means, by its number.
 fn fault_words(code: u8) -> &'static [u8]
     ensures { result.now ≡ spec.fault_words code }
 {
@@ -76,7 +76,7 @@ fn fault_words(code: u8) -> &'static [u8]
     }
 }
 
-/// Logs why a load is refused.
+// Logs why a load is refused.
 fn log_refusal<W: Sink>(writer: &mut WatchedWriter<W>, fault: LoadFault)
     ensures { LogsSome W.contents W.does writer.old (refused_line fault) writer.new }
 {

@@ -10,7 +10,7 @@ use bay_device::report::Report;
 use bay_io::calls::Sink;
 use bay_io::writer::WatchedWriter;
 
-/// Writes a number at the end of its line.
+// Writes a number at the end of its line.
 fn put_last_number<W: Sink>(writer: &mut WatchedWriter<W>, number: u64)
     ensures { Puts W.contents W.does writer.old (decimal number ++ codes "\n") writer.new }
 {
@@ -18,7 +18,7 @@ fn put_last_number<W: Sink>(writer: &mut WatchedWriter<W>, number: u64)
     writer.put(b"\n");
 }
 
-/// Writes the line of a refusal at a line of the program.
+// Writes the line of a refusal at a line of the program.
 fn put_line_refusal<W: Sink>(writer: &mut WatchedWriter<W>, code: u8, line: usize)
     ensures { Puts W.contents W.does writer.old
         (codes "load refused " ++ decimal code ++ codes " line "
@@ -30,7 +30,7 @@ fn put_line_refusal<W: Sink>(writer: &mut WatchedWriter<W>, code: u8, line: usiz
     put_last_number(writer, line as u64);
 }
 
-/// Writes the line of a refusal, given its number and its line, which is 0 if there is none.
+// Writes the line of a refusal, given its number and its line, which is 0 if there is none.
 fn put_numbered_refusal<W: Sink>(writer: &mut WatchedWriter<W>, code: u8, line: usize)
     ensures { Puts W.contents W.does writer.old (spec.numbered_refusal code line) writer.new }
 {

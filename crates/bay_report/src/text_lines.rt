@@ -4,7 +4,7 @@ ghost use Rattle.bay_report.specs.TextLines.{without_end, CutsLine};
 
 use memchr::memchr_iter;
 
-/// Removes the CR that may precede the LF of a line.
+// Removes the CR that may precede the LF of a line.
 fn without_return(line: &[u8]) -> &[u8]
     ensures { result.now ≡ without_end (13 ∷ []) line.now }
 {

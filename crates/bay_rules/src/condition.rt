@@ -23,7 +23,7 @@ pub enum Turn<'a> {
     Refuse,
 }
 
-/// Returns what a token says of what is named before it.
+// Returns what a token says of what is named before it.
 fn value_of(token: Token) -> Option<Value>
     ensures { result ≡ grammar.value_of token }
 {
@@ -34,7 +34,7 @@ fn value_of(token: Token) -> Option<Value>
     }
 }
 
-/// Reads the further values at the front, and returns what follows.
+// Reads the further values at the front, and returns what follows.
 fn more<'a>(draft: &mut Draft, named: Named, tokens: &'a [Token]) -> Result<&'a [Token], AllocError>
     ensures { IfOk result (λ rest. Took (more_at named tokens.entry.now) draft.old draft.new
         tokens.entry.now rest.now) }
@@ -53,7 +53,7 @@ fn more<'a>(draft: &mut Draft, named: Named, tokens: &'a [Token]) -> Result<&'a 
     Ok(rest)
 }
 
-/// Reads the values at the front, and returns what follows, or `None` if there is none.
+// Reads the values at the front, and returns what follows, or `None` if there is none.
 fn values<'a>(
     draft: &mut Draft,
     named: Named,
@@ -75,7 +75,7 @@ fn values<'a>(
     Ok(Some(rest))
 }
 
-/// Reads values behind `is`, which `not` may follow.
+// Reads values behind `is`, which `not` may follow.
 fn is_values<'a>(
     draft: &mut Draft,
     named: Named,
@@ -90,7 +90,7 @@ fn is_values<'a>(
     }
 }
 
-/// Reads a number behind a relation.
+// Reads a number behind a relation.
 fn number<'a>(
     draft: &mut Draft,
     named: Named,
@@ -107,7 +107,7 @@ fn number<'a>(
     Ok(Some(rest))
 }
 
-/// Reads values, or nothing: then an input is TRUE.
+// Reads values, or nothing: then an input is TRUE.
 fn values_or_none<'a>(
     draft: &mut Draft,
     named: Named,
@@ -140,7 +140,7 @@ pub fn fact<'a>(
     }
 }
 
-/// Does what waits for an operand alone, which is complete.
+// Does what waits for an operand alone, which is complete.
 fn settle(draft: &mut Draft, stack: &mut Stack) -> Result<(), AllocError>
     ensures { OnOk result (state stack.new draft.new ≡ settled stack.old draft.old) }
 {
@@ -154,7 +154,7 @@ fn settle(draft: &mut Draft, stack: &mut Stack) -> Result<(), AllocError>
     }
 }
 
-/// Does what waits for operands that are joined by `and`.
+// Does what waits for operands that are joined by `and`.
 fn close(draft: &mut Draft, stack: &mut Stack) -> Result<(), AllocError>
     ensures { OnOk result (state stack.new draft.new ≡ closed (state stack.old draft.old)) }
 {
@@ -165,7 +165,7 @@ fn close(draft: &mut Draft, stack: &mut Stack) -> Result<(), AllocError>
     Ok(())
 }
 
-/// Reads a token where an operand is expected.
+// Reads a token where an operand is expected.
 fn operand<'a>(
     draft: &mut Draft,
     stack: &mut Stack,
@@ -204,7 +204,7 @@ fn operand<'a>(
     }
 }
 
-/// Reads a `)`.
+// Reads a `)`.
 fn end<'a>(draft: &mut Draft, stack: &mut Stack, rest: &'a [Token]) -> Result<Turn<'a>, AllocError>
     ensures { IfOk result (λ turn. Goes turn (state stack.new draft.new) (token.Link End)
         rest.entry.now (ends (closed (state stack.old draft.old)))) }
@@ -223,7 +223,7 @@ fn end<'a>(draft: &mut Draft, stack: &mut Stack, rest: &'a [Token]) -> Result<Tu
     }
 }
 
-/// Reads a token behind an operand.
+// Reads a token behind an operand.
 fn behind<'a>(
     draft: &mut Draft,
     stack: &mut Stack,
@@ -254,7 +254,7 @@ fn behind<'a>(
     }
 }
 
-/// Reads a token.
+// Reads a token.
 fn read_token<'a>(
     draft: &mut Draft,
     stack: &mut Stack,
@@ -272,7 +272,7 @@ fn read_token<'a>(
     }
 }
 
-/// Ends a condition before some tokens. Something may still wait.
+// Ends a condition before some tokens. Something may still wait.
 fn ended<'a>(
     draft: &mut Draft,
     mut stack: Stack,

@@ -24,7 +24,7 @@ impl Model for Draft {
     ghost view = { λ d. if d.fits then Some d.items.items else None };
 }
 
-/// Returns the truth that a number is of an input.
+// Returns the truth that a number is of an input.
 fn truth(number: i32) -> Option<bool>
     ensures { result ≡ truth_of number }
 {
@@ -68,14 +68,14 @@ impl Draft {
         Ok(())
     }
 
-    /// Drops all items: a name can't have what stands behind it.
+    // Drops all items: a name can't have what stands behind it.
     fn refuse(&mut self)
         ensures { self.new ≡ None }
     {
         self.fits = false;
     }
 
-    /// Appends that an input has this truth.
+    // Appends that an input has this truth.
     fn push_input(&mut self, thing: Option<Thing>, truth: bool) -> Result<(), AllocError>
         ensures { OnOk result (self.new ≡ self.old ⊕ input_items thing truth) }
     {
@@ -89,7 +89,7 @@ impl Draft {
         Ok(())
     }
 
-    /// Appends that a measured value stands so to a number.
+    // Appends that a measured value stands so to a number.
     fn push_measure(
         &mut self,
         thing: Option<Thing>,
@@ -110,7 +110,7 @@ impl Draft {
         Ok(())
     }
 
-    /// Appends that an input or a measured value is this number.
+    // Appends that an input or a measured value is this number.
     fn push_number(&mut self, thing: Option<Thing>, number: i32) -> Result<(), AllocError>
         ensures { OnOk result (self.new ≡ self.old ⊕ number_items thing number) }
     {

@@ -8,17 +8,17 @@ ghost use Rattle.bay_rules.specs.declared.pieces.Cut.TheVariants.{Time};
 use crate::pieces::{Cut, cut_piece};
 use bay_base::names::same_letters;
 
-/// Greater numbers, and greater times, are taken as this one, 2^32.
+// Greater numbers, and greater times, are taken as this one, 2^32.
 const ENOUGH: u64 = 4_294_967_296;
 
-/// Returns a number, at most `ENOUGH`.
+// Returns a number, at most `ENOUGH`.
 fn enough(number: u64) -> u64
     ensures { result ≡ min (2 ^ 32) number }
 {
     if number < ENOUGH { number } else { ENOUGH }
 }
 
-/// Appends a decimal digit to a number, or returns `None` if the octet is not a digit.
+// Appends a decimal digit to a number, or returns `None` if the octet is not a digit.
 fn with_digit(number: u64, octet: u8) -> Option<u64>
     requires { number ≤ 2 ^ 32 }
     ensures { result
@@ -30,7 +30,7 @@ fn with_digit(number: u64, octet: u8) -> Option<u64>
     Some(enough(number * 10 + u64::from(octet - b'0')))
 }
 
-/// Reads one or more decimal digits.
+// Reads one or more decimal digits.
 fn digits(word: &[u8]) -> Option<u64>
     ensures { result ≡ option_map (min (2 ^ 32)) (digits_in word.now) }
 {
@@ -44,7 +44,7 @@ fn digits(word: &[u8]) -> Option<u64>
     Some(number)
 }
 
-/// Returns the number as a value if it is below 2^31.
+// Returns the number as a value if it is below 2^31.
 fn positive(number: u64) -> Option<i32>
     ensures { result ≡ positive_of number }
 {
@@ -55,7 +55,7 @@ fn positive(number: u64) -> Option<i32>
     }
 }
 
-/// Returns the negated number as a value if it is not below -2^31.
+// Returns the negated number as a value if it is not below -2^31.
 fn negative(number: u64) -> Option<i32>
     ensures { result ≡ negative_of number }
 {
@@ -76,7 +76,7 @@ pub fn number(word: &[u8]) -> Option<Option<i32>>
     }
 }
 
-/// Returns the milliseconds of a unit.
+// Returns the milliseconds of a unit.
 fn unit(word: &[u8]) -> Option<u64>
     ensures { result ≡ unit_of word.now }
 {
@@ -95,7 +95,7 @@ fn unit(word: &[u8]) -> Option<u64>
     }
 }
 
-/// Reads a number and its unit, and returns what follows them.
+// Reads a number and its unit, and returns what follows them.
 fn part(word: &[u8]) -> Option<(u64, &[u8])>
     requires { 0 < length word.now }
     ensures read { MatchOption result (time_of (pieces Time word.now) ≡ None)
@@ -112,7 +112,7 @@ fn part(word: &[u8]) -> Option<(u64, &[u8])>
     Some((enough(digits(number)? * unit(name)?), rest))
 }
 
-/// Reads numbers that have a unit each.
+// Reads numbers that have a unit each.
 fn milliseconds(word: &[u8]) -> Option<u64>
     ensures { result ≡ option_map (min (2 ^ 32)) (time_of (pieces Time word.now)) }
 {
@@ -126,7 +126,7 @@ fn milliseconds(word: &[u8]) -> Option<u64>
     Some(total)
 }
 
-/// Returns a time that a timer has.
+// Returns a time that a timer has.
 fn timer(time: u64) -> Option<u32>
     ensures { result ≡ timer_time time }
 {

@@ -11,21 +11,21 @@ pub enum Cut {
     Time,
 }
 
-/// Whether an octet is a letter, a digit, `_` or `-`.
+// Whether an octet is a letter, a digit, `_` or `-`.
 fn is_word_octet(octet: u8) -> bool
     ensures { result ≡ spec.is_word_octet octet }
 {
     octet.is_ascii_alphanumeric() || octet == b'_' || octet == b'-'
 }
 
-/// Whether an octet is `<`, `=` or `>`.
+// Whether an octet is `<`, `=` or `>`.
 fn is_relation_octet(octet: u8) -> bool
     ensures { result ≡ spec.is_relation_octet octet }
 {
     b'<' <= octet && octet <= b'>'
 }
 
-/// Whether two neighbours belong to one piece.
+// Whether two neighbours belong to one piece.
 fn joins(cut: Cut, a: u8, b: u8) -> bool
     ensures { result ≡ spec.joins cut a b }
 {

@@ -16,13 +16,13 @@ use bay_base::listing::Listing;
 use bay_config::bay::Bay;
 use std::alloc::{AllocError, Global};
 
-/// The most rules of a text.
+// The most rules of a text.
 const MAX_RULES: usize = 1_000;
 
-/// The most parentheses that stand within each other.
+// The most parentheses that stand within each other.
 const MAX_DEPTH: usize = 64;
 
-/// Whether a token is a name that nothing in the bay has.
+// Whether a token is a name that nothing in the bay has.
 fn is_unknown(token: Token) -> bool
     ensures { result ≡ spec.is_unknown token }
 {
@@ -32,14 +32,14 @@ fn is_unknown(token: Token) -> bool
     }
 }
 
-/// Whether a name is one that nothing in the bay has.
+// Whether a name is one that nothing in the bay has.
 fn has_unknown(tokens: &[Token]) -> bool
     ensures { result ≡ list_any spec.is_unknown tokens.now }
 {
     tokens.iter().any(|token| is_unknown(*token))
 }
 
-/// Whether too many parentheses stand within each other.
+// Whether too many parentheses stand within each other.
 fn is_deep(tokens: &[Token]) -> bool
     ensures { result ≡ spec.is_deep 0 tokens.now }
 {
@@ -59,7 +59,7 @@ fn is_deep(tokens: &[Token]) -> bool
     false
 }
 
-/// Returns the time of a rule, or `None` if a name or a timer can't have what is said.
+// Returns the time of a rule, or `None` if a name or a timer can't have what is said.
 fn timing(timed: Option<Since>) -> Option<Option<Timing>>
     ensures { result ≡ timing_of timed }
 {
@@ -71,8 +71,8 @@ fn timing(timed: Option<Since>) -> Option<Option<Timing>>
     Some(Some(Timing { condition, time }))
 }
 
-/// Returns a rule to open a switch, as its line says it, or `None` if a name can't have what is
-/// said.
+// Returns a rule to open a switch, as its line says it, or `None` if a name can't have what is
+// said.
 fn template(line: usize, said: Said) -> Option<Rule>
     ensures { result ≡ spec.template_of line said }
 {
@@ -89,14 +89,14 @@ fn template(line: usize, said: Said) -> Option<Rule>
     })
 }
 
-/// Copies the items of a condition.
+// Copies the items of a condition.
 fn copied(alloc: Global, items: &Listing<Item>) -> Result<Listing<Item>, AllocError>
     ensures { IfOk result (λ copy. copy ≡ items.now) }
 {
     Ok(Listing::new(items.as_slice().to_vec(alloc)?))
 }
 
-/// Copies the time of a rule.
+// Copies the time of a rule.
 fn copied_timing(alloc: Global, timed: &Option<Timing>) -> Result<Option<Timing>, AllocError>
     ensures { IfOk result (λ copy. copy ≡ timed.now) }
 {
@@ -109,7 +109,7 @@ fn copied_timing(alloc: Global, timed: &Option<Timing>) -> Result<Option<Timing>
     }
 }
 
-/// Appends a rule for one direction.
+// Appends a rule for one direction.
 fn push_rule(
     alloc: Global,
     rules: &mut Vec<Rule>,
@@ -131,7 +131,7 @@ fn push_rule(
     Ok(())
 }
 
-/// Appends a rule for each of its directions.
+// Appends a rule for each of its directions.
 fn push_ways(
     alloc: Global,
     rules: &mut Vec<Rule>,
@@ -155,7 +155,7 @@ fn push_ways(
     }
 }
 
-/// Appends the rules that a line says. Returns whether each name can have what is said.
+// Appends the rules that a line says. Returns whether each name can have what is said.
 fn push_said(
     alloc: Global,
     line: usize,
@@ -175,7 +175,7 @@ fn push_said(
     }
 }
 
-/// Appends the rules of what a line says. Returns whether each name can have what is said.
+// Appends the rules of what a line says. Returns whether each name can have what is said.
 fn push_rules(
     alloc: Global,
     line: usize,
@@ -191,7 +191,7 @@ fn push_rules(
     }
 }
 
-/// Reads the tokens of a line, and appends its rules.
+// Reads the tokens of a line, and appends its rules.
 fn read_tokens(
     alloc: Global,
     line: usize,
@@ -215,7 +215,7 @@ fn read_tokens(
     Ok(())
 }
 
-/// Reads a line, and appends its rules.
+// Reads a line, and appends its rules.
 fn read_line(
     alloc: Global,
     bay: &Bay,
@@ -231,7 +231,7 @@ fn read_line(
     read_tokens(alloc, line, tokens.as_slice(), rules)
 }
 
-/// Returns the first line of a text, and what follows its end.
+// Returns the first line of a text, and what follows its end.
 fn cut_line(text: &[u8]) -> (&[u8], Option<&[u8]>)
     ensures cut { slice_split is_line_end text.now
         ≡ result.0.now ∷ rest_lines (option_map (λ rest. rest.now) result.1) }

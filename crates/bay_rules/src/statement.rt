@@ -45,7 +45,7 @@ pub enum Statement {
     Rule(Said),
 }
 
-/// Reads the directions at the front, and returns what follows.
+// Reads the directions at the front, and returns what follows.
 fn read_ways(tokens: &[Token]) -> Option<(Ways, &[Token])>
     ensures { option_map (λ r. (r.0, r.1.now)) result ≡ ways_at tokens.now }
 {
@@ -58,7 +58,7 @@ fn read_ways(tokens: &[Token]) -> Option<(Ways, &[Token])>
     }
 }
 
-/// Reads a condition, `for` and a time, and returns what follows.
+// Reads a condition, `for` and a time, and returns what follows.
 fn read_since<'a>(
     alloc: Global,
     tokens: &'a [Token],
@@ -79,7 +79,7 @@ fn read_since<'a>(
     }
 }
 
-/// Reads the state in which a rule is asked: `when` and a condition, or nothing.
+// Reads the state in which a rule is asked: `when` and a condition, or nothing.
 fn read_when(alloc: Global, tokens: &[Token]) -> Result<Option<Draft>, AllocError>
     ensures { IfOk result (λ r. r ≡ when_at tokens.now) }
 {
@@ -95,7 +95,7 @@ fn read_when(alloc: Global, tokens: &[Token]) -> Result<Option<Draft>, AllocErro
     Ok(Some(draft))
 }
 
-/// Reads values that are to be looked at.
+// Reads values that are to be looked at.
 fn read_looks(
     alloc: Global,
     named: Named,
@@ -113,7 +113,7 @@ fn read_looks(
     Ok(Some(Statement::Looks(draft)))
 }
 
-/// Whether two kinds are the same.
+// Whether two kinds are the same.
 fn same_kind(a: RuleKind, b: RuleKind) -> bool
     ensures { result ≡ spec.same_kind a b }
 {
@@ -123,7 +123,7 @@ fn same_kind(a: RuleKind, b: RuleKind) -> bool
     )
 }
 
-/// Reads the time at the front, if there is one, and returns what follows.
+// Reads the time at the front, if there is one, and returns what follows.
 fn read_timed<'a>(
     alloc: Global,
     kind: RuleKind,
@@ -144,7 +144,7 @@ fn read_timed<'a>(
     }
 }
 
-/// Reads a rule.
+// Reads a rule.
 fn read_rule(
     alloc: Global,
     kind: RuleKind,

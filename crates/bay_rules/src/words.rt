@@ -17,7 +17,7 @@ use bay_config::bay::{Bay, Point, Source, Switch};
 use bay_tree::leaf::Dbpos;
 use std::alloc::{AllocError, Global};
 
-/// All words and signs in upper case, each once.
+// All words and signs in upper case, each once.
 const WORDS: [(&[u8], Token); 29] = [
     (b"NEVER", Token::Kind(RuleKind::Never)),
     (b"ALWAYS", Token::Kind(RuleKind::Always)),
@@ -53,14 +53,14 @@ const WORDS: [(&[u8], Token); 29] = [
     (b">", Token::Relation(Relation::Greater)),
 ];
 
-/// Returns all words and signs with their spellings.
+// Returns all words and signs with their spellings.
 fn words() -> &'static [(&'static [u8], Token)]
     ensures { map (λ entry. (entry.0.now, entry.1)) result.now ≡ spec.words }
 {
     &WORDS
 }
 
-/// Returns the first entry whose spelling is the given word.
+// Returns the first entry whose spelling is the given word.
 fn entry_of<'a>(
     entries: &'a [(&'static [u8], Token)],
     piece: &[u8],
@@ -70,7 +70,7 @@ fn entry_of<'a>(
     entries.iter().find(|entry| same_letters(piece, entry.0))
 }
 
-/// Returns the token of an entry.
+// Returns the token of an entry.
 fn token_at(entry: Option<&(&'static [u8], Token)>) -> Option<Token>
     ensures { result ≡ option_map (λ one. one.1) (option_copied entry.entry) }
 {
@@ -80,14 +80,14 @@ fn token_at(entry: Option<&(&'static [u8], Token)>) -> Option<Token>
     }
 }
 
-/// Returns the word or the sign that a piece is, in letters of either case.
+// Returns the word or the sign that a piece is, in letters of either case.
 fn word(piece: &[u8]) -> Option<Token>
     ensures { result ≡ word_of piece.now }
 {
     token_at(entry_of(words(), piece))
 }
 
-/// Returns the input or the measured value that a point stands for.
+// Returns the input or the measured value that a point stands for.
 fn thing(source: Source) -> Option<Thing>
     ensures { result ≡ thing_of source }
 {
@@ -98,7 +98,7 @@ fn thing(source: Source) -> Option<Thing>
     }
 }
 
-/// Returns the place of the switch with this id.
+// Returns the place of the switch with this id.
 fn switch_named(switches: &[Switch], name: &[u8]) -> Option<usize>
     ensures { result ≡ position (λ s. same_name name.now s.id) switches.now }
 {
@@ -107,7 +107,7 @@ fn switch_named(switches: &[Switch], name: &[u8]) -> Option<usize>
         .position(|switch| same_letters(name, switch.id.as_str().as_bytes()))
 }
 
-/// Returns the first point with this name.
+// Returns the first point with this name.
 fn point_named<'a>(points: &'a [Point], name: &[u8]) -> Option<&'a Point>
     ensures { option_copied result ≡ find (λ p. same_name name.now p.name) points.now }
 {
@@ -116,7 +116,7 @@ fn point_named<'a>(points: &'a [Point], name: &[u8]) -> Option<&'a Point>
         .find(|point| same_letters(name, point.name.as_str().as_bytes()))
 }
 
-/// Returns the input or the measured value of the point with this name.
+// Returns the input or the measured value of the point with this name.
 fn thing_named(points: &[Point], name: &[u8]) -> Option<Thing>
     ensures { result
         ≡ option_and_then (λ p. thing_of p.source)
@@ -128,7 +128,7 @@ fn thing_named(points: &[Point], name: &[u8]) -> Option<Thing>
     }
 }
 
-/// Returns what a name stands for.
+// Returns what a name stands for.
 fn named(bay: &Bay, name: &[u8]) -> Named
     ensures { result ≡ named_in bay.now name.now }
 {
@@ -138,7 +138,7 @@ fn named(bay: &Bay, name: &[u8]) -> Named
     }
 }
 
-/// Whether a text begins with a letter.
+// Whether a text begins with a letter.
 fn begins_with_letter(text: &[u8]) -> bool
     ensures { result ≡ key.begins_with_letter text.now }
 {
@@ -148,21 +148,21 @@ fn begins_with_letter(text: &[u8]) -> bool
     }
 }
 
-/// Whether an octet is a letter, a digit or `_`.
+// Whether an octet is a letter, a digit or `_`.
 fn is_name_character(octet: u8) -> bool
     ensures { result ≡ key.is_name_character octet }
 {
     octet.is_ascii_alphanumeric() || octet == b'_'
 }
 
-/// Whether a text has letters, digits and `_` alone.
+// Whether a text has letters, digits and `_` alone.
 fn has_name_characters(text: &[u8]) -> bool
     ensures { result ≡ list_all key.is_name_character text.now }
 {
     text.iter().all(|octet| is_name_character(*octet))
 }
 
-/// Returns the token that a piece is, or `None` if no rule has it.
+// Returns the token that a piece is, or `None` if no rule has it.
 fn token(bay: &Bay, piece: &[u8]) -> Option<Token>
     ensures { result ≡ token_of bay.now piece.now }
 {
@@ -181,14 +181,14 @@ fn token(bay: &Bay, piece: &[u8]) -> Option<Token>
     None
 }
 
-/// Whether a piece is a space, a tab or a carriage return.
+// Whether a piece is a space, a tab or a carriage return.
 fn is_blank(piece: &[u8]) -> bool
     ensures { result ≡ meaning.is_blank_piece piece.now }
 {
     matches!(piece, [b' ' | b'\t' | b'\r', ..])
 }
 
-/// Returns a line up to its comment.
+// Returns a line up to its comment.
 fn before_comment(line: &[u8]) -> &[u8]
     ensures { result.now ≡ before_first is_comment line.now }
 {

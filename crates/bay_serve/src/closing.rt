@@ -33,7 +33,7 @@ pub fn cut_off<L: Link>(
     notes.go(place, closing);
 }
 
-/// Closes the associations to which a reply did not fit, at most `count` of them.
+// Closes the associations to which a reply did not fit, at most `count` of them.
 fn settle_some<L: Link>(
     server: &mut Server,
     notes: &mut Notes,

@@ -12,14 +12,14 @@ use crate::server::Server;
 use crate::told::Closing;
 use bay_device::event::ASSOCIATIONS;
 
-/// The result of an offer: how many octets were taken, and whether a write failed.
+// The result of an offer: how many octets were taken, and whether a write failed.
 #[derive(Clone, Copy)]
 struct Offered {
     done: usize,
     failed: bool,
 }
 
-/// Offers octets to a client until none are left, a write takes none, or a write fails.
+// Offers octets to a client until none are left, a write takes none, or a write fails.
 fn offer<L: Link>(octets: &[u8], link: &mut L, association: u16) -> Offered
     requires low { 0 < association }
     requires high { association ≤ 8 }
@@ -46,7 +46,7 @@ fn offer<L: Link>(octets: &[u8], link: &mut L, association: u16) -> Offered
     }
 }
 
-/// Offers the queue of an association, if it is open or leaving.
+// Offers the queue of an association, if it is open or leaving.
 fn offer_one<L: Link>(server: &mut Server, notes: &mut Notes, link: &mut L, now: u64, place: usize)
     requires { place < 8 }
     ensures { Goes (Called L.does L.failures) (spec.offer_one now place) (offer_calls now place)

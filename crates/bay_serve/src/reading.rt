@@ -14,7 +14,7 @@ use crate::told::Closing;
 use bay_device::event::{ASSOCIATIONS, Event, Why};
 use std::net::SocketAddrV4;
 
-/// The maximum number of octets read from a client in a turn.
+// The maximum number of octets read from a client in a turn.
 const PIECE: usize = 4096;
 
 /// Accepts a waiting connection, if there is one and a number is free. Returns the association that
@@ -44,7 +44,7 @@ pub fn accept_one<L: Link>(
     }
 }
 
-/// Passes a client's octets to the device, and queues what the device sends.
+// Passes a client's octets to the device, and queues what the device sends.
 fn take_in(server: &mut Server, notes: &mut Notes, now: u64, place: usize, octets: &[u8])
     requires place { place < 8 }
     requires room { length notes.old.commands < 8 }
@@ -69,7 +69,7 @@ fn take_in(server: &mut Server, notes: &mut Notes, now: u64, place: usize, octet
     notes.decide(place, step.decisions);
 }
 
-/// Reads a client once, if its association is open.
+// Reads a client once, if its association is open.
 fn read_one<L: Link>(server: &mut Server, notes: &mut Notes, link: &mut L, now: u64, place: usize)
     requires place { place < 8 }
     requires room { length notes.old.commands < 8 }

@@ -10,7 +10,7 @@ use crate::server::Server;
 use bay_device::event::{Event, Sent, place_of};
 use bay_services::answer::Command;
 
-/// Puts a whole reply into the queue of an association, or notes that it did not fit.
+// Puts a whole reply into the queue of an association, or notes that it did not fit.
 fn put_whole(server: &mut Server, notes: &mut Notes, place: usize, octets: &[u8])
     requires { place < 8 }
     ensures after { turning server.new notes.new

@@ -13,13 +13,13 @@ use bay_lines::kept::Kept;
 use std::alloc::{AllocError, AllocFailed, Global};
 use std::marker::Model;
 
-/// The maximum number of octets in a queue.
+// The maximum number of octets in a queue.
 const ROOM: usize = 262_144;
 
-/// What is still to be sent to one client.
+// What is still to be sent to one client.
 type Queue = Kept<ROOM>;
 
-/// The parts of a server.
+// The parts of a server.
 #[derive(Drop)]
 struct Parts {
     device: Device,
@@ -50,7 +50,7 @@ impl Model for Server {
     ghost invariant = { λ s. length s.parts.value.queues.items ≡ 8 };
 }
 
-/// Creates eight empty queues.
+// Creates eight empty queues.
 fn make_queues(alloc: Global) -> Result<Vec<Queue>, AllocError>
     ensures { IfOk result (λ queues. queues.items ≡ replicate 8 []) }
 {

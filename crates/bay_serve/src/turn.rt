@@ -17,7 +17,7 @@ use crate::told::Turn;
 use bay_device::device::Device;
 use bay_device::event::{Event, LAST_MOMENT};
 
-/// Does an event of the process at the turn's time.
+// Does an event of the process at the turn's time.
 fn tell(server: &mut Server, notes: &mut Notes, now: u64, event: ProcessEvent)
     ensures after { turning server.new notes.new
         ≡ told_of now event (turning server.old notes.old) }
@@ -28,7 +28,7 @@ fn tell(server: &mut Server, notes: &mut Notes, now: u64, event: ProcessEvent)
     }
 }
 
-/// Does the event of the process, if there is one.
+// Does the event of the process, if there is one.
 fn tell_line<L: Link>(
     server: &mut Server,
     notes: &mut Notes,
@@ -47,7 +47,7 @@ fn tell_line<L: Link>(
     }
 }
 
-/// Runs the program once.
+// Runs the program once.
 fn scan<L: Link>(server: &mut Server, notes: &mut Notes, link: &mut L, now: u64)
     ensures talks { Talks (Called L.does L.failures) link.old
         (scan_calls now (turning server.old notes.old)) link.new }
@@ -101,7 +101,7 @@ pub fn serve_event<L: Link>(
     Ok(notes.into_turn(opened))
 }
 
-/// Reads the line of a turn, if there is one.
+// Reads the line of a turn, if there is one.
 fn read_given(device: &Device, line: Option<&str>) -> Given
     ensures { result ≡ given_by device.now (text_in line.entry) }
 {

@@ -29,7 +29,7 @@ pub fn show_none(tree: &mut Tree, rows: &[ControlRows])
 }
 
 impl ServedBay {
-    /// Returns the row that shows a selected switch as selected.
+    // Returns the row that shows a selected switch as selected.
     fn mark(&self, selected: Option<usize>) -> Option<Handle>
         ensures row { result ≡ marked_row self.now.control_rows selected }
         ensures few { length self.now.control_rows < 18_446_744_073_709_551_616 }

@@ -37,7 +37,7 @@ use std::alloc::{AllocError, Global};
 // The error of a write that is no whole control, or that is refused.
 const DENIED: DataAccessError = DataAccessError::ObjectAccessDenied;
 
-/// A part of a switch's control, with the row that names it.
+// A part of a switch's control, with the row that names it.
 #[derive(Clone, Copy)]
 struct Part {
     /// The index of the switch in the bay file, from 0.

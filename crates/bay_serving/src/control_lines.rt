@@ -15,7 +15,7 @@ use bay_lines::shown::Shown;
 use bay_services::answer::{Asked, Decision};
 use bay_services::target::ControlPart;
 
-/// Returns what is asked of a control.
+// Returns what is asked of a control.
 fn service_words(part: ControlPart) -> &'static [u8]
     ensures { result.now ≡ spec.service_words part }
 {
@@ -27,7 +27,7 @@ fn service_words(part: ControlPart) -> &'static [u8]
     }
 }
 
-/// Returns what was decided, with the number of the cause and its text.
+// Returns what was decided, with the number of the cause and its text.
 fn verdict_words(answer: Result<(), AddCause>) -> &'static [u8]
     ensures { result.now ≡ spec.verdict_words answer }
 {
@@ -57,21 +57,21 @@ fn verdict_words(answer: Result<(), AddCause>) -> &'static [u8]
     }
 }
 
-/// Returns the position that is asked for.
+// Returns the position that is asked for.
 fn position_words(on: bool) -> &'static [u8]
     ensures { result.now ≡ spec.position_words on }
 {
     if on { b" on orCat=" } else { b" off orCat=" }
 }
 
-/// Returns the sign of a number, if it is below 0.
+// Returns the sign of a number, if it is below 0.
 fn sign(number: i8) -> &'static [u8]
     ensures { result.now ≡ sign_text number }
 {
     if number < 0 { b"-" } else { b"" }
 }
 
-/// Returns the id of the switch at an index.
+// Returns the id of the switch at an index.
 fn id(device: &Device, switch: usize) -> &[u8]
     ensures { result.now ≡ id_of device.now switch }
 {
@@ -81,7 +81,7 @@ fn id(device: &Device, switch: usize) -> &[u8]
     }
 }
 
-/// Logs what was written to a control, with its orIdent as it is shown, and what was decided of it.
+// Logs what was written to a control, with its orIdent as it is shown, and what was decided of it.
 fn log_written<'a, W: Sink>(
     writer: &mut WatchedWriter<W>,
     moment: u64,
@@ -110,7 +110,7 @@ fn log_written<'a, W: Sink>(
     ]);
 }
 
-/// Logs what was decided of a select by a read.
+// Logs what was decided of a select by a read.
 fn log_selected<W: Sink>(writer: &mut WatchedWriter<W>, moment: u64, id: &[u8], decision: &Decision)
     ensures { Logs W.contents W.does writer.old (selected_line moment id.now decision.now)
         writer.new }
@@ -125,7 +125,7 @@ fn log_selected<W: Sink>(writer: &mut WatchedWriter<W>, moment: u64, id: &[u8], 
     ]);
 }
 
-/// Logs a control that was asked for.
+// Logs a control that was asked for.
 fn log_decision<W: Sink>(
     writer: &mut WatchedWriter<W>,
     device: &Device,
@@ -145,7 +145,7 @@ fn log_decision<W: Sink>(
     }
 }
 
-/// Logs controls that were asked for.
+// Logs controls that were asked for.
 fn log_decisions<W: Sink>(
     writer: &mut WatchedWriter<W>,
     device: &Device,
@@ -160,7 +160,7 @@ fn log_decisions<W: Sink>(
     }
 }
 
-/// Logs the controls that an association asked for, if octets of it came.
+// Logs the controls that an association asked for, if octets of it came.
 fn log_asked<W: Sink>(
     writer: &mut WatchedWriter<W>,
     device: &Device,

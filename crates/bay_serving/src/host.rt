@@ -13,10 +13,10 @@ use std::time::Duration;
 use std::{io, thread};
 use thiserror::Error;
 
-/// The maximum length of a pause, in milliseconds.
+// The maximum length of a pause, in milliseconds.
 const PAUSE: u64 = 10;
 
-/// The system's number for too many open files (EMFILE).
+// The system's number for too many open files (EMFILE).
 const TOO_MANY_FILES: i32 = 24;
 
 /// Why a port can't be opened.
@@ -99,7 +99,7 @@ impl<'a, R> SystemHost<'a, R> {
     }
 }
 
-/// Returns the readiness of a host's sockets, which is created at the first port.
+// Returns the readiness of a host's sockets, which is created at the first port.
 fn ready_for<'a, R: Runtime<A = Global> + Net>(
     rt: &R,
     readiness: &'a mut Option<Readiness>,
@@ -118,7 +118,7 @@ impl<'a, R: Runtime<A = Global> + Net<Listener = TcpListener, Stream = TcpStream
         Ok(TcpLink::bind(self.rt, self.rt, readiness, port)?)
     }
 
-    /// A clock that cannot be read gives 0, which is not later than any time.
+    // A clock that cannot be read gives 0, which is not later than any time.
     fn now(&mut self) -> u64 {
         let Ok(now) = self.rt.since_1970() else {
             return 0;
@@ -126,7 +126,7 @@ impl<'a, R: Runtime<A = Global> + Net<Listener = TcpListener, Stream = TcpStream
         u64::try_from(now.as_millis()).unwrap_or(u64::MAX)
     }
 
-    /// Sleeps if there is nothing to wait for.
+    // Sleeps if there is nothing to wait for.
     fn pause(&mut self) {
         let most = Duration::from_millis(PAUSE);
         let waited = match &mut self.readiness {

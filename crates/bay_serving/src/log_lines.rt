@@ -31,7 +31,7 @@ pub fn log_unbound<W: Sink>(writer: &mut WatchedWriter<W>, port: u16, fault: Bin
     ]);
 }
 
-/// Logs the ports of the clients and of the process.
+// Logs the ports of the clients and of the process.
 fn log_both_ports<W: Sink>(writer: &mut WatchedWriter<W>, moment: u64, port: u16, process: u16)
     ensures { Logs W.contents W.does writer.old (ports_log moment port (Some process)) writer.new }
 {
@@ -65,7 +65,7 @@ pub fn log_ports<W: Sink>(
     }
 }
 
-/// Returns what the number of the device's fault means.
+// Returns what the number of the device's fault means.
 fn fault_words(code: u8) -> &'static [u8]
     ensures { result.now ≡ spec.fault_words code }
 {
@@ -84,7 +84,7 @@ fn fault_words(code: u8) -> &'static [u8]
     }
 }
 
-/// Returns why an association was closed, in words.
+// Returns why an association was closed, in words.
 fn closing_words(closing: Closing) -> &'static [u8]
     ensures { result.now ≡ spec.closing_words closing }
 {
@@ -96,7 +96,7 @@ fn closing_words(closing: Closing) -> &'static [u8]
     }
 }
 
-/// Logs that an association was opened, and from where.
+// Logs that an association was opened, and from where.
 fn log_open<W: Sink>(writer: &mut WatchedWriter<W>, moment: u64, opened: (u16, SocketAddrV4))
     ensures { Logs W.contents W.does writer.old (opened_line moment opened) writer.new }
 {
@@ -120,7 +120,7 @@ fn log_open<W: Sink>(writer: &mut WatchedWriter<W>, moment: u64, opened: (u16, S
     ]);
 }
 
-/// Logs that an association was opened, if one was.
+// Logs that an association was opened, if one was.
 fn log_opened<W: Sink>(
     writer: &mut WatchedWriter<W>,
     moment: u64,
@@ -134,7 +134,7 @@ fn log_opened<W: Sink>(
     }
 }
 
-/// Logs that the device refused what a line told.
+// Logs that the device refused what a line told.
 fn log_refusal<W: Sink>(writer: &mut WatchedWriter<W>, moment: u64, code: u8, shown: &Shown)
     ensures { Logs W.contents W.does writer.old (refused_line moment code shown.now) writer.new }
 {
@@ -148,7 +148,7 @@ fn log_refusal<W: Sink>(writer: &mut WatchedWriter<W>, moment: u64, code: u8, sh
     ]);
 }
 
-/// Logs that the device refused what a line told, if it did.
+// Logs that the device refused what a line told, if it did.
 fn log_refused<W: Sink>(
     writer: &mut WatchedWriter<W>,
     moment: u64,
@@ -164,7 +164,7 @@ fn log_refused<W: Sink>(
     }
 }
 
-/// Logs that an association was closed, and why.
+// Logs that an association was closed, and why.
 fn log_closed<W: Sink>(writer: &mut WatchedWriter<W>, moment: u64, closed: (u16, Closing))
     ensures { Logs W.contents W.does writer.old (closed_line moment closed) writer.new }
 {
@@ -181,7 +181,7 @@ fn log_closed<W: Sink>(writer: &mut WatchedWriter<W>, moment: u64, closed: (u16,
     ]);
 }
 
-/// Logs the associations that were closed.
+// Logs the associations that were closed.
 fn log_closings<W: Sink>(writer: &mut WatchedWriter<W>, moment: u64, closed: &[(u16, Closing)])
     ensures { LogsAll W.contents W.does writer.old (map (closed_line moment) closed.now)
         writer.new }
@@ -191,7 +191,7 @@ fn log_closings<W: Sink>(writer: &mut WatchedWriter<W>, moment: u64, closed: &[(
     }
 }
 
-/// Logs that an association was closed because the device was out of memory.
+// Logs that an association was closed because the device was out of memory.
 fn log_memory<W: Sink>(writer: &mut WatchedWriter<W>, moment: u64, association: u16)
     ensures { Logs W.contents W.does writer.old (memory_line moment association) writer.new }
 {
@@ -203,7 +203,7 @@ fn log_memory<W: Sink>(writer: &mut WatchedWriter<W>, moment: u64, association: 
     ]);
 }
 
-/// Logs the associations that were closed because the device was out of memory.
+// Logs the associations that were closed because the device was out of memory.
 fn log_memories<W: Sink>(writer: &mut WatchedWriter<W>, moment: u64, memory: &[u16])
     ensures { LogsAll W.contents W.does writer.old (map (memory_line moment) memory.now)
         writer.new }
@@ -231,7 +231,7 @@ pub fn log_turn<W: Sink>(
     log_memories(writer, moment, turn.memory.as_slice());
 }
 
-/// Logs which line of the trace is not valid.
+// Logs which line of the trace is not valid.
 fn log_bad_line<W: Sink>(writer: &mut WatchedWriter<W>, number: usize, shown: &Shown)
     ensures { Logs W.contents W.does writer.old (unserved_log BadLine number shown.now) writer.new }
 {
@@ -268,7 +268,7 @@ pub fn log_used_up<W: Sink>(writer: &mut WatchedWriter<W>, moment: u64)
     writer.log(&[Part::Number(moment), Part::Text(b" all turns are served\n")]);
 }
 
-/// Returns why the connection of the process was closed, in words.
+// Returns why the connection of the process was closed, in words.
 fn parting_words(why: &Parting) -> &[u8]
     ensures { result.now ≡ spec.parting_words why.now }
 {
@@ -280,7 +280,7 @@ fn parting_words(why: &Parting) -> &[u8]
     }
 }
 
-/// Logs that the connection of the process was closed, and why.
+// Logs that the connection of the process was closed, and why.
 fn log_parting<W: Sink>(writer: &mut WatchedWriter<W>, moment: u64, why: &Parting)
     ensures { Logs W.contents W.does writer.old (news_log moment (Closed why.now)) writer.new }
 {

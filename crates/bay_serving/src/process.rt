@@ -55,7 +55,7 @@ impl<L> Process<L> {
         }
     }
 
-    /// Whether anything has happened since the last call of this function.
+    // Whether anything has happened since the last call of this function.
     fn was_busy(&mut self) -> bool
         ensures { self.new ≡ self.old }
     {
@@ -75,7 +75,7 @@ pub fn was_busy<L>(process: &mut Option<Process<L>>) -> bool
     }
 }
 
-/// Whether a process has gone and some switches may not be bad yet.
+// Whether a process has gone and some switches may not be bad yet.
 fn is_leaving<L>(process: &Option<Process<L>>) -> bool
     ensures { result ≡ is_gone process.now }
 {
@@ -85,7 +85,7 @@ fn is_leaving<L>(process: &Option<Process<L>>) -> bool
     }
 }
 
-/// Takes what the port of the process has, if one is heard.
+// Takes what the port of the process has, if one is heard.
 fn take_said<L>(process: &mut Option<Process<L>>, device: &Device) -> Next
     ensures next { result ≡ (from_port device.now [] process.old).next }
     ensures process { process.new ≡ (from_port device.now [] process.old).process }
@@ -107,7 +107,7 @@ fn take_said<L>(process: &mut Option<Process<L>>, device: &Device) -> Next
     }
 }
 
-/// Reads a line of the trace, with its number.
+// Reads a line of the trace, with its number.
 fn read_next(device: &Device, line: (usize, &[u8])) -> Next
     ensures { result ≡ next_by device.now (line.entry.0, line.entry.1.now) }
 {
@@ -139,7 +139,7 @@ pub fn choose<L>(
     }
 }
 
-/// Attends to a process after a turn, and writes what happened to its connection.
+// Attends to a process after a turn, and writes what happened to its connection.
 fn attend_one<L: Link, W: Sink>(
     process: &mut Process<L>,
     device: &Device,

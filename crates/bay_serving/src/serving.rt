@@ -30,7 +30,7 @@ pub enum Tried {
     Ends(u8),
 }
 
-/// A device that is served to clients over their link, and the process, if one is heard.
+// A device that is served to clients over their link, and the process, if one is heard.
 #[derive(Drop)]
 struct Served<L> {
     server: Server,
@@ -39,7 +39,7 @@ struct Served<L> {
 }
 
 impl<L> Served<L> {
-    /// Whether a turn left nothing to do at once, given what it was given.
+    // Whether a turn left nothing to do at once, given what it was given.
     fn is_idle(&mut self, given: Given) -> bool
         ensures server { self.new.server ≡ self.old.server }
         ensures link { self.new.link.link ≡ self.old.link.link }
@@ -52,7 +52,7 @@ impl<L> Served<L> {
     }
 }
 
-/// Tries a turn, logs and prints what it reports, and then attends to the process.
+// Tries a turn, logs and prints what it reports, and then attends to the process.
 fn try_turn<L: Link, H: Host<L>, W: Sink>(
     served: &mut Served<L>,
     host: &mut H,
@@ -80,7 +80,7 @@ fn try_turn<L: Link, H: Host<L>, W: Sink>(
     }
 }
 
-/// Pauses if there is nothing to do at once.
+// Pauses if there is nothing to do at once.
 fn rest<L, H: Host<L>>(host: &mut H, was_idle: bool)
     ensures { (host.new ≡ host.old) ⊎ H.does host.old Pauses host.new }
 {
@@ -89,9 +89,9 @@ fn rest<L, H: Host<L>>(host: &mut H, was_idle: bool)
     }
 }
 
-/// Serves the given number of turns, each with what it is given, and logs and prints what each
-/// reports, and logs that all are served. Returns the exit status: 0 after the last turn, or 3 at a
-/// turn that is not done. Pauses after a turn that left nothing to do at once.
+// Serves the given number of turns, each with what it is given, and logs and prints what each
+// reports, and logs that all are served. Returns the exit status: 0 after the last turn, or 3 at a
+// turn that is not done. Pauses after a turn that left nothing to do at once.
 fn serve_lines<L: Link, H: Host<L>, W: Sink>(
     served: &mut Served<L>,
     host: &mut H,

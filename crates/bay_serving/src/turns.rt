@@ -24,7 +24,7 @@ use bay_report::output::{Status, finish, write_text};
 use bay_serve::fault::ServeFault;
 use bay_serve::told::{Closing, Turn};
 
-/// Writes the line of a refusal, if there was one.
+// Writes the line of a refusal, if there was one.
 fn put_refused<W: Sink>(writer: &mut WatchedWriter<W>, moment: u64, refused: Option<u8>)
     ensures { Puts W.contents W.does writer.old (refusal_text moment refused) writer.new }
 {
@@ -34,7 +34,7 @@ fn put_refused<W: Sink>(writer: &mut WatchedWriter<W>, moment: u64, refused: Opt
     }
 }
 
-/// Writes the line of a closed association, with the number of the reason.
+// Writes the line of a closed association, with the number of the reason.
 fn put_entry<W: Sink>(writer: &mut WatchedWriter<W>, moment: u64, entry: (u16, Closing))
     ensures { Puts W.contents W.does writer.old
         (closing_text moment entry.0 (Fault (code_of entry.1)))
@@ -44,7 +44,7 @@ fn put_entry<W: Sink>(writer: &mut WatchedWriter<W>, moment: u64, entry: (u16, C
     put_closing_line(writer, moment, association, Why::Fault(closing.code()));
 }
 
-/// Writes the lines of the closed associations.
+// Writes the lines of the closed associations.
 fn put_closings<W: Sink>(writer: &mut WatchedWriter<W>, moment: u64, closed: &[(u16, Closing)])
     ensures { Puts W.contents W.does writer.old (closings_text moment closed.now) writer.new }
 {
@@ -53,7 +53,7 @@ fn put_closings<W: Sink>(writer: &mut WatchedWriter<W>, moment: u64, closed: &[(
     }
 }
 
-/// Writes the lines of the associations that were closed because the device was out of memory.
+// Writes the lines of the associations that were closed because the device was out of memory.
 fn put_memories<W: Sink>(writer: &mut WatchedWriter<W>, moment: u64, memory: &[u16])
     ensures { Puts W.contents W.does writer.old (memories_text moment memory.now) writer.new }
 {
@@ -62,7 +62,7 @@ fn put_memories<W: Sink>(writer: &mut WatchedWriter<W>, moment: u64, memory: &[u
     }
 }
 
-/// Writes what is printed for a turn.
+// Writes what is printed for a turn.
 fn put_turn<W: Sink>(writer: &mut WatchedWriter<W>, device: &Device, moment: u64, turn: &Turn)
     ensures { Puts W.contents W.does writer.old (turn_text moment turn.now device.now) writer.new }
 {
@@ -72,7 +72,7 @@ fn put_turn<W: Sink>(writer: &mut WatchedWriter<W>, device: &Device, moment: u64
     put_memories(writer, moment, turn.memory.as_slice());
 }
 
-/// Whether a turn reports nothing.
+// Whether a turn reports nothing.
 fn is_quiet(turn: &Turn) -> bool
     ensures { result ≡ spec.is_quiet turn.now }
 {
@@ -82,7 +82,7 @@ fn is_quiet(turn: &Turn) -> bool
         && turn.memory.as_slice().is_empty()
 }
 
-/// Writes the lines of a turn, and flushes them.
+// Writes the lines of a turn, and flushes them.
 fn write_turn<W: Sink>(
     writer: &mut WatchedWriter<W>,
     device: &Device,
@@ -96,8 +96,8 @@ fn write_turn<W: Sink>(
     finish(writer, Status::Clean)
 }
 
-/// Writes the lines of a turn and flushes them. Does not use the writer if the turn reports
-/// nothing.
+// Writes the lines of a turn and flushes them. Does not use the writer if the turn reports
+// nothing.
 fn print_turn<W: Sink>(
     writer: &mut WatchedWriter<W>,
     device: &Device,
@@ -129,7 +129,7 @@ pub fn tell_turn<W: Sink>(
     print_turn(writer, device, moment, turn)
 }
 
-/// Writes that the connection of the process was accepted.
+// Writes that the connection of the process was accepted.
 fn put_opened<W: Sink>(writer: &mut WatchedWriter<W>, moment: u64)
     ensures { Puts W.contents W.does writer.old (news_text moment Opened) writer.new }
 {
@@ -137,7 +137,7 @@ fn put_opened<W: Sink>(writer: &mut WatchedWriter<W>, moment: u64)
     writer.put(b" process open\n");
 }
 
-/// Writes that the connection of the process was closed, with the number of the reason.
+// Writes that the connection of the process was closed, with the number of the reason.
 fn put_parting<W: Sink>(writer: &mut WatchedWriter<W>, moment: u64, why: &Parting)
     ensures { Puts W.contents W.does writer.old (news_text moment (Closed why.now)) writer.new }
 {
@@ -147,7 +147,7 @@ fn put_parting<W: Sink>(writer: &mut WatchedWriter<W>, moment: u64, why: &Partin
     writer.put(b"\n");
 }
 
-/// Writes what happened to the connection of the process.
+// Writes what happened to the connection of the process.
 fn put_news<W: Sink>(writer: &mut WatchedWriter<W>, moment: u64, news: &News)
     ensures { Puts W.contents W.does writer.old (news_text moment news.now) writer.new }
 {
@@ -157,7 +157,7 @@ fn put_news<W: Sink>(writer: &mut WatchedWriter<W>, moment: u64, news: &News)
     }
 }
 
-/// Writes what happened to the connection of the process, and flushes it.
+// Writes what happened to the connection of the process, and flushes it.
 fn write_news<W: Sink>(
     writer: &mut WatchedWriter<W>,
     moment: u64,
@@ -188,7 +188,7 @@ pub fn tell_news<W: Sink>(
     }
 }
 
-/// Writes which line of the trace is not valid.
+// Writes which line of the trace is not valid.
 fn write_bad_line<W: Sink>(writer: &mut WatchedWriter<W>, number: usize) -> Result<u8, WriteFault>
     ensures { Prints W.contents W.does (IsLast (unserved_text ServeFault.BadLine number) 3)
         writer.old
@@ -198,7 +198,7 @@ fn write_bad_line<W: Sink>(writer: &mut WatchedWriter<W>, number: usize) -> Resu
     finish(writer, Status::Fault)
 }
 
-/// Writes why a turn was not done, with the number of its line of the trace.
+// Writes why a turn was not done, with the number of its line of the trace.
 fn write_unserved<W: Sink>(
     writer: &mut WatchedWriter<W>,
     fault: ServeFault,

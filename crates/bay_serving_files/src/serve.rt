@@ -97,7 +97,7 @@ impl From<AllocError> for Unserved<'_> {
     }
 }
 
-/// Writes that a port can't be opened, and then logs why.
+// Writes that a port can't be opened, and then logs why.
 fn tell_unbound<W: Sink>(
     writer: &mut WatchedWriter<W>,
     port: u16,
@@ -111,7 +111,7 @@ fn tell_unbound<W: Sink>(
     Ok(status)
 }
 
-/// Writes that no turn is served, and then logs why.
+// Writes that no turn is served, and then logs why.
 fn tell_unserved<W: Sink>(
     writer: &mut WatchedWriter<W>,
     why: Unserved<'_>,
@@ -126,7 +126,7 @@ fn tell_unserved<W: Sink>(
     }
 }
 
-/// Reads the bay, then the program or the image, then the trace, if it is named, and loads them.
+// Reads the bay, then the program or the image, then the trace, if it is named, and loads them.
 fn load_files<'a, F: FileSystem>(
     alloc: Global,
     named: Named<'a>,
@@ -151,7 +151,7 @@ fn load_files<'a, F: FileSystem>(
     Ok(Loaded { device, trace })
 }
 
-/// Creates a server of a device, with the link of its clients and the process.
+// Creates a server of a device, with the link of its clients and the process.
 fn bound_to<'a, L: Drop>(
     alloc: Global,
     device: Device,
@@ -172,7 +172,7 @@ fn bound_to<'a, L: Drop>(
     }
 }
 
-/// Opens the port of the process, if there is one, behind that of the clients.
+// Opens the port of the process, if there is one, behind that of the clients.
 fn bind_process<'a, L: Link + Drop, H: Host<L>>(
     alloc: Global,
     device: Device,
@@ -197,7 +197,7 @@ fn bind_process<'a, L: Link + Drop, H: Host<L>>(
     }
 }
 
-/// Opens the port of the clients, and then that of the process, if there is one.
+// Opens the port of the clients, and then that of the process, if there is one.
 fn bind_ports<'a, L: Link + Drop, H: Host<L>>(
     alloc: Global,
     device: Device,
@@ -214,7 +214,7 @@ fn bind_ports<'a, L: Link + Drop, H: Host<L>>(
     }
 }
 
-/// Logs the ports at the clock's time, if the log was started.
+// Logs the ports at the clock's time, if the log was started.
 fn log_start<L, H: Host<L>, W: Sink>(host: &mut H, numbers: Numbers, writer: &mut WatchedWriter<W>)
     ensures { LogsPorts H.does W.contents W.does numbers host.old host.new writer.old
         writer.new }
@@ -225,7 +225,7 @@ fn log_start<L, H: Host<L>, W: Sink>(host: &mut H, numbers: Numbers, writer: &mu
     }
 }
 
-/// Logs the ports, and serves the given number of turns.
+// Logs the ports, and serves the given number of turns.
 fn serve_bound<L: Link + Drop, H: Host<L>, W: Sink>(
     bound: Bound<L>,
     trace: &[u8],
@@ -247,7 +247,7 @@ fn serve_bound<L: Link + Drop, H: Host<L>, W: Sink>(
     serve_turns(server, link, process, host, trace, numbers.turns, writer)
 }
 
-/// Writes the line of a load, opens the ports, and serves.
+// Writes the line of a load, opens the ports, and serves.
 fn serve_loaded<L: Link + Drop, H: Host<L>, W: Sink>(
     alloc: Global,
     loaded: Loaded,

@@ -3,7 +3,7 @@ use bay_config::read::read_bay;
 use std::alloc::Global;
 use std::test::Fail;
 
-/// Returns the number of the refusal of a bay file that is a comment of the given number of octets.
+// Returns the number of the refusal of a bay file that is a comment of the given number of octets.
 fn refusal_of(alloc: Global, octets: usize) -> Result<Option<u8>, Fail> {
     let mut text = String::new(alloc);
     for _ in 0..octets {
@@ -15,7 +15,7 @@ fn refusal_of(alloc: Global, octets: usize) -> Result<Option<u8>, Fail> {
     }
 }
 
-/// A comment has no section, and one that is too long is not parsed.
+// A comment has no section, and one that is too long is not parsed.
 #[test]
 fn longest_bay(rt: HostRuntime) -> Result<(), Fail> {
     assert_eq!(rt; refusal_of(rt.alloc(), 262_144)?, Some(51));

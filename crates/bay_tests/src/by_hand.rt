@@ -15,7 +15,7 @@ use il_text::program::{
 use std::alloc::{AllocError, Global};
 use std::test::Fail;
 
-/// Returns the fault of a program for these points.
+// Returns the fault of a program for these points.
 fn fault_of(alloc: Global, program: &Program<'_>, points: &[Point]) -> Option<CheckFault> {
     match check(alloc, program, points) {
         Ok(_) => None,
@@ -23,7 +23,7 @@ fn fault_of(alloc: Global, program: &Program<'_>, points: &[Point]) -> Option<Ch
     }
 }
 
-/// Returns a program with a single declaration.
+// Returns a program with a single declaration.
 fn declaring<'a>(alloc: Global, declaration: Declaration<'a>) -> Result<Program<'a>, AllocError> {
     let declarations = vec![in alloc; declaration]?;
     Ok(Program {
@@ -33,7 +33,7 @@ fn declaring<'a>(alloc: Global, declaration: Declaration<'a>) -> Result<Program<
     })
 }
 
-/// Returns a program with only these items, which are on line 1.
+// Returns a program with only these items, which are on line 1.
 #[tactic(auto, using(crate::proofs::FirstLineLemmas::rising))]
 fn with_items<'a>(alloc: Global, items: Vec<Item<'a>>) -> Program<'a>
     requires { are_first (map entry_of items.items) ≡ true }
@@ -58,7 +58,7 @@ fn load<'a>(literal: Literal) -> Item<'a>
     }
 }
 
-/// Returns a load on line 1, followed by a parenthesis around these items.
+// Returns a load on line 1, followed by a parenthesis around these items.
 fn around<'a>(alloc: Global, items: Vec<Item<'a>>) -> Result<Vec<Item<'a>>, AllocError>
     requires { are_first (map entry_of items.items) ≡ true }
     ensures { IfOk result (λ outer. are_first (map entry_of outer.items) ≡ true) }
@@ -76,7 +76,7 @@ fn around<'a>(alloc: Global, items: Vec<Item<'a>>) -> Result<Vec<Item<'a>>, Allo
     Ok(outer)
 }
 
-/// Wraps these items in four parentheses.
+// Wraps these items in four parentheses.
 fn four_around<'a>(alloc: Global, items: Vec<Item<'a>>) -> Result<Vec<Item<'a>>, AllocError>
     requires { are_first (map entry_of items.items) ≡ true }
     ensures { IfOk result (λ outer. are_first (map entry_of outer.items) ≡ true) }
@@ -87,7 +87,7 @@ fn four_around<'a>(alloc: Global, items: Vec<Item<'a>>) -> Result<Vec<Item<'a>>,
     around(alloc, items)
 }
 
-/// Returns sixteen nested parentheses.
+// Returns sixteen nested parentheses.
 fn sixteen<'a>(alloc: Global) -> Result<Vec<Item<'a>>, AllocError>
     ensures { IfOk result (λ items. are_first (map entry_of items.items) ≡ true) }
 {
@@ -98,7 +98,7 @@ fn sixteen<'a>(alloc: Global) -> Result<Vec<Item<'a>>, AllocError>
     four_around(alloc, items)
 }
 
-/// Returns the fault of a program with only these items.
+// Returns the fault of a program with only these items.
 fn fault_of_items(alloc: Global, items: Vec<Item<'_>>) -> Option<CheckFault>
     requires { are_first (map entry_of items.items) ≡ true }
 {
@@ -115,10 +115,10 @@ fn parentheses_too_deep(rt: HostRuntime) -> Result<(), Fail> {
     Ok(())
 }
 
-/// A TIME one millisecond above the maximum.
+// A TIME one millisecond above the maximum.
 const LONG: Literal = Literal::Time(2_147_483_648);
 
-/// Returns a program whose only variable has this TIME as its initial value.
+// Returns a program whose only variable has this TIME as its initial value.
 fn beginning<'a>(alloc: Global, initial: Literal) -> Result<Program<'a>, AllocError> {
     let declaration = Declaration {
         line: 1,
@@ -146,7 +146,7 @@ fn a_literal_outside_of_its_type(rt: HostRuntime) -> Result<(), Fail> {
     Ok(())
 }
 
-/// Returns the fault of a program whose external has the same name as the bay's point.
+// Returns the fault of a program whose external has the same name as the bay's point.
 fn fault_of_name(alloc: Global, name: &str) -> Result<Option<CheckFault>, Fail> {
     let point = Point {
         name: Text::from_str(alloc, name)?,

@@ -19,7 +19,7 @@ const ENABLE: Source = Source::Switch {
     point: SwitchPoint::EnableOpen,
 };
 
-/// Checks the program of a text, for a bay whose only point is QA1_ENA_OPN.
+// Checks the program of a text, for a bay whose only point is QA1_ENA_OPN.
 fn checked(alloc: Global, text: &str) -> Result<Typed, Fail> {
     let point = Point {
         name: Text::from_str(alloc, "QA1_ENA_OPN")?,
@@ -36,13 +36,13 @@ fn declared() -> &'static str {
     "PROGRAM P\nVAR\nd : DINT := 7;\nt1 : TON;\nEND_VAR\nVAR_EXTERNAL\nqa1_Ena_Opn : BOOL;\nEND_VAR\n"
 }
 
-/// Checks the program that has only these declarations.
+// Checks the program that has only these declarations.
 fn checked_declarations(alloc: Global) -> Result<Typed, Fail> {
     let text = format!(in alloc; "{}END_PROGRAM\n", declared())?;
     checked(alloc, text.as_str())
 }
 
-/// Describes externals: name, type, whether they are writable, and their sources.
+// Describes externals: name, type, whether they are writable, and their sources.
 fn externals_text(alloc: Global, externals: &[External]) -> Result<String, AllocError> {
     let mut text = String::new(alloc);
     for external in externals {
@@ -64,7 +64,7 @@ fn declared_externals(rt: HostRuntime) -> Result<(), Fail> {
     Ok(())
 }
 
-/// Describes variables and timers: the names, and after a variable's name its initial value.
+// Describes variables and timers: the names, and after a variable's name its initial value.
 fn locals_text(alloc: Global, typed: &Typed) -> Result<String, AllocError> {
     let mut text = String::new(alloc);
     for variable in typed.variables() {
@@ -86,7 +86,7 @@ fn declared_variables_and_timers(rt: HostRuntime) -> Result<(), Fail> {
     Ok(())
 }
 
-/// Returns the operation of an item, if it is one.
+// Returns the operation of an item, if it is one.
 fn operation_of(item: Option<&TypedItem>) -> Option<SimpleOperation> {
     match item {
         Some(TypedItem::Entry(TypedEntry::Operation(operation))) => Some(*operation),
@@ -94,7 +94,7 @@ fn operation_of(item: Option<&TypedItem>) -> Option<SimpleOperation> {
     }
 }
 
-/// Returns the jump, return or call of an item, if it is one.
+// Returns the jump, return or call of an item, if it is one.
 fn transfer_of(item: Option<&TypedItem>) -> Option<Transfer> {
     match item {
         Some(TypedItem::Transfer(transfer)) => Some(*transfer),
@@ -102,7 +102,7 @@ fn transfer_of(item: Option<&TypedItem>) -> Option<Transfer> {
     }
 }
 
-/// Whether the items are exactly these operations and transfers.
+// Whether the items are exactly these operations and transfers.
 fn are_left(items: &[TypedItem], expected: &[(Option<SimpleOperation>, Option<Transfer>)]) -> bool {
     for (i, (operation, transfer)) in expected.iter().enumerate() {
         let item = items.get(i);
@@ -113,7 +113,7 @@ fn are_left(items: &[TypedItem], expected: &[(Option<SimpleOperation>, Option<Tr
     items.len() == expected.len()
 }
 
-/// Whether the lines after the declarations are checked to these operations and transfers.
+// Whether the lines after the declarations are checked to these operations and transfers.
 fn leaves(
     alloc: Global,
     lines: &str,

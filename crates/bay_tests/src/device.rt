@@ -31,14 +31,14 @@ ST QB1_ENA_CLS
 END_PROGRAM
 ";
 
-/// The image of the program in version 1, split around the version number.
+// The image of the program in version 1, split around the version number.
 const IMAGE: [&str; 2] = [
     "494c4243",
     "00030100085141315f4f50454e01010b5142315f454e415f4f504e01010b5142315f454e415f434c5300000000000d02000607000008000108000201",
 ];
 
-/// Whether look-ups find names in either case, do not find others' names, and count each kind
-/// correctly.
+// Whether look-ups find names in either case, do not find others' names, and count each kind
+// correctly.
 fn finds(device: &Device) -> bool {
     let switches = [
         device.switch("qb1"),
@@ -59,7 +59,7 @@ fn finds(device: &Device) -> bool {
         && [device.ena(0), device.ena(2)] == [Some((false, false)), None]
 }
 
-/// Does the same with a newly loaded device.
+// Does the same with a newly loaded device.
 fn a_device_finds(alloc: Global) -> Result<bool, LoadFault> {
     match load(alloc, BAY, LOGIC) {
         Ok(device) => Ok(finds(&device)),
@@ -73,7 +73,7 @@ fn look_ups(rt: HostRuntime) -> Result<(), Fail> {
     Ok(())
 }
 
-/// Returns the numbers of refusals, with 0 for an event that was done.
+// Returns the numbers of refusals, with 0 for an event that was done.
 fn codes_of(alloc: Global, answers: &[Result<Step, StepFault>]) -> Result<Vec<u8>, AllocError> {
     let mut codes = Vec::new(alloc);
     for answer in answers {
@@ -85,7 +85,7 @@ fn codes_of(alloc: Global, answers: &[Result<Step, StepFault>]) -> Result<Vec<u8
     Ok(codes)
 }
 
-/// Checks a device's answers to events of the process, of which the second is a scan.
+// Checks a device's answers to events of the process, of which the second is a scan.
 fn runs_process(alloc: Global, device: &mut Device) -> Result<bool, Fail> {
     let position = Dbpos::Off;
     let answers = device.run(&[
@@ -127,7 +127,7 @@ fn runs_process(alloc: Global, device: &mut Device) -> Result<bool, Fail> {
     Ok(is_scanned && codes.as_slice() == [0, 0, 110, 113, 114].as_slice())
 }
 
-/// Returns the event of octets from association 1.
+// Returns the event of octets from association 1.
 fn heard(octets: &[u8]) -> Event<'_> {
     Event::Recv {
         association: 1,
@@ -135,7 +135,7 @@ fn heard(octets: &[u8]) -> Event<'_> {
     }
 }
 
-/// Whether an event sent the answer to a transport connection request.
+// Whether an event sent the answer to a transport connection request.
 fn is_confirmed(alloc: Global, answer: Option<&Result<Step, StepFault>>) -> Result<bool, Fail> {
     match answer {
         Some(Ok(step)) => match step.sent.as_slice() {
@@ -146,8 +146,8 @@ fn is_confirmed(alloc: Global, answer: Option<&Result<Step, StepFault>>) -> Resu
     }
 }
 
-/// Checks a device's answers to events of associations, and to octets of an association that is not
-/// open.
+// Checks a device's answers to events of associations, and to octets of an association that is not
+// open.
 fn runs_talk(alloc: Global, device: &mut Device) -> Result<bool, Fail> {
     let request = octets_of(alloc, &[REQUEST])?;
     let other = Event::Recv {
@@ -168,7 +168,7 @@ fn runs_talk(alloc: Global, device: &mut Device) -> Result<bool, Fail> {
     Ok(is_confirmed && codes.as_slice() == [0, 0, 0, 111, 0, 111, 111].as_slice())
 }
 
-/// Checks a device's answers to both.
+// Checks a device's answers to both.
 fn runs_all(alloc: Global, device: &mut Device) -> Result<bool, Fail> {
     Ok(
         runs_process(alloc, device)?
@@ -177,7 +177,7 @@ fn runs_all(alloc: Global, device: &mut Device) -> Result<bool, Fail> {
     )
 }
 
-/// Does the same with a newly loaded device.
+// Does the same with a newly loaded device.
 fn a_device_runs(alloc: Global) -> Result<bool, Fail> {
     match load(alloc, BAY, LOGIC) {
         Ok(mut device) => runs_all(alloc, &mut device),
@@ -191,7 +191,7 @@ fn runs(rt: HostRuntime) -> Result<(), Fail> {
     Ok(())
 }
 
-/// Whether a device gives its image in version 2.
+// Whether a device gives its image in version 2.
 fn gives_image(alloc: Global, device: &Device) -> Result<bool, Fail> {
     has_octets(
         alloc,
@@ -200,7 +200,7 @@ fn gives_image(alloc: Global, device: &Device) -> Result<bool, Fail> {
     )
 }
 
-/// Does the same with the device of an image in version 1.
+// Does the same with the device of an image in version 1.
 fn a_device_gives_image(alloc: Global, first: &[u8]) -> Result<bool, Fail> {
     match load_image(alloc, BAY, first) {
         Ok(device) => gives_image(alloc, &device),
@@ -215,14 +215,14 @@ fn images(rt: HostRuntime) -> Result<(), Fail> {
     Ok(())
 }
 
-/// Whether a scan of a device ends within its budget, and the device can give its image behind it.
+// Whether a scan of a device ends within its budget, and the device can give its image behind it.
 fn ends_in_time(device: &mut Device) -> Result<bool, Fail> {
     let budget = device.report().budget;
     let step = device.step(1000, Event::Scan)?;
     Ok(step.scan.unwrap_or(u32::MAX) <= budget && device.image().is_ok())
 }
 
-/// Whether an image is loaded. Its scan must end within its budget.
+// Whether an image is loaded. Its scan must end within its budget.
 fn is_loaded(alloc: Global, image: &[u8]) -> Result<bool, Fail> {
     let ends = match load_image(alloc, session::BAY, image) {
         Ok(mut device) => ends_in_time(&mut device),
@@ -235,8 +235,8 @@ fn is_loaded(alloc: Global, image: &[u8]) -> Result<bool, Fail> {
     Ok(true)
 }
 
-/// Loads an image with the octet at an index replaced by each other value, and returns how many are
-/// loaded.
+// Loads an image with the octet at an index replaced by each other value, and returns how many are
+// loaded.
 fn loaded_of(alloc: Global, image: &mut [u8], at: usize) -> Result<usize, Fail>
     requires { at < length image.old }
 {
@@ -252,7 +252,7 @@ fn loaded_of(alloc: Global, image: &mut [u8], at: usize) -> Result<usize, Fail>
     Ok(loaded)
 }
 
-/// Loads an image with each octet replaced by each other value, and returns how many are loaded.
+// Loads an image with each octet replaced by each other value, and returns how many are loaded.
 fn loaded_in(alloc: Global, image: &mut [u8]) -> Result<usize, Fail> {
     let mut loaded = 0usize;
     for at in 0..image.len() {
@@ -261,14 +261,14 @@ fn loaded_in(alloc: Global, image: &mut [u8]) -> Result<usize, Fail> {
     Ok(loaded)
 }
 
-/// Does the same with the image in a version.
+// Does the same with the image in a version.
 fn loaded_changed(alloc: Global, version: &str) -> Result<usize, Fail> {
     let mut image = octets_of(alloc, &[IMAGE[0], version, IMAGE[1]])?;
     loaded_in(alloc, image.as_mut_slice())
 }
 
-/// Three names of another point, the other version, and changes of the code: 14, and in version 2
-/// one more, to a PUSHL. In version 1 also 1 to 64 timers, of which nothing follows their number.
+// Three names of another point, the other version, and changes of the code: 14, and in version 2
+// one more, to a PUSHL. In version 1 also 1 to 64 timers, of which nothing follows their number.
 #[test]
 fn changed_images(rt: HostRuntime) -> Result<(), Fail> {
     assert_eq!(rt; loaded_changed(rt.alloc(), "01")?, 82);
@@ -276,7 +276,7 @@ fn changed_images(rt: HostRuntime) -> Result<(), Fail> {
     Ok(())
 }
 
-/// Returns the messages of refused loads, refused events and a failed write.
+// Returns the messages of refused loads, refused events and a failed write.
 fn messages_text(alloc: Global) -> Result<String, AllocError> {
     format!(in alloc;
         "{}, {}, {}, {}, {}, {}",

@@ -7,7 +7,7 @@ use std::io::{ErrorKind, Read, Seek, SeekFrom, Write};
 use std::rt::Files;
 use std::test::Fail;
 
-/// A file that accepts no octets.
+// A file that accepts no octets.
 #[derive(Drop)]
 struct FullFile {
     file: File,
@@ -53,7 +53,7 @@ impl OpenFile for FullFile {
     }
 }
 
-/// The files of a system on whose disk files can be created but accept no octets.
+// The files of a system on whose disk files can be created but accept no octets.
 #[derive(Drop)]
 struct FullDisk<'a> {
     host: &'a HostRuntime,

@@ -93,8 +93,8 @@ const RESULTS: [(Operation, Width, i64, i64, i64); 14] = [
     (Operation::Sub, Width::Lint, i64::MIN, 1, i64::MAX),
 ];
 
-/// Whether an instruction is encoded as these octets, and they decode to it between a DROP and a
-/// HALT.
+// Whether an instruction is encoded as these octets, and they decode to it between a DROP and a
+// HALT.
 fn is_spelled(alloc: Global, octets: &[u8], instr: Instr) -> Result<bool, AllocError> {
     let mut code = [0x06].to_vec(alloc)?;
     instr.spell(&mut code)?;

@@ -16,7 +16,7 @@ use std::test::Fail;
 use std::time::{Duration, Instant};
 use std::{io, thread};
 
-/// Takes the connection of a client under a number, waiting at most some seconds for it.
+// Takes the connection of a client under a number, waiting at most some seconds for it.
 fn take<C: Clock>(
     rt: &impl Clock,
     link: &mut TcpLink<'_, C>,
@@ -34,7 +34,7 @@ fn take<C: Clock>(
     Ok(false)
 }
 
-/// Sends octets to a client that reads none, until none can be taken. Returns how many were taken.
+// Sends octets to a client that reads none, until none can be taken. Returns how many were taken.
 fn fill<C: Clock>(alloc: Global, link: &mut TcpLink<'_, C>) -> Result<Option<usize>, Fail> {
     let octets = vec![in alloc; 7u8; 65_536]?;
     let mut told = 0usize;
@@ -48,8 +48,8 @@ fn fill<C: Clock>(alloc: Global, link: &mut TcpLink<'_, C>) -> Result<Option<usi
     Ok(None)
 }
 
-/// Reads what a client receives within some seconds: the given number of octets and any that follow
-/// them. Returns how many it received.
+// Reads what a client receives within some seconds: the given number of octets and any that follow
+// them. Returns how many it received.
 fn drained<R: Runtime<A = Global>>(
     rt: &R,
     stream: &TcpStream,
@@ -117,7 +117,7 @@ fn the_clock_counts_milliseconds(rt: HostRuntime) -> Result<(), Fail> {
     Ok(())
 }
 
-/// A clock that is set by hand, in seconds.
+// A clock that is set by hand, in seconds.
 #[derive(Drop)]
 struct SetClock {
     seconds: Cell<u64>,
@@ -133,7 +133,7 @@ impl Clock for SetClock {
     }
 }
 
-/// Returns a link with two clients, the first of which sends an octet.
+// Returns a link with two clients, the first of which sends an octet.
 fn link_of_two<'a, R: Runtime<A = Global> + Net<Listener = TcpListener, Stream = TcpStream>>(
     rt: &R,
     clock: &'a SetClock,
@@ -150,7 +150,7 @@ fn link_of_two<'a, R: Runtime<A = Global> + Net<Listener = TcpListener, Stream =
     Ok((link, [first, second]))
 }
 
-/// Returns what a connection has to read, waiting some seconds for it.
+// Returns what a connection has to read, waiting some seconds for it.
 fn heard<C: Clock>(rt: &impl Clock, link: &mut TcpLink<'_, C>) -> Option<Arrival> {
     for _ in 0..2000 {
         match link.read(1, &mut [0; 16]) {
@@ -179,7 +179,7 @@ fn a_silent_connection_fails(rt: HostRuntime) -> Result<(), Fail> {
     Ok(())
 }
 
-/// Returns how many milliseconds a wait takes.
+// Returns how many milliseconds a wait takes.
 fn waited(rt: &impl Clock, readiness: &mut Readiness, most: u64) -> Result<u128, Fail> {
     let begun = Instant::now(rt)?;
     readiness.wait(Duration::from_millis(most))?;

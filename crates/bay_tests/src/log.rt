@@ -13,7 +13,7 @@ use std::io;
 use std::io::ErrorKind;
 use std::test::Fail;
 
-/// A sink that takes everything, and keeps what is logged.
+// A sink that takes everything, and keeps what is logged.
 #[derive(Drop)]
 struct Recorder<'a> {
     alloc: Global,
@@ -21,7 +21,7 @@ struct Recorder<'a> {
 }
 
 impl Recorder<'_> {
-    /// Keeps a part of a line.
+    // Keeps a part of a line.
     fn keep(&self, part: Part<'_>) -> io::Result<()> {
         let Ok(mut logged) = self.logged.try_borrow_mut() else {
             return Err(io::Error::from(ErrorKind::Other));
@@ -53,7 +53,7 @@ impl Sink for Recorder<'_> {
     }
 }
 
-/// Returns what is logged for words that ask to serve or to replay a trace.
+// Returns what is logged for words that ask to serve or to replay a trace.
 fn logged<L: Link + Drop, H: Host<L>>(
     alloc: Global,
     host: &mut H,
@@ -104,7 +104,7 @@ const OPEN: &str =
 const CANCEL: &str =
     "0300005f02f0800100010061523050020103a04ba049020105a544a021301fa01da11b1a04424159311a13435357493124434f24506f732443616e63656ca01fa21d8301ffa20785010289024101860200ff9108000000000000002a830100";
 
-/// A host whose one port has these clients, and whose clock advances by a second.
+// A host whose one port has these clients, and whose clock advances by a second.
 #[derive(Drop)]
 struct Clients {
     link: Option<MemoryLink>,
@@ -194,7 +194,7 @@ fn ports_that_cannot_be_had(rt: HostRuntime) -> Result<(), Fail> {
     Ok(())
 }
 
-/// A scenario whose trace has a line that can't be read.
+// A scenario whose trace has a line that can't be read.
 const SCENARIO: &str =
     "bay = { domain = \"B\", vendor = \"V\", model = \"M\", revision = \"1\", scan_max_age_ms = 0 }
 switch = [{ id = \"Q\", kind = \"breaker\", control = \"status\" }]

@@ -9,7 +9,7 @@ use bay_serve::turn::serve_turn;
 use std::alloc::Global;
 use std::test::Fail;
 
-/// Serves one turn, and appends its closings to those before.
+// Serves one turn, and appends its closings to those before.
 fn turn(
     server: &mut Server,
     link: &mut MemoryLink,
@@ -21,7 +21,7 @@ fn turn(
     Ok(())
 }
 
-/// Serves turns one millisecond apart, and returns the closings that they report.
+// Serves turns one millisecond apart, and returns the closings that they report.
 fn turns_of(
     alloc: Global,
     server: &mut Server,
@@ -35,19 +35,19 @@ fn turns_of(
     Ok(closed)
 }
 
-/// Serves clients for the given number of turns, and returns the closings.
+// Serves clients for the given number of turns, and returns the closings.
 fn serve(alloc: Global, link: &mut MemoryLink, turns: u64) -> Result<Vec<(u16, Closing)>, Fail> {
     let mut server = server(alloc)?;
     turns_of(alloc, &mut server, link, turns)
 }
 
-/// Returns the given number of clients, each with a whole session.
+// Returns the given number of clients, each with a whole session.
 fn sessions(alloc: Global, count: usize) -> Result<MemoryLink, Fail> {
     let octets = octets_of(alloc, &[REQUEST, CONNECT, IDENTIFY])?;
     MemoryLink::new(alloc, octets.as_slice(), count)
 }
 
-/// The answers to a session.
+// The answers to a session.
 const ANSWERS: [&str; 3] = [CONFIRM, CONNECTED, IDENTITY];
 
 #[test]
@@ -82,7 +82,7 @@ fn nine_clients_are_served_one_after_the_other(rt: HostRuntime) -> Result<(), Fa
     Ok(())
 }
 
-/// Returns a session in which the call with this number fails.
+// Returns a session in which the call with this number fails.
 fn failing(alloc: Global, fails_at: u64) -> Result<MemoryLink, Fail> {
     let mut link = sessions(alloc, 1)?;
     link.per_write = 50;
@@ -90,8 +90,8 @@ fn failing(alloc: Global, fails_at: u64) -> Result<MemoryLink, Fail> {
     Ok(link)
 }
 
-/// Whether, if this call fails, the client received everything, or the first part of it and then
-/// the report that its connection failed.
+// Whether, if this call fails, the client received everything, or the first part of it and then
+// the report that its connection failed.
 fn is_told(alloc: Global, fails_at: u64) -> Result<bool, Fail> {
     let mut link = failing(alloc, fails_at)?;
     let closed = serve(alloc, &mut link, 3)?;
@@ -102,7 +102,7 @@ fn is_told(alloc: Global, fails_at: u64) -> Result<bool, Fail> {
     Ok(link.failures == 1 && is_front && (is_closed || is_whole))
 }
 
-/// Returns the number of calls in a session in which none fails.
+// Returns the number of calls in a session in which none fails.
 fn calls_of_all(alloc: Global) -> Result<u64, Fail> {
     let mut link = failing(alloc, 0)?;
     serve(alloc, &mut link, 3)?;
@@ -118,7 +118,7 @@ fn each_call_may_fail(rt: HostRuntime) -> Result<(), Fail> {
     Ok(())
 }
 
-/// Returns a session with the given number of identify requests.
+// Returns a session with the given number of identify requests.
 fn long_session(alloc: Global, count: u64) -> Result<MemoryLink, Fail> {
     let mut octets = octets_of(alloc, &[REQUEST, CONNECT])?;
     let identify = octets_of(alloc, &[IDENTIFY])?;
@@ -138,15 +138,15 @@ fn a_client_that_never_reads_is_closed(rt: HostRuntime) -> Result<(), Fail> {
     Ok(())
 }
 
-/// Serves a turn with a line, and returns the number of its refusal.
+// Serves a turn with a line, and returns the number of its refusal.
 fn tell(alloc: Global, server: &mut Server, now: u64, line: &str) -> Result<Option<u8>, Fail> {
     let mut link = sessions(alloc, 0)?;
     let turn = serve_turn(server, &mut link, now, Some(line))?;
     Ok(turn.refused)
 }
 
-/// Whether a contact is taken at the clock's time, and one of an unknown switch is refused at the
-/// last time.
+// Whether a contact is taken at the clock's time, and one of an unknown switch is refused at the
+// last time.
 fn takes_lines(alloc: Global, server: &mut Server) -> Result<bool, Fail> {
     let taken = tell(alloc, server, 1000, "1 contact QA1 1")?;
     let unknown = tell(alloc, server, 999, "1 contact QA9 1")?;
@@ -155,7 +155,7 @@ fn takes_lines(alloc: Global, server: &mut Server) -> Result<bool, Fail> {
     Ok(taken.is_none() && unknown == Some(113) && is_free && device.moment() == 1000)
 }
 
-/// Does the same with a new server.
+// Does the same with a new server.
 fn a_server_takes_lines(alloc: Global) -> Result<bool, Fail> {
     let mut server = server(alloc)?;
     takes_lines(alloc, &mut server)
@@ -167,7 +167,7 @@ fn a_line_tells_of_the_process(rt: HostRuntime) -> Result<(), Fail> {
     Ok(())
 }
 
-/// Returns the number of the fault for which a turn is not done.
+// Returns the number of the fault for which a turn is not done.
 fn fault_of(
     alloc: Global,
     server: &mut Server,
@@ -181,7 +181,7 @@ fn fault_of(
     }
 }
 
-/// Whether each of some lines is refused, and so is a time that is too late.
+// Whether each of some lines is refused, and so is a time that is too late.
 fn refuses_turns(alloc: Global, server: &mut Server) -> Result<bool, Fail> {
     for line in ["1 scan", "1 open 1", "", "contact QA1 1", "1 contact QA1 4"] {
         if fault_of(alloc, server, 2000, Some(line))? != Some(120) {
@@ -192,7 +192,7 @@ fn refuses_turns(alloc: Global, server: &mut Server) -> Result<bool, Fail> {
     Ok(late == Some(114) && server.device().moment() == 0)
 }
 
-/// Does the same with a new server.
+// Does the same with a new server.
 fn a_server_refuses_turns(alloc: Global) -> Result<bool, Fail> {
     let mut server = server(alloc)?;
     refuses_turns(alloc, &mut server)

@@ -11,7 +11,7 @@ pub fn somewhere() -> SocketAddrV4 {
     SocketAddrV4::new(Ipv4Addr::LOCALHOST, 40_000)
 }
 
-/// A client: how many of the octets that it sends were read, and what was sent to it.
+// A client: how many of the octets that it sends were read, and what was sent to it.
 #[derive(Drop)]
 struct Client {
     given: usize,
@@ -34,7 +34,7 @@ pub struct MemoryLink {
     pub closed: u64,
 }
 
-/// Returns the given number of clients.
+// Returns the given number of clients.
 fn clients_of(alloc: Global, count: usize) -> Result<Vec<Client>, Fail> {
     let mut clients = Vec::new(alloc);
     for _ in 0..count {
@@ -73,7 +73,7 @@ impl MemoryLink {
         }
     }
 
-    /// Counts a call, and returns whether it is the one that fails.
+    // Counts a call, and returns whether it is the one that fails.
     fn is_failing(&mut self) -> bool
         ensures { self.new.failures ≡ self.old.failures }
     {
@@ -82,7 +82,7 @@ impl MemoryLink {
     }
 }
 
-/// Copies unread octets of a client to `room`, as many as fit, and returns how many.
+// Copies unread octets of a client to `room`, as many as fit, and returns how many.
 fn give(incoming: &[u8], given: &mut usize, room: &mut [u8]) -> usize
     ensures { result ≤ length room.new }
 {

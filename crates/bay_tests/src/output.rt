@@ -7,7 +7,7 @@ use std::io;
 use std::io::Write;
 use std::test::Fail;
 
-/// A reader that takes what is written while it is open.
+// A reader that takes what is written while it is open.
 #[derive(Drop)]
 struct Reader<'a> {
     is_open: &'a Cell<bool>,
@@ -28,7 +28,7 @@ impl Write for Reader<'_> {
     }
 }
 
-/// 65,536 octets, the most that are written at once.
+// 65,536 octets, the most that are written at once.
 const PIECE: [u8; 65_536] = [b'a'; 65_536];
 
 #[test]

@@ -151,8 +151,8 @@ fn a_port_that_cannot_be_had(rt: HostRuntime) -> Result<(), Fail> {
     Ok(())
 }
 
-/// Another process comes only once every switch is bad: here one turn after the closing. A third
-/// one has gone itself by then, and is not taken.
+// Another process comes only once every switch is bad: here one turn after the closing. A third
+// one has gone itself by then, and is not taken.
 #[test]
 fn switches_are_bad_behind_a_process(rt: HostRuntime) -> Result<(), Fail> {
     let mut host = host_of([b"0 contact Q 1\n", b"", b"0 contact Q 1\n"]);

@@ -12,8 +12,8 @@ use std::io;
 use std::io::{ErrorKind, Read, Write};
 use std::test::Fail;
 
-/// A reader over octets in memory that gives at most so many octets at a read, at least one, and may
-/// fail at one of its reads.
+// A reader over octets in memory that gives at most so many octets at a read, at least one, and may
+// fail at one of its reads.
 #[derive(Drop)]
 struct Dripping<'a> {
     rest: &'a [u8],
@@ -39,8 +39,8 @@ impl Read for Dripping<'_> {
     }
 }
 
-/// A writer that takes at most so many octets at a write, and may fail at one of its calls: a write,
-/// or the flush behind them.
+// A writer that takes at most so many octets at a write, and may fail at one of its calls: a write,
+// or the flush behind them.
 #[derive(Drop)]
 struct Narrow {
     taken: Vec<u8>,
@@ -50,7 +50,7 @@ struct Narrow {
 }
 
 impl Narrow {
-    /// Counts a call, and fails if it is the one that fails.
+    // Counts a call, and fails if it is the one that fails.
     fn call(&mut self) -> io::Result<()>
         ensures { self.new.taken ≡ self.old.taken }
     {
@@ -82,8 +82,8 @@ impl Write for Narrow {
     }
 }
 
-/// What the replay of a scenario wrote, its status (255 for a failed write), and how often its
-/// reader and its writer were called.
+// What the replay of a scenario wrote, its status (255 for a failed write), and how often its
+// reader and its writer were called.
 #[derive(Drop)]
 struct Outcome {
     report: Vec<u8>,
@@ -92,7 +92,7 @@ struct Outcome {
     writes: u64,
 }
 
-/// The calls of a replay: the most octets of each, and the read and the write that fail, or 0.
+// The calls of a replay: the most octets of each, and the read and the write that fail, or 0.
 #[derive(Clone, Copy)]
 struct Calls {
     most: usize,
@@ -100,7 +100,7 @@ struct Calls {
     write: u64,
 }
 
-/// Replays a scenario with such calls.
+// Replays a scenario with such calls.
 fn outcome_of(alloc: Global, scenario: &[u8], calls: Calls) -> Outcome {
     let mut given = Dripping {
         rest: scenario,
@@ -124,23 +124,23 @@ fn outcome_of(alloc: Global, scenario: &[u8], calls: Calls) -> Outcome {
     }
 }
 
-/// The scenario of two switches: the first is closed and then open, with a scan behind each.
+// The scenario of two switches: the first is closed and then open, with a scan behind each.
 fn scenario(alloc: Global) -> Result<String, AllocError> {
     format!(in alloc;
         "{BAY}%%\n{LOGIC}%%\n1000 contact QA1 2\n1000 scan\n1500 contact QA1 1\n1500 scan\n"
     )
 }
 
-/// Its whole report.
+// Its whole report.
 const REPORT: &[u8] = b"instructions=6 depth=1 budget=6
 1000 scan steps=6 QA1=00 QB1=00
 1500 scan steps=6 QA1=00 QB1=11
 ";
 
-/// The most octets that a call moves: one, a few, or all.
+// The most octets that a call moves: one, a few, or all.
 const MOST: [usize; 3] = [1, 7, 1000];
 
-/// Replays the scenario with calls of which none fails, and checks its report.
+// Replays the scenario with calls of which none fails, and checks its report.
 fn whole(alloc: Global, scenario: &[u8], most: usize) -> Result<Outcome, Fail> {
     let found = outcome_of(
         alloc,
@@ -225,8 +225,8 @@ fn reads_no_more_than_the_limit(rt: HostRuntime) -> Result<(), Fail> {
     Ok(())
 }
 
-/// Returns what is printed for the given number of line feeds, with its status (255 for a failed
-/// write).
+// Returns what is printed for the given number of line feeds, with its status (255 for a failed
+// write).
 fn blank_outcome(alloc: Global, count: usize) -> Result<(Vec<u8>, u8), Fail> {
     let blank = vec![in alloc; 10u8; count]?;
     let mut taken = Vec::new(alloc);

@@ -16,7 +16,7 @@ use std::io::ErrorKind;
 use std::net::SocketAddrV4;
 use std::test::Fail;
 
-/// A bay file, a program and a trace, each under its own name.
+// A bay file, a program and a trace, each under its own name.
 #[derive(Drop)]
 struct Texts<'a> {
     trace: &'a str,

@@ -45,7 +45,7 @@ pub fn has_octets(alloc: Global, octets: &[u8], texts: &[&str]) -> Result<bool, 
     Ok(octets == octets_of(alloc, texts)?.as_slice())
 }
 
-/// Creates a server of a device.
+// Creates a server of a device.
 fn server_of(alloc: Global, device: Device) -> Result<Server, Fail>
     requires closed { device.connections ≡ replicate 8 None }
 {

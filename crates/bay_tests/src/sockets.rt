@@ -24,8 +24,8 @@ pub fn read_some(stream: &TcpStream, answer: &mut Vec<u8>) -> Result<(), Fail> {
     }
 }
 
-/// Sends octets to the server, and serves until the given number of octets came back, or for some
-/// seconds.
+// Sends octets to the server, and serves until the given number of octets came back, or for some
+// seconds.
 fn ask<R: Runtime<A = Global>>(
     rt: &R,
     server: &mut Server,
@@ -66,7 +66,7 @@ pub fn client_of<R: Net<Listener = TcpListener, Stream = TcpStream>, C: Clock>(
     Ok(stream)
 }
 
-/// Lets a client of the server ask three times.
+// Lets a client of the server ask three times.
 fn talk<R: Runtime<A = Global>>(
     rt: &R,
     server: &mut Server,
@@ -81,7 +81,7 @@ fn talk<R: Runtime<A = Global>>(
     Ok(())
 }
 
-/// Lets a connected client talk to a server that is created for the link.
+// Lets a connected client talk to a server that is created for the link.
 fn serve_client<R: Runtime<A = Global>>(
     rt: &R,
     link: &mut TcpLink<'_, R>,
@@ -92,7 +92,7 @@ fn serve_client<R: Runtime<A = Global>>(
     talk(rt, &mut server, link, stream, taken)
 }
 
-/// Connects a client to a port that the system picks, and lets it talk to the server there.
+// Connects a client to a port that the system picks, and lets it talk to the server there.
 fn session<R: Runtime<A = Global> + Net<Listener = TcpListener, Stream = TcpStream>>(
     rt: &R,
     taken: &mut Vec<u8>,

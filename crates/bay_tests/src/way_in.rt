@@ -13,8 +13,8 @@ use std::test::Fail;
 use std::time::Duration;
 use std::{fs, io};
 
-/// A system with its own command-line words that keeps what is printed and complained of. If
-/// nothing can be printed, each write to standard output fails.
+// A system with its own command-line words that keeps what is printed and complained of. If
+// nothing can be printed, each write to standard output fails.
 #[derive(Clone, Copy)]
 struct Kept<'a> {
     host: &'a HostRuntime,
@@ -24,7 +24,7 @@ struct Kept<'a> {
     prints: bool,
 }
 
-/// Appends octets to those that are kept.
+// Appends octets to those that are kept.
 fn keep(kept: &RefCell<Vec<u8>>, octets: &[u8]) -> io::Result<()> {
     let Ok(mut all) = kept.try_borrow_mut() else {
         return Err(io::Error::from(ErrorKind::Other));
@@ -33,11 +33,11 @@ fn keep(kept: &RefCell<Vec<u8>>, octets: &[u8]) -> io::Result<()> {
     Ok(())
 }
 
-/// What is printed.
+// What is printed.
 #[derive(Drop)]
 struct Printed<'a>(Kept<'a>);
 
-/// What is complained of.
+// What is complained of.
 #[derive(Drop)]
 struct Complained<'a>(Kept<'a>);
 
@@ -63,7 +63,7 @@ impl Write for Complained<'_> {
     }
 }
 
-/// The descriptor of standard error, in whose place the texts are kept.
+// The descriptor of standard error, in whose place the texts are kept.
 const STANDARD_ERROR: RawFd = 2;
 
 impl AsRawFd for Printed<'_> {
@@ -226,8 +226,8 @@ impl Net for Kept<'_> {
     }
 }
 
-/// Runs the program with these words, and returns its status as it is displayed, what it prints,
-/// and what it complains of, separated by `|`.
+// Runs the program with these words, and returns its status as it is displayed, what it prints,
+// and what it complains of, separated by `|`.
 fn ended(rt: &HostRuntime, words: &[&str], prints: bool) -> Result<String, Fail> {
     let (printed, complaint) = (
         RefCell::new(Vec::new(rt.alloc())),
@@ -248,7 +248,7 @@ fn ended(rt: &HostRuntime, words: &[&str], prints: bool) -> Result<String, Fail>
     Ok(all)
 }
 
-/// Whether the program with these words ends with this text.
+// Whether the program with these words ends with this text.
 fn with_words(rt: &HostRuntime, words: &[&str], prints: bool, wanted: &str) -> Result<bool, Fail> {
     Ok(ended(rt, words, prints)?.as_str() == wanted)
 }

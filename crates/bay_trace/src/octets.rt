@@ -12,7 +12,7 @@ pub struct Digits<'a> {
     ghost are_octets: { is_some (octets_of text.now) ≡ true },
 }
 
-/// Whether a word consists of such digits.
+// Whether a word consists of such digits.
 fn are_octets(word: &[u8]) -> bool
     ensures { result ≡ is_some (octets_of word.now) }
 {
@@ -39,7 +39,7 @@ impl<'a> Digits<'a> {
     }
 }
 
-/// Decodes digits into the first `count` octets of `room`.
+// Decodes digits into the first `count` octets of `room`.
 fn decode(digits: Digits<'_>, count: usize, room: &mut [u8])
     requires counted { count ≡ length (octets_in digits.text.now) }
     requires fits { count ≤ length room.old }
@@ -80,7 +80,7 @@ impl LineOctets {
         }
     }
 
-    /// Makes room for `count` octets, if there is less.
+    // Makes room for `count` octets, if there is less.
     fn make_room(&mut self, count: usize) -> Result<(), AllocError>
         ensures made { OnOk result
             ((length self.new.octets ≡ count) × (self.new.room ≡ max self.old.room count)) }

@@ -55,10 +55,10 @@ pub enum TraceLine<'a> {
     At { moment: u64, event: NamedEvent<'a> },
 }
 
-/// A number below this stays below 2^64 with any one digit appended.
+// A number below this stays below 2^64 with any one digit appended.
 const ROOM_FOR_A_DIGIT: u64 = 1_000_000_000_000_000_000;
 
-/// Returns the first word of a text, and what follows the space after it.
+// Returns the first word of a text, and what follows the space after it.
 fn cut_word(text: &[u8]) -> (&[u8], Option<&[u8]>)
     ensures { slice_split is_space text.now
         ≡ result.0.now ∷ rest_words (option_map (λ rest. rest.now) result.1) }
@@ -69,8 +69,8 @@ fn cut_word(text: &[u8]) -> (&[u8], Option<&[u8]>)
     }
 }
 
-/// Appends a decimal digit to a number, or returns `None` if the octet is not a digit or the result
-/// reaches 2^64.
+// Appends a decimal digit to a number, or returns `None` if the octet is not a digit or the result
+// reaches 2^64.
 fn with_digit(number: u64, octet: u8) -> Option<u64>
     ensures { result ≡ spec.with_digit number octet }
 {
@@ -84,7 +84,7 @@ fn with_digit(number: u64, octet: u8) -> Option<u64>
     number.checked_mul(10)?.checked_add(digit)
 }
 
-/// Reads a decimal number below 2^64. Leading zeros are allowed, a sign is not.
+// Reads a decimal number below 2^64. Leading zeros are allowed, a sign is not.
 fn number(word: &[u8]) -> Option<u64>
     ensures { result ≡ read_number word.now }
 {
@@ -98,7 +98,7 @@ fn number(word: &[u8]) -> Option<u64>
     Some(number)
 }
 
-/// Returns the number as a value if it is below 2^31.
+// Returns the number as a value if it is below 2^31.
 fn positive(number: u64) -> Option<i32>
     ensures { result ≡ positive_of number }
 {
@@ -109,7 +109,7 @@ fn positive(number: u64) -> Option<i32>
     }
 }
 
-/// Returns the negated number as a value if it is not below -2^31.
+// Returns the negated number as a value if it is not below -2^31.
 fn negative(number: u64) -> Option<i32>
     ensures { result ≡ negative_of number }
 {
@@ -120,7 +120,7 @@ fn negative(number: u64) -> Option<i32>
     }
 }
 
-/// Reads a decimal value, optionally with a `-` before it.
+// Reads a decimal value, optionally with a `-` before it.
 fn integer(word: &[u8]) -> Option<i32>
     ensures { result ≡ read_integer word.now }
 {
@@ -130,7 +130,7 @@ fn integer(word: &[u8]) -> Option<i32>
     }
 }
 
-/// Reads a position from its digit, 0 to 3.
+// Reads a position from its digit, 0 to 3.
 fn position(word: &[u8]) -> Option<Dbpos>
     ensures { result ≡ position_of word.now }
 {
@@ -143,7 +143,7 @@ fn position(word: &[u8]) -> Option<Dbpos>
     }
 }
 
-/// Reads a truth value from its digit, 0 or 1.
+// Reads a truth value from its digit, 0 or 1.
 fn truth(word: &[u8]) -> Option<bool>
     ensures { result ≡ truth_of word.now }
 {
@@ -154,7 +154,7 @@ fn truth(word: &[u8]) -> Option<bool>
     }
 }
 
-/// Returns the field of a meter with this name.
+// Returns the field of a meter with this name.
 fn field(word: &[u8]) -> Option<MeterField>
     ensures { result ≡ field_of word.now }
 {
@@ -175,7 +175,7 @@ fn field(word: &[u8]) -> Option<MeterField>
     }
 }
 
-/// Reads a name: UTF-8, and not empty. Most names are ASCII, which is valid UTF-8 without a check.
+// Reads a name: UTF-8, and not empty. Most names are ASCII, which is valid UTF-8 without a check.
 fn name(word: &[u8]) -> Option<&str>
     ensures { option_map (λ name. name.now) result ≡ name_of word.now }
 {
@@ -191,7 +191,7 @@ fn name(word: &[u8]) -> Option<&str>
     }
 }
 
-/// Reads an event of a switch: its position.
+// Reads an event of a switch: its position.
 fn contact(text: &[u8]) -> Option<NamedEvent<'_>>
     ensures { option_map named_view result
         ≡ event_of (codes "contact" ∷ slice_split is_space text.now) }
@@ -202,7 +202,7 @@ fn contact(text: &[u8]) -> Option<NamedEvent<'_>>
     Some(NamedEvent::Contact { id, position })
 }
 
-/// Reads an event of an input: its value.
+// Reads an event of an input: its value.
 fn input(text: &[u8]) -> Option<NamedEvent<'_>>
     ensures { option_map named_view result
         ≡ event_of (codes "input" ∷ slice_split is_space text.now) }
@@ -213,7 +213,7 @@ fn input(text: &[u8]) -> Option<NamedEvent<'_>>
     Some(NamedEvent::Input { name, value })
 }
 
-/// Reads an event of the meter with this id: a field and its value.
+// Reads an event of the meter with this id: a field and its value.
 fn measured<'a>(id: &'a str, told: &[u8]) -> Option<NamedEvent<'a>>
     ensures { option_map named_view result
         ≡ measure_of id.entry.now (slice_split is_space told.now) }
@@ -224,7 +224,7 @@ fn measured<'a>(id: &'a str, told: &[u8]) -> Option<NamedEvent<'a>>
     Some(NamedEvent::Measure { id, field, value })
 }
 
-/// Reads an event of a meter: a field and its value.
+// Reads an event of a meter: a field and its value.
 fn measure(text: &[u8]) -> Option<NamedEvent<'_>>
     ensures { option_map named_view result
         ≡ event_of (codes "measure" ∷ slice_split is_space text.now) }
@@ -233,14 +233,14 @@ fn measure(text: &[u8]) -> Option<NamedEvent<'_>>
     measured(name(id)?, told?)
 }
 
-/// Reads the number of an association.
+// Reads the number of an association.
 fn association(word: &[u8]) -> Option<u16>
     ensures { result ≡ association_of word.now }
 {
     u16::try_from(number(word)?).ok()
 }
 
-/// Reads the octets that the client of an association sends.
+// Reads the octets that the client of an association sends.
 fn received(text: &[u8]) -> Option<NamedEvent<'_>>
     ensures { option_map named_view result ≡ received_of (slice_split is_space text.now) }
 {
@@ -253,7 +253,7 @@ fn received(text: &[u8]) -> Option<NamedEvent<'_>>
     })
 }
 
-/// Reads an event of an association: it is opened, its client sends octets, or it is closed.
+// Reads an event of an association: it is opened, its client sends octets, or it is closed.
 fn association_event(text: &[u8]) -> Option<NamedEvent<'_>>
     ensures { option_map named_view result ≡ association_event_in (slice_split is_space text.now) }
 {
@@ -269,7 +269,7 @@ fn association_event(text: &[u8]) -> Option<NamedEvent<'_>>
     Some(NamedEvent::Close { association })
 }
 
-/// Reads an event from the words after the time.
+// Reads an event from the words after the time.
 fn event(text: &[u8]) -> Option<NamedEvent<'_>>
     ensures { option_map named_view result ≡ event_of (slice_split is_space text.now) }
 {
@@ -288,7 +288,7 @@ fn event(text: &[u8]) -> Option<NamedEvent<'_>>
     association_event(text)
 }
 
-/// Returns the number before the first space, and what follows that space.
+// Returns the number before the first space, and what follows that space.
 fn cut_number(text: &[u8]) -> Option<(u64, &[u8])>
     ensures { option_map (λ cut. (cut.0, slice_split is_space cut.1.now)) result
         ≡ first_number (slice_split is_space text.now) }
@@ -309,7 +309,7 @@ fn cut_number(text: &[u8]) -> Option<(u64, &[u8])>
     None
 }
 
-/// Reads a line that is not empty.
+// Reads a line that is not empty.
 fn moment_line(text: &[u8]) -> Option<TraceLine<'_>>
     ensures { option_map line_view result ≡ words_line (slice_split is_space text.now) }
 {

@@ -59,7 +59,7 @@ pub fn parent(name: &str) -> Option<&str>
     }
 }
 
-/// Returns the last word.
+// Returns the last word.
 fn last_word(name: &str) -> &str
     ensures word { result.now ≡ word_of name.now }
     ensures named { IsNamed (parent_of name.now) result.now name.now }
@@ -70,7 +70,7 @@ fn last_word(name: &str) -> &str
     }
 }
 
-/// Returns the position where the last word begins.
+// Returns the position where the last word begins.
 fn word_start(name: &str) -> usize
     ensures { IsWordAt name.now result }
 {

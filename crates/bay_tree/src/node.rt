@@ -38,7 +38,7 @@ pub fn nodes_of(alloc: Global, rows: Vec<Row>) -> Result<Vec<Node>, AllocError>
     Ok(nodes)
 }
 
-/// Returns the place of the parent of the row at `place`.
+// Returns the place of the parent of the row at `place`.
 fn place_above(nodes: &[Node], index: &Index, place: usize) -> Option<usize>
     requires within { place < length nodes.now }
     requires indexed { IsIndex (rows_of nodes.now) index.now }
@@ -49,7 +49,7 @@ fn place_above(nodes: &[Node], index: &Index, place: usize) -> Option<usize>
     index.get(above).copied()
 }
 
-/// Links a row as the first below its parent.
+// Links a row as the first below its parent.
 fn put_below(nodes: &mut [Node], place: usize, above: usize)
     requires place { place < length nodes.old }
     requires above { above < length nodes.old }

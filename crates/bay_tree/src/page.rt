@@ -16,7 +16,7 @@ pub struct Names {
     pub more: bool,
 }
 
-/// Returns the first `count` nodes, or all if there are fewer.
+// Returns the first `count` nodes, or all if there are fewer.
 fn first_nodes(nodes: &[Node], count: usize) -> &[Node]
     ensures { result.now ≡ take count nodes.now }
 {

@@ -8,7 +8,7 @@ use crate::name::parent;
 use crate::row::Row;
 use std::alloc::{AllocError, Global};
 
-/// Returns whether the row at `place` is the first with its name.
+// Returns whether the row at `place` is the first with its name.
 fn is_first(rows: &[Row], index: &Index, place: usize) -> bool
     requires within { place < length rows.now }
     requires indexed { IsIndex rows.now index.now }
@@ -20,7 +20,7 @@ fn is_first(rows: &[Row], index: &Index, place: usize) -> bool
     }
 }
 
-/// Returns whether the name of a row has no parent, or its parent is a structure before the row.
+// Returns whether the name of a row has no parent, or its parent is a structure before the row.
 fn is_below_structure(rows: &[Row], index: &Index, place: usize) -> bool
     requires within { place < length rows.now }
     requires indexed { IsIndex rows.now index.now }

@@ -53,8 +53,8 @@ impl Model for Tree {
     ghost invariant = { λ t. IsArena t.nodes.items t.index };
 }
 
-/// Writes a value to a place. A plain value overwrites a value of its own type in place, which
-/// saves moving a whole leaf.
+// Writes a value to a place. A plain value overwrites a value of its own type in place, which
+// saves moving a whole leaf.
 #[inline(always)]
 fn put_leaf(place: &mut Option<Leaf>, leaf: Leaf)
     ensures { place.new ≡ Some leaf }
@@ -149,7 +149,7 @@ impl Tree {
         self.nodes[handle.index].leaf.as_ref()
     }
 
-    /// Returns whether a row has a value of this type.
+    // Returns whether a row has a value of this type.
     #[inline(always)]
     fn has_leaf_type(&self, handle: Handle, leaf_type: LeafType) -> bool
         requires { IsHandle self.now handle }
@@ -302,7 +302,7 @@ impl Tree {
         }
     }
 
-    /// Returns the place where the rows after a name begin; without a name the first place.
+    // Returns the place where the rows after a name begin; without a name the first place.
     fn start_after(&self, after: Option<&str>) -> Option<usize>
         ensures start { result ≡ spec.start_after self.now (option_copied after.entry) }
         ensures within { IfSome result (λ start. start ≤ length self.now) }

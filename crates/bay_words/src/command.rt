@@ -9,11 +9,11 @@ use clap::builder::ValueParser;
 use clap::{Arg, ArgAction, Command};
 use std::alloc::{AllocError, Global};
 
-/// The version of the program, of its formats and of its fault numbers. CHANGELOG.md lists the
-/// changes of each version.
+// The version of the program, of its formats and of its fault numbers. CHANGELOG.md lists the
+// changes of each version.
 const VERSION: &str = "1.1.0";
 
-/// Adds an optional option `--ID VALUE` to the command.
+// Adds an optional option `--ID VALUE` to the command.
 fn with_text<'a>(
     alloc: Global,
     command: Command<'a>,
@@ -35,7 +35,7 @@ fn with_text<'a>(
     Ok(command)
 }
 
-/// Adds a required option `--ID F` to the command.
+// Adds a required option `--ID F` to the command.
 fn with_needed_file<'a>(
     alloc: Global,
     command: Command<'a>,
@@ -57,8 +57,8 @@ fn with_needed_file<'a>(
     Ok(command)
 }
 
-/// Adds an option `--ID VALUE` to the command, whose value is a number from `least` to `greatest`.
-/// It is required if `required` is true.
+// Adds an option `--ID VALUE` to the command, whose value is a number from `least` to `greatest`.
+// It is required if `required` is true.
 fn with_number<'a>(
     alloc: Global,
     command: Command<'a>,
@@ -86,7 +86,7 @@ fn with_number<'a>(
     Ok(command)
 }
 
-/// Adds the option `--log` to the command.
+// Adds the option `--log` to the command.
 fn with_log<'a>(alloc: Global, command: Command<'a>) -> Result<Command<'a>, AllocError>
     ensures app { IfOk result (λ c. app_of c ≡ with_rule (app_of command.entry) log_rule) }
     ensures globals { IfOk result
@@ -100,7 +100,7 @@ fn with_log<'a>(alloc: Global, command: Command<'a>) -> Result<Command<'a>, Allo
     Ok(command)
 }
 
-/// Adds the options of a program to the command. Exactly one of them is required.
+// Adds the options of a program to the command. Exactly one of them is required.
 fn with_program<'a>(alloc: Global, command: Command<'a>) -> Result<Command<'a>, AllocError>
     ensures app { IfOk result (λ c. app_of c ≡ spec.with_program (app_of command.entry)) }
     ensures globals { IfOk result
@@ -113,7 +113,7 @@ fn with_program<'a>(alloc: Global, command: Command<'a>) -> Result<Command<'a>, 
     Ok(command)
 }
 
-/// Builds `check` with its options.
+// Builds `check` with its options.
 fn check_command<'a>(alloc: Global) -> Result<Command<'a>, AllocError>
     ensures app { IfOk result (λ c. app_of c ≡ check_app) }
     ensures local { IfOk result (λ c. (fields_of c).has_globals ≡ false) }
@@ -126,7 +126,7 @@ fn check_command<'a>(alloc: Global) -> Result<Command<'a>, AllocError>
     Ok(command)
 }
 
-/// Builds `serve` with its options.
+// Builds `serve` with its options.
 fn serve_command<'a>(alloc: Global) -> Result<Command<'a>, AllocError>
     ensures app { IfOk result (λ c. app_of c ≡ serve_app) }
     ensures local { IfOk result (λ c. (fields_of c).has_globals ≡ false) }
@@ -149,7 +149,7 @@ fn serve_command<'a>(alloc: Global) -> Result<Command<'a>, AllocError>
     Ok(command)
 }
 
-/// Builds `compile` with its options.
+// Builds `compile` with its options.
 fn compile_command<'a>(alloc: Global) -> Result<Command<'a>, AllocError>
     ensures app { IfOk result (λ c. app_of c ≡ compile_app) }
     ensures local { IfOk result (λ c. (fields_of c).has_globals ≡ false) }
@@ -163,7 +163,7 @@ fn compile_command<'a>(alloc: Global) -> Result<Command<'a>, AllocError>
     Ok(command)
 }
 
-/// Builds `audit` with its options.
+// Builds `audit` with its options.
 fn audit_command<'a>(alloc: Global) -> Result<Command<'a>, AllocError>
     ensures app { IfOk result (λ c. app_of c ≡ audit_app) }
     ensures local { IfOk result (λ c. (fields_of c).has_globals ≡ false) }
@@ -178,7 +178,7 @@ fn audit_command<'a>(alloc: Global) -> Result<Command<'a>, AllocError>
     Ok(command)
 }
 
-/// Builds `replay` with its option.
+// Builds `replay` with its option.
 fn replay_command<'a>(alloc: Global) -> Result<Command<'a>, AllocError>
     ensures app { IfOk result (λ c. app_of c ≡ replay_app) }
     ensures local { IfOk result (λ c. (fields_of c).has_globals ≡ false) }
@@ -189,7 +189,7 @@ fn replay_command<'a>(alloc: Global) -> Result<Command<'a>, AllocError>
     Ok(command)
 }
 
-/// Builds the program without its commands.
+// Builds the program without its commands.
 fn program_command<'a>(alloc: Global) -> Result<Command<'a>, AllocError>
     ensures { IfOk result (λ c. app_of c ≡ program_app) }
 {

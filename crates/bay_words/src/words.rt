@@ -66,14 +66,14 @@ pub enum WordsFault {
     OutOfMemory,
 }
 
-/// Returns the first value of an option.
+// Returns the first value of an option.
 fn value_of<'a>(found: &ArgMatches<'a>, id: &str) -> Option<&'a str>
     ensures { option_map (λ s. s.now) result ≡ first_of id.now (rows_of (found_of found.now)) }
 {
     found.get_str(id)
 }
 
-/// Returns the port that a value spells, a number from 1 to 65,535.
+// Returns the port that a value spells, a number from 1 to 65,535.
 fn port_of(value: &str) -> Option<u16>
     ensures { result ≡ number_of 1 65535 value.now }
 {
@@ -81,14 +81,14 @@ fn port_of(value: &str) -> Option<u16>
     if port == 0 { None } else { Some(port) }
 }
 
-/// Returns the number of turns that a value spells, from 0 to 4,294,967,295.
+// Returns the number of turns that a value spells, from 0 to 4,294,967,295.
 fn turns_of(value: &str) -> Option<u32>
     ensures { result ≡ number_of 0 4294967295 value.now }
 {
     value.parse::<u32>().ok()
 }
 
-/// Returns the port that was given.
+// Returns the port that was given.
 fn port_in(found: &ArgMatches<'_>) -> Option<u16>
     ensures { result ≡ spec.port_in (rows_of (found_of found.now)) }
 {
@@ -96,7 +96,7 @@ fn port_in(found: &ArgMatches<'_>) -> Option<u16>
     port_of(value)
 }
 
-/// Returns the port of the process that was given.
+// Returns the port of the process that was given.
 fn process_in(found: &ArgMatches<'_>) -> Option<u16>
     ensures { result ≡ spec.process_in (rows_of (found_of found.now)) }
 {
@@ -104,7 +104,7 @@ fn process_in(found: &ArgMatches<'_>) -> Option<u16>
     port_of(value)
 }
 
-/// Returns the number of turns that was given.
+// Returns the number of turns that was given.
 fn turns_in(found: &ArgMatches<'_>) -> Option<u32>
     ensures { result ≡ spec.turns_in (rows_of (found_of found.now)) }
 {
@@ -112,7 +112,7 @@ fn turns_in(found: &ArgMatches<'_>) -> Option<u32>
     turns_of(value)
 }
 
-/// Returns the program or the image that was named, if exactly one of the two was.
+// Returns the program or the image that was named, if exactly one of the two was.
 fn program_from<'a>(found: &ArgMatches<'a>) -> Option<Program<&'a str>>
     ensures { option_map program_view result ≡ program_in (rows_of (found_of found.now)) }
 {
@@ -124,7 +124,7 @@ fn program_from<'a>(found: &ArgMatches<'a>) -> Option<Program<&'a str>>
     }
 }
 
-/// Returns what `check` asks for.
+// Returns what `check` asks for.
 fn check_from<'a>(found: &ArgMatches<'a>) -> Option<Task<&'a str>>
     ensures { option_map task_view result ≡ check_in (rows_of (found_of found.now)) }
 {
@@ -133,7 +133,7 @@ fn check_from<'a>(found: &ArgMatches<'a>) -> Option<Task<&'a str>>
     Some(Task::Check { bay, program })
 }
 
-/// Returns whether the port of the process, if there is one, differs from that of the clients.
+// Returns whether the port of the process, if there is one, differs from that of the clients.
 fn is_apart(port: u16, process: Option<u16>) -> bool
     ensures { result ≡ spec.is_apart port process }
 {
@@ -143,7 +143,7 @@ fn is_apart(port: u16, process: Option<u16>) -> bool
     }
 }
 
-/// Whether a word is `releases`.
+// Whether a word is `releases`.
 fn is_releases(word: &str) -> bool
     ensures { result ≡ bytes_eq word.now (codes "releases") }
 {
@@ -153,8 +153,8 @@ fn is_releases(word: &str) -> bool
     }
 }
 
-/// Returns whether the process is told of releases. Returns `None` if it is to be told anything
-/// else, or if there is no process.
+// Returns whether the process is told of releases. Returns `None` if it is to be told anything
+// else, or if there is no process.
 fn tells_of(process: Option<u16>, word: Option<&str>) -> Option<bool>
     ensures { result ≡ spec.tells_of process (option_map (λ s. s.now) word.entry) }
 {
@@ -170,7 +170,7 @@ fn tells_of(process: Option<u16>, word: Option<&str>) -> Option<bool>
     }
 }
 
-/// Returns what `serve` asks for.
+// Returns what `serve` asks for.
 fn serve_from<'a>(found: &ArgMatches<'a>) -> Option<Task<&'a str>>
     ensures { option_map task_view result ≡ serve_in (rows_of (found_of found.now)) }
 {
@@ -195,7 +195,7 @@ fn serve_from<'a>(found: &ArgMatches<'a>) -> Option<Task<&'a str>>
     })
 }
 
-/// Returns what `audit` asks for.
+// Returns what `audit` asks for.
 fn audit_from<'a>(found: &ArgMatches<'a>) -> Option<Task<&'a str>>
     ensures { option_map task_view result ≡ audit_in (rows_of (found_of found.now)) }
 {
@@ -209,7 +209,7 @@ fn audit_from<'a>(found: &ArgMatches<'a>) -> Option<Task<&'a str>>
     })
 }
 
-/// Returns what `compile` asks for.
+// Returns what `compile` asks for.
 fn compile_from<'a>(found: &ArgMatches<'a>) -> Option<Task<&'a str>>
     ensures { option_map task_view result ≡ compile_in (rows_of (found_of found.now)) }
 {
@@ -219,7 +219,7 @@ fn compile_from<'a>(found: &ArgMatches<'a>) -> Option<Task<&'a str>>
     Some(Task::Compile { bay, logic, out })
 }
 
-/// Whether the value of a flag is `true`.
+// Whether the value of a flag is `true`.
 fn is_true(value: &str) -> bool
     ensures { result ≡ bytes_eq value.now (codes "true") }
 {
@@ -229,7 +229,7 @@ fn is_true(value: &str) -> bool
     }
 }
 
-/// Returns whether the log is asked for.
+// Returns whether the log is asked for.
 fn logs(found: &ArgMatches<'_>) -> bool
     ensures { result ≡ spec.logs (rows_of (found_of found.now)) }
 {
@@ -239,7 +239,7 @@ fn logs(found: &ArgMatches<'_>) -> bool
     }
 }
 
-/// Returns the task that a subcommand with its options asks for.
+// Returns the task that a subcommand with its options asks for.
 fn named_task<'a>(name: &str, found: &ArgMatches<'a>) -> Option<Task<&'a str>>
     ensures { option_map task_view result
         ≡ spec.named_task name.now (rows_of (found_of found.now)) }
@@ -254,7 +254,7 @@ fn named_task<'a>(name: &str, found: &ArgMatches<'a>) -> Option<Task<&'a str>>
     }
 }
 
-/// Returns what a subcommand with its options asks for.
+// Returns what a subcommand with its options asks for.
 fn named_asked<'a>(name: &str, found: &ArgMatches<'a>) -> Option<Asked<&'a str>>
     ensures { option_map asked_view result
         ≡ spec.named_asked name.now (rows_of (found_of found.now)) }
@@ -266,7 +266,7 @@ fn named_asked<'a>(name: &str, found: &ArgMatches<'a>) -> Option<Asked<&'a str>>
     })
 }
 
-/// Returns what the parsed words ask for.
+// Returns what the parsed words ask for.
 fn task_from<'a>(matches: &ArgMatches<'a>) -> Option<Asked<&'a str>>
     ensures { option_map asked_view result ≡ spec.entered_task (subcommand_rows_of matches.now) }
 {
@@ -274,7 +274,7 @@ fn task_from<'a>(matches: &ArgMatches<'a>) -> Option<Asked<&'a str>>
     named_asked(name, found)
 }
 
-/// Returns the verb of a task.
+// Returns the verb of a task.
 fn verb_of(task: &Task<&str>) -> Verb
     ensures { result ≡ spec.verb_of (task_view task.now) }
 {
@@ -287,7 +287,7 @@ fn verb_of(task: &Task<&str>) -> Verb
     }
 }
 
-/// Copies the value of an option.
+// Copies the value of an option.
 fn option_of(alloc: Global, found: &ArgMatches<'_>, id: &str) -> Result<Option<String>, AllocError>
     ensures { IfOk result (λ o. option_map string_bytes o
         ≡ first_of id.now (rows_of (found_of found.now))) }
@@ -301,7 +301,7 @@ fn option_of(alloc: Global, found: &ArgMatches<'_>, id: &str) -> Result<Option<S
     }
 }
 
-/// Makes a job of a verb and the values of its options.
+// Makes a job of a verb and the values of its options.
 fn with_options(alloc: Global, found: &ArgMatches<'_>, verb: Verb) -> Result<Job, AllocError>
     ensures { IfOk result (λ j. job_view j ≡ spec.with_options (rows_of (found_of found.now)) verb) }
 {
@@ -331,7 +331,7 @@ fn with_options(alloc: Global, found: &ArgMatches<'_>, verb: Verb) -> Result<Job
     })
 }
 
-/// Returns the job of a subcommand and its options, if they ask for a task.
+// Returns the job of a subcommand and its options, if they ask for a task.
 fn named_job(alloc: Global, name: &str, found: &ArgMatches<'_>) -> Result<Option<Job>, AllocError>
     ensures { IfOk result
         (λ j. option_map job_view j ≡ spec.named_job name.now (rows_of (found_of found.now))) }
@@ -345,7 +345,7 @@ fn named_job(alloc: Global, name: &str, found: &ArgMatches<'_>) -> Result<Option
     }
 }
 
-/// Returns the job that was parsed.
+// Returns the job that was parsed.
 fn job_from(alloc: Global, matches: &ArgMatches<'_>) -> Result<Option<Job>, AllocError>
     ensures { IfOk result
         (λ j. option_map job_view j ≡ spec.entered_job (subcommand_rows_of matches.now)) }
@@ -356,7 +356,7 @@ fn job_from(alloc: Global, matches: &ArgMatches<'_>) -> Result<Option<Job>, Allo
     }
 }
 
-/// Returns the usage of a command that requires either a program or an image.
+// Returns the usage of a command that requires either a program or an image.
 fn usage_of(name: &str) -> &'static str {
     match name {
         "serve" => {
@@ -367,7 +367,7 @@ fn usage_of(name: &str) -> &'static str {
     }
 }
 
-/// Returns what is wrong with the options of a command, each of which `clap` accepts.
+// Returns what is wrong with the options of a command, each of which `clap` accepts.
 fn wrong_options(found: &ArgMatches<'_>) -> &'static str {
     if program_from(found).is_none() {
         return "exactly one of --logic and --image is wanted";
@@ -383,8 +383,8 @@ fn wrong_options(found: &ArgMatches<'_>) -> &'static str {
     }
 }
 
-/// Makes the refusal of a command with both or neither of a program and an image, with one port for
-/// both the clients and the process, or with something that a process can't be told.
+// Makes the refusal of a command with both or neither of a program and an image, with one port for
+// both the clients and the process, or with something that a process can't be told.
 fn refused_options(alloc: Global, matches: &ArgMatches<'_>) -> WordsFault {
     let (wrong, usage) = match matches.subcommand() {
         Some((name, found)) => (wrong_options(found), usage_of(name)),
@@ -398,7 +398,7 @@ fn refused_options(alloc: Global, matches: &ArgMatches<'_>) -> WordsFault {
     }
 }
 
-/// Makes the refusal of words in the words of `clap`.
+// Makes the refusal of words in the words of `clap`.
 fn refused_by(alloc: Global, error: &Error) -> WordsFault
     ensures { kind_of error.now ≡ ErrorKind.OutOfMemory → result ≡ WordsFault.OutOfMemory }
 {
@@ -411,7 +411,7 @@ fn refused_by(alloc: Global, error: &Error) -> WordsFault
     }
 }
 
-/// Parses words with `clap`.
+// Parses words with `clap`.
 fn matches_of<'a>(alloc: Global, words: &'a [&'a str]) -> Result<ArgMatches<'a>, WordsFault>
     ensures ok { IfOk result
         (λ m. asked_in (map (λ w. w.now) words.entry.now) ≡ subcommand_rows_of m) }

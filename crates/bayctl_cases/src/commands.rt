@@ -24,7 +24,7 @@ pub struct Commands {
     complaint: String,
 }
 
-/// Runs a command, and appends what it prints to the octets.
+// Runs a command, and appends what it prints to the octets.
 fn ended<R: Runtime<A = Global> + Net<Listener = TcpListener, Stream = TcpStream>>(
     rt: &R,
     alloc: Global,
@@ -46,8 +46,8 @@ fn ended<R: Runtime<A = Global> + Net<Listener = TcpListener, Stream = TcpStream
     )
 }
 
-/// Returns the text or the octets of a section: octets are in hexadecimal digits, and a text ends
-/// its last line.
+// Returns the text or the octets of a section: octets are in hexadecimal digits, and a text ends
+// its last line.
 fn content_of(alloc: Global, is_octets: bool, body: &str) -> Result<Vec<u8>> {
     if is_octets {
         return octets_of(alloc, body);
@@ -57,14 +57,14 @@ fn content_of(alloc: Global, is_octets: bool, body: &str) -> Result<Vec<u8>> {
     Ok(octets)
 }
 
-/// Checks that what was printed is this text and ends its last line, or is empty.
+// Checks that what was printed is this text and ends its last line, or is empty.
 fn check_printed(printed: &[u8], wanted: &str) -> Result<()> {
     let text = str::from_utf8(printed)?;
     check_lines(text, wanted)?;
     check(text.is_empty() || text.ends_with("\n"))
 }
 
-/// Checks that a file holds these octets.
+// Checks that a file holds these octets.
 fn check_file<R: Files>(rt: &R, alloc: Global, name: &str, wanted: &str) -> Result<()> {
     let mut octets = Vec::new(alloc);
     fs::open(rt, name)?.read_to_end(&mut octets)?;
@@ -81,7 +81,7 @@ impl Commands {
         }
     }
 
-    /// Checks that a command ends with this status and prints this text.
+    // Checks that a command ends with this status and prints this text.
     fn run<R: Runtime<A = Global> + Net<Listener = TcpListener, Stream = TcpStream>>(
         &mut self,
         rt: &R,

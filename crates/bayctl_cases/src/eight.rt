@@ -10,7 +10,7 @@ use anyhow::{Context, Result};
 use cases::words::first_word;
 use std::alloc::{AllocError, Global};
 
-/// A trace, its expected report, and the time up to which they go.
+// A trace, its expected report, and the time up to which they go.
 #[derive(Drop)]
 struct Talk {
     trace: String,
@@ -18,7 +18,7 @@ struct Talk {
     now: u64,
 }
 
-/// Appends octets in hexadecimal digits, all at once or one by one.
+// Appends octets in hexadecimal digits, all at once or one by one.
 fn put_recv(
     trace: &mut String,
     moment: u64,
@@ -38,7 +38,7 @@ fn put_recv(
 }
 
 impl Talk {
-    /// Appends an event at a time.
+    // Appends an event at a time.
     fn put_event(
         &mut self,
         moment: u64,
@@ -52,7 +52,7 @@ impl Talk {
         }
     }
 
-    /// Appends what is printed at a time.
+    // Appends what is printed at a time.
     fn put_told(&mut self, moment: u64, association: u16, told: &str) -> Result<(), AllocError> {
         match first_word(told) {
             ("send", octets) => match octets.split_once("#") {
@@ -67,7 +67,7 @@ impl Talk {
         }
     }
 
-    /// Appends a block of lines by an association, from the last time on.
+    // Appends a block of lines by an association, from the last time on.
     fn put_block(&mut self, association: u16, block: &str, whole: bool) -> Result<()> {
         let begin = self.now;
         for line in block.lines() {
@@ -87,7 +87,7 @@ impl Talk {
         Ok(())
     }
 
-    /// Opens `count` associations, and appends all blocks by each of them.
+    // Opens `count` associations, and appends all blocks by each of them.
     fn put_blocks(&mut self, body: &str, count: u16, whole: bool) -> Result<()> {
         for association in 1..=count {
             writeln!(self.trace, "0 open {association}")?;
@@ -101,8 +101,8 @@ impl Talk {
     }
 }
 
-/// Checks that a talk by `count` associations at once, whole or octet by octet, is answered as its
-/// lines say.
+// Checks that a talk by `count` associations at once, whole or octet by octet, is answered as its
+// lines say.
 fn check_by(alloc: Global, texts: &Texts, body: &str, count: u16, whole: bool) -> Result<()> {
     let mut talk = Talk {
         trace: String::new(alloc),

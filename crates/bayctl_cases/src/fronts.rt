@@ -7,28 +7,28 @@ use crate::texts::{Texts, check_trace};
 use anyhow::Result;
 use std::alloc::{AllocError, Global};
 
-/// A message: the number of octets up to its end, and what it leads to, in words.
+// A message: the number of octets up to its end, and what it leads to, in words.
 #[derive(Clone, Copy)]
 struct Message<'a> {
     end: usize,
     words: &'a str,
 }
 
-/// The digits of messages, and the messages.
+// The digits of messages, and the messages.
 #[derive(Drop)]
 struct Messages<'a> {
     digits: String,
     each: Vec<Message<'a>>,
 }
 
-/// A trace and its expected report.
+// A trace and its expected report.
 #[derive(Drop)]
 struct Talk {
     trace: String,
     report: String,
 }
 
-/// Reads the messages of lines.
+// Reads the messages of lines.
 fn messages_of(alloc: Global, body: &str) -> Result<Messages<'_>> {
     let (mut digits, mut each) = (String::new(alloc), Vec::new(alloc));
     for line in body.lines() {
@@ -41,12 +41,12 @@ fn messages_of(alloc: Global, body: &str) -> Result<Messages<'_>> {
 }
 
 impl Talk {
-    /// Appends octets that arrive at a time.
+    // Appends octets that arrive at a time.
     fn hear(&mut self, moment: usize, digits: Option<&str>) -> Result<(), AllocError> {
         writeln!(self.trace, "{moment} recv 1 {}", digits.unwrap_or(""))
     }
 
-    /// Appends what a message leads to at a time. Returns whether the association ends.
+    // Appends what a message leads to at a time. Returns whether the association ends.
     fn tell(&mut self, moment: usize, message: &Message<'_>) -> Result<bool, AllocError> {
         let mut ends = false;
         for word in message.words.split(" ") {
@@ -58,7 +58,7 @@ impl Talk {
         Ok(ends)
     }
 
-    /// Closes the association at a time, which is refused if it has already ended.
+    // Closes the association at a time, which is refused if it has already ended.
     fn close(&mut self, moment: usize, has_ended: bool) -> Result<(), AllocError> {
         writeln!(self.trace, "{moment} close 1")?;
         if has_ended {
@@ -67,7 +67,7 @@ impl Talk {
         Ok(())
     }
 
-    /// Appends the first `count` octets, arriving all at once at the time `count`.
+    // Appends the first `count` octets, arriving all at once at the time `count`.
     fn put_front(&mut self, messages: &Messages<'_>, count: usize) -> Result<(), AllocError> {
         writeln!(self.trace, "{count} open 1")?;
         if count > 0 {
@@ -82,8 +82,8 @@ impl Talk {
         self.close(count, has_ended)
     }
 
-    /// Appends the octets of a message from an index on, arriving one by one. Returns whether the
-    /// association ends.
+    // Appends the octets of a message from an index on, arriving one by one. Returns whether the
+    // association ends.
     fn put_octets(
         &mut self,
         messages: &Messages<'_>,
@@ -108,7 +108,7 @@ impl Talk {
         self.tell(count.saturating_add(message.end).saturating_sub(1), message)
     }
 
-    /// Appends all octets one by one, each at its own time after those of the prefixes.
+    // Appends all octets one by one, each at its own time after those of the prefixes.
     fn put_all(&mut self, messages: &Messages<'_>) -> Result<(), AllocError> {
         let count = messages.digits.len() / 2;
         writeln!(self.trace, "{count} open 1")?;
@@ -121,7 +121,7 @@ impl Talk {
     }
 }
 
-/// Returns the talk of every prefix, and of all octets one by one.
+// Returns the talk of every prefix, and of all octets one by one.
 fn talk_of(alloc: Global, messages: &Messages<'_>) -> Result<Talk> {
     let mut talk = Talk {
         trace: String::new(alloc),

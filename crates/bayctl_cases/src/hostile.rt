@@ -12,10 +12,10 @@ use cases::words::first_word;
 use std::alloc::{AllocError, Global};
 use std::fmt;
 
-/// The number of milliseconds after which everything a client has selected or operated has expired.
+// The number of milliseconds after which everything a client has selected or operated has expired.
 const PASSED: u64 = 10_000;
 
-/// The counts of what frames led to: an answer, an end, nothing yet, and each fault.
+// The counts of what frames led to: an answer, an end, nothing yet, and each fault.
 #[derive(Drop)]
 struct Counts {
     answers: u32,
@@ -25,7 +25,7 @@ struct Counts {
 }
 
 impl Counts {
-    /// Creates counts of no frame.
+    // Creates counts of no frame.
     fn new() -> Counts {
         Counts {
             answers: 0,
@@ -35,7 +35,7 @@ impl Counts {
         }
     }
 
-    /// Counts what a frame led to first, as it is printed.
+    // Counts what a frame led to first, as it is printed.
     fn count(&mut self, told: &str) -> Result<()> {
         match told.split_once(" 1 ") {
             None => self.waits = self.waits.saturating_add(1),
@@ -54,7 +54,7 @@ impl Counts {
 }
 
 impl fmt::Display for Counts {
-    /// Writes the counts, those of faults with their numbers.
+    // Writes the counts, those of faults with their numbers.
     fn fmt<W: fmt::Write>(&self, f: &mut fmt::Formatter<W>) -> fmt::Result {
         let (answers, ends, waits) = (self.answers, self.ends, self.waits);
         write!(f, "answers={answers} ends={ends} waits={waits}")?;
@@ -77,8 +77,8 @@ pub struct Hostile<'a> {
     answer: &'a str,
 }
 
-/// What was seen of one frame: what it led to first, whether it closed the association, whether
-/// closing was then refused, and how often the other association was answered.
+// What was seen of one frame: what it led to first, whether it closed the association, whether
+// closing was then refused, and how often the other association was answered.
 #[derive(Drop)]
 struct Seen<'r> {
     told: &'r str,
@@ -88,7 +88,7 @@ struct Seen<'r> {
 }
 
 impl<'r> Seen<'r> {
-    /// Creates a record of nothing seen.
+    // Creates a record of nothing seen.
     fn new() -> Seen<'r> {
         Seen {
             told: "",
@@ -98,8 +98,8 @@ impl<'r> Seen<'r> {
         }
     }
 
-    /// Notes a line after its time, whose last digit says what was done: 1 is the frame, 2 is what
-    /// is asked, 3 is the close.
+    // Notes a line after its time, whose last digit says what was done: 1 is the frame, 2 is what
+    // is asked, 3 is the close.
     fn note(&mut self, moment: &str, told: &'r str, answer: &str) -> Result<()> {
         if moment.ends_with("1") {
             if self.told.is_empty() {
@@ -118,8 +118,8 @@ impl<'r> Seen<'r> {
         Ok(())
     }
 
-    /// Checks that the frame was answered, waited for, or ended the association, and that the other
-    /// association is served.
+    // Checks that the frame was answered, waited for, or ended the association, and that the other
+    // association is served.
     fn check(&self, counts: &mut Counts) -> Result<()> {
         check(self.closed == self.refused && self.served == 1)?;
         counts.count(self.told)
@@ -138,12 +138,12 @@ impl<'a> Hostile<'a> {
         }
     }
 
-    /// Begins the trace: the first switch is open, and so is association 2.
+    // Begins the trace: the first switch is open, and so is association 2.
     fn put_begin(&self, trace: &mut String) -> Result<(), AllocError> {
         writeln!(trace, "0 contact QA1 1\n0 open 2\n0 recv 2 {}", self.first)
     }
 
-    /// Appends a frame at a time, with the octet between two parts replaced.
+    // Appends a frame at a time, with the octet between two parts replaced.
     fn put_frame(
         &self,
         trace: &mut String,
@@ -162,7 +162,7 @@ impl<'a> Hostile<'a> {
         writeln!(trace, "{} close 1", now.saturating_add(3))
     }
 
-    /// Returns the trace of frames with the octet between two parts replaced by each other value.
+    // Returns the trace of frames with the octet between two parts replaced by each other value.
     fn trace_of(&self, front: &str, octet: u8, back: &str) -> Result<String, AllocError> {
         let mut trace = String::new(self.alloc);
         self.put_begin(&mut trace)?;
@@ -176,8 +176,8 @@ impl<'a> Hostile<'a> {
         Ok(trace)
     }
 
-    /// Checks that the lines of such a trace are those of 255 frames, and counts them. The first
-    /// lines, up to the first scan, are those of opening the other association.
+    // Checks that the lines of such a trace are those of 255 frames, and counts them. The first
+    // lines, up to the first scan, are those of opening the other association.
     fn check_lines(&self, lines: &str, counts: &mut Counts) -> Result<()> {
         let wanted = format!(in self.alloc; "send 2 {}", self.answer)?;
         let mut seen = Seen::new();
@@ -197,7 +197,7 @@ impl<'a> Hostile<'a> {
         check(frames == 255)
     }
 
-    /// Checks the frames with one octet replaced.
+    // Checks the frames with one octet replaced.
     fn check_octet(
         &self,
         texts: &Texts,
@@ -212,7 +212,7 @@ impl<'a> Hostile<'a> {
         self.check_lines(lines_behind_load(report.as_slice())?, counts)
     }
 
-    /// Checks and counts the frames with each octet replaced.
+    // Checks and counts the frames with each octet replaced.
     fn count_all(&self, texts: &Texts, digits: &str, counts: &mut Counts) -> Result<()> {
         for at in 0..digits.len() / 2 {
             let begin = at.saturating_mul(2);

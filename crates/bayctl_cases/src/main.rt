@@ -46,7 +46,7 @@ use std::net::{Net, TcpListener, TcpStream};
 use std::rt::Runtime;
 use texts::{Texts, check_changed_bay, check_scenario};
 
-/// Checks the lines of the jobs that command lines ask for.
+// Checks the lines of the jobs that command lines ask for.
 fn tell_jobs(alloc: Global, told: &mut Told, body: &str) -> Result<()> {
     for line in body.lines() {
         let (words, wanted) = line.split_once(" -> ").context("no answer")?;
@@ -55,7 +55,7 @@ fn tell_jobs(alloc: Global, told: &mut Told, body: &str) -> Result<()> {
     Ok(())
 }
 
-/// Checks the lines of changed bay files.
+// Checks the lines of changed bay files.
 fn tell_bays(alloc: Global, told: &mut Told, texts: &Texts, body: &str) -> Result<()> {
     for line in body.lines() {
         told.tell(line, check_changed_bay(alloc, texts.bay, line))?;
@@ -63,7 +63,7 @@ fn tell_bays(alloc: Global, told: &mut Told, texts: &Texts, body: &str) -> Resul
     Ok(())
 }
 
-/// Checks the lines of hostile octets.
+// Checks the lines of hostile octets.
 fn tell_hostile(alloc: Global, told: &mut Told, texts: &Texts, body: &str) -> Result<()> {
     let mut hostile = Hostile::new(alloc);
     for line in body.lines() {
@@ -72,7 +72,7 @@ fn tell_hostile(alloc: Global, told: &mut Told, texts: &Texts, body: &str) -> Re
     Ok(())
 }
 
-/// Checks the cases of a section that needs only texts. Returns whether it is such a section.
+// Checks the cases of a section that needs only texts. Returns whether it is such a section.
 fn tell_texts(
     alloc: Global,
     told: &mut Told,
@@ -95,7 +95,7 @@ fn tell_texts(
     Ok(true)
 }
 
-/// Runs the cases of all sections, and returns what is reported of them.
+// Runs the cases of all sections, and returns what is reported of them.
 fn run<R: Runtime<A = Global> + Net<Listener = TcpListener, Stream = TcpStream>>(
     rt: &R,
     alloc: Global,

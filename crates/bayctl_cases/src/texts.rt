@@ -67,8 +67,8 @@ pub fn lines_behind_load(report: &[u8]) -> Result<&str> {
     Ok(lines)
 }
 
-/// Expands a trace in which `{OCTETS*TIMES}` stands for octets repeated that many times, and ends
-/// its last line.
+// Expands a trace in which `{OCTETS*TIMES}` stands for octets repeated that many times, and ends
+// its last line.
 fn expanded(alloc: Global, trace: &str) -> Result<String> {
     let mut text = String::new(alloc);
     for piece in trace.split("{") {

@@ -3,7 +3,7 @@
 use anyhow::{Result, bail};
 use std::alloc::Global;
 
-/// Appends the octets that one part spells, repeated if it has a count.
+// Appends the octets that one part spells, repeated if it has a count.
 fn append_part(alloc: Global, part: &str, octets: &mut Vec<u8>) -> Result<()> {
     let (digits, times) = part.split_once("*").unwrap_or((part, "1"));
     let piece = hex::decode(alloc, digits)?;

@@ -58,7 +58,7 @@ pub fn check(alloc: Global, program: &Program<'_>, points: &[Point]) -> Result<T
     Ok(typed)
 }
 
-/// Returns the typed program, or the fault to report; `check` states what holds of each.
+// Returns the typed program, or the fault to report; `check` states what holds of each.
 fn checked(alloc: Global, program: &Program<'_>, points: &[Point]) -> Result<Typed, CheckFault>
     ensures checked { Gives OutOfMemory checked_view result
         (checked_of points.now (plain_program program.now)) }

@@ -26,10 +26,10 @@ use il_text::program::{Declaration, DeclaredType, Literal, Scope};
 use std::alloc::{AllocError, Global};
 use std::collections::BTreeMap;
 
-/// The maximum number of externals and variables that a program may declare.
+// The maximum number of externals and variables that a program may declare.
 const MAX_SLOTS: usize = 512;
 
-/// The maximum number of timers that a program may declare.
+// The maximum number of timers that a program may declare.
 const MAX_TIMERS: usize = 64;
 
 /// The declarations so far: what each name means, and the fault to report, if any.
@@ -43,24 +43,24 @@ pub(crate) struct Declarations {
     pub(crate) found: Option<CheckFault>,
 }
 
-/// The maximum length of a name, in characters.
+// The maximum length of a name, in characters.
 const MAX_NAME: usize = 64;
 
-/// Whether an octet may stand in a name, case-insensitively.
+// Whether an octet may stand in a name, case-insensitively.
 fn may_stand(octet: u8) -> bool
     ensures { result ≡ spec.may_stand octet }
 {
     matches!(octet.to_ascii_uppercase(), b'A'..=b'Z' | b'0'..=b'9' | b'_')
 }
 
-/// Whether each of the octets may stand in a name.
+// Whether each of the octets may stand in a name.
 fn all_may_stand(octets: &[u8]) -> bool
     ensures { result ≡ list_all spec.may_stand octets.now }
 {
     octets.iter().all(|octet| may_stand(*octet))
 }
 
-/// Whether a name consists of 1 to 64 letters, digits and underscores.
+// Whether a name consists of 1 to 64 letters, digits and underscores.
 fn is_name(name: &str) -> bool
     ensures { result ≡ spec.is_name name.now }
 {
@@ -68,7 +68,7 @@ fn is_name(name: &str) -> bool
     0 < octets.len() && octets.len() <= MAX_NAME && all_may_stand(octets)
 }
 
-/// Returns the first point with this name, case-insensitively.
+// Returns the first point with this name, case-insensitively.
 fn named_point<'a>(points: &'a [Point], name: &str) -> Option<&'a Point>
     ensures { option_copied result ≡ spec.named_point points.now name.now }
 {
@@ -77,7 +77,7 @@ fn named_point<'a>(points: &'a [Point], name: &str) -> Option<&'a Point>
         .find(|point| same_name(point.name.as_str(), name))
 }
 
-/// Returns the point with this name. A malformed name gives `None`.
+// Returns the point with this name. A malformed name gives `None`.
 fn point_of<'a>(points: &'a [Point], name: &str) -> Option<&'a Point>
     ensures { option_copied result ≡ spec.point_of points.now name.now }
 {
@@ -88,7 +88,7 @@ fn point_of<'a>(points: &'a [Point], name: &str) -> Option<&'a Point>
     }
 }
 
-/// Whether a declaration stands in a VAR_EXTERNAL block.
+// Whether a declaration stands in a VAR_EXTERNAL block.
 fn is_external(scope: Scope) -> bool
     ensures { result ≡ spec.is_external scope }
 {
@@ -98,7 +98,7 @@ fn is_external(scope: Scope) -> bool
     }
 }
 
-/// Returns the value if it is of this type.
+// Returns the value if it is of this type.
 fn of_type(kind: ElementaryType, value: Option<Value>) -> Option<Value>
     ensures { result ≡ spec.of_type kind value }
 {
@@ -108,7 +108,7 @@ fn of_type(kind: ElementaryType, value: Option<Value>) -> Option<Value>
     }
 }
 
-/// Returns the value of a literal as one of this type, or `None` if it is not one.
+// Returns the value of a literal as one of this type, or `None` if it is not one.
 fn literal_value(kind: ElementaryType, literal: Literal) -> Option<Value>
     ensures { result ≡ spec.literal_value kind literal }
 {
@@ -118,7 +118,7 @@ fn literal_value(kind: ElementaryType, literal: Literal) -> Option<Value>
     }
 }
 
-/// Returns the initial value of a variable of this type, or `None` if the literal does not fit it.
+// Returns the initial value of a variable of this type, or `None` if the literal does not fit it.
 fn initial_in(kind: ElementaryType, literal: Option<Literal>) -> Option<Value>
     ensures { result ≡ spec.initial_in kind literal }
 {
@@ -128,7 +128,7 @@ fn initial_in(kind: ElementaryType, literal: Option<Literal>) -> Option<Value>
     }
 }
 
-/// Whether the point has this type. Without a point, no type is wrong.
+// Whether the point has this type. Without a point, no type is wrong.
 fn is_kind_of(point: Option<&Point>, kind: ElementaryType) -> bool
     ensures { result ≡ spec.is_kind_of (option_copied point.entry) kind }
 {
@@ -138,7 +138,7 @@ fn is_kind_of(point: Option<&Point>, kind: ElementaryType) -> bool
     }
 }
 
-/// Whether an external has its point's type, and a variable's literal fits it.
+// Whether an external has its point's type, and a variable's literal fits it.
 fn is_typed(declaration: Declaration<'_>, point: Option<&Point>) -> bool
     ensures { result ≡ spec.is_typed declaration.entry.scope declaration.entry.kind
         (option_copied point.entry) declaration.entry.initial }
@@ -153,7 +153,7 @@ fn is_typed(declaration: Declaration<'_>, point: Option<&Point>) -> bool
     }
 }
 
-/// Whether there is a point and the program may write it.
+// Whether there is a point and the program may write it.
 fn is_writable(point: Option<&Point>) -> bool
     ensures { result ≡ spec.is_writable (option_copied point.entry) }
 {
@@ -163,8 +163,8 @@ fn is_writable(point: Option<&Point>) -> bool
     }
 }
 
-/// Returns the fault to report after a declaration, given whether its name was already declared and
-/// whether there is no room for one more.
+// Returns the fault to report after a declaration, given whether its name was already declared and
+// whether there is no room for one more.
 fn declaration_fault(
     found: Option<CheckFault>,
     point: Option<&Point>,
@@ -186,7 +186,7 @@ fn declaration_fault(
 }
 
 impl Declarations {
-    /// Creates an empty set of declarations.
+    // Creates an empty set of declarations.
     fn new(alloc: Global) -> Self
         ensures nothing { (points : List Point) → StandsFor points [] result }
         ensures no_fault { result.found ≡ None }
@@ -201,7 +201,7 @@ impl Declarations {
         }
     }
 
-    /// Whether one more variable or timer would be too many.
+    // Whether one more variable or timer would be too many.
     fn is_full(&self, kind: DeclaredType) -> bool
         ensures { result ≡ spec.is_full (counts_in self.now) kind }
     {
@@ -213,7 +213,7 @@ impl Declarations {
         }
     }
 
-    /// Returns what the name declared next will mean.
+    // Returns what the name declared next will mean.
     fn next_meaning(&self, scope: Scope, kind: DeclaredType, point: Option<&Point>) -> Meaning
         ensures { result ≡ spec.meaning_at (counts_in self.now) scope kind
             (option_copied point.entry) }
@@ -233,7 +233,7 @@ impl Declarations {
         }
     }
 
-    /// Adds an external of a type, if its point exists.
+    // Adds an external of a type, if its point exists.
     fn add_external(
         &mut self,
         name: Text,
@@ -256,7 +256,7 @@ impl Declarations {
         Ok(())
     }
 
-    /// Adds a variable, if its initial value is valid.
+    // Adds a variable, if its initial value is valid.
     fn add_variable(&mut self, name: Text, initial: Option<Value>) -> Result<(), AllocError>
         ensures variables { OnOk result
             (self.new.variables.items
@@ -269,7 +269,7 @@ impl Declarations {
         Ok(())
     }
 
-    /// Adds a timer.
+    // Adds a timer.
     fn add_timer(&mut self, name: Text, kind: TimerKind) -> Result<(), AllocError>
         ensures timers { OnOk result
             (self.new.timers.items
@@ -280,7 +280,7 @@ impl Declarations {
         Ok(())
     }
 
-    /// Adds what a declaration declares, under its name in upper case.
+    // Adds what a declaration declares, under its name in upper case.
     fn add(
         &mut self,
         name: Text,
@@ -299,7 +299,7 @@ impl Declarations {
         }
     }
 
-    /// Processes one declaration.
+    // Processes one declaration.
     fn declare(&mut self, points: &[Point], declaration: &Declaration<'_>) -> Result<(), AllocError>
         ensures { OnOk result (Takes points.now (declared_of declaration.now) self.old self.new) }
     {

@@ -13,8 +13,8 @@ use crate::rules::{
 use bay_base::types::ElementaryType;
 use il_text::program::Operator;
 
-/// Whether no label of a name comes before this one, which has `passed` labels before it. `number`
-/// is that of the first label with the name.
+// Whether no label of a name comes before this one, which has `passed` labels before it. `number`
+// is that of the first label with the name.
 fn is_first(passed: usize, number: Option<usize>) -> bool
     ensures { result ≡ spec.is_first passed number }
 {
@@ -24,7 +24,7 @@ fn is_first(passed: usize, number: Option<usize>) -> bool
     }
 }
 
-/// The maximum number of labels in a program.
+// The maximum number of labels in a program.
 const MAX_LABELS: usize = 256;
 
 /// The position of an instruction: whether it is reachable, how many labels precede it, and how
@@ -36,8 +36,8 @@ pub(crate) struct Context {
     pub(crate) room: usize,
 }
 
-/// Returns the fault to report after checking an instruction's names and types, the result it uses,
-/// and whether it jumps back.
+// Returns the fault to report after checking an instruction's names and types, the result it uses,
+// and whether it jumps back.
 fn note_typing(
     found: Option<CheckFault>,
     context: Context,
@@ -61,8 +61,8 @@ fn note_typing(
     note_if(found, is_back, CheckFault::BackwardJump { line })
 }
 
-/// Returns the fault to report after checking whether an instruction is reachable, and what it
-/// jumps to, writes and divides by.
+// Returns the fault to report after checking whether an instruction is reachable, and what it
+// jumps to, writes and divides by.
 fn note_others(
     found: Option<CheckFault>,
     is_reached: bool,

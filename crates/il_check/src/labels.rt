@@ -20,7 +20,7 @@ pub(crate) struct Labels {
 }
 
 impl Labels {
-    /// Adds a label with this name and the next number.
+    // Adds a label with this name and the next number.
     fn add(&mut self, alloc: Global, name: &str) -> Result<(), AllocError>
         ensures { OnOk result (AddsLabels ((names.upper name.now, vec_len self.old.arrivals) ∷ [])
             self.old self.new) }
@@ -32,7 +32,7 @@ impl Labels {
         Ok(())
     }
 
-    /// Adds the label if the item is one. A label inside a parenthesis does not count.
+    // Adds the label if the item is one. A label inside a parenthesis does not count.
     #[tactic(auto, using(crate::proofs::EntryLemmas::entry_rules))]
     fn add_item(&mut self, alloc: Global, item: &Item<'_>) -> Result<(), AllocError>
         ensures { OnOk result (AddsLabels (label_in (vec_len self.old.arrivals) (entry_of item.now))

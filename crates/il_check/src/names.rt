@@ -24,7 +24,7 @@ pub(crate) fn upper_case(alloc: Global, name: &str) -> Result<String, AllocError
     Ok(copy)
 }
 
-/// Replaces the contents of the buffer by a name in upper case.
+// Replaces the contents of the buffer by a name in upper case.
 fn put_upper(buffer: &mut String, name: &str) -> Result<(), AllocError>
     ensures { OnOk result (string_bytes buffer.new ≡ base.upper name.now) }
 {

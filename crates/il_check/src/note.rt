@@ -5,15 +5,15 @@ ghost use Rattle.il_check.specs.Faults.{fault_if, first_fault_of};
 
 use crate::fault::CheckFault;
 
-/// Whether the first of two fault numbers is the lower one. Out of memory, which has no number and
-/// is never noted, would come first.
+// Whether the first of two fault numbers is the lower one. Out of memory, which has no number and
+// is never noted, would come first.
 fn is_lower(first: Option<u8>, second: Option<u8>) -> bool
     ensures { result ≡ spec.is_lower first second }
 {
     first.unwrap_or(0) < second.unwrap_or(0)
 }
 
-/// Whether a fault comes before another: by line, then by number.
+// Whether a fault comes before another: by line, then by number.
 fn is_before(first: CheckFault, second: CheckFault) -> bool
     ensures { result ≡ spec.is_before first second }
 {
@@ -21,7 +21,7 @@ fn is_before(first: CheckFault, second: CheckFault) -> bool
     first.line() < second.line() || (is_same && is_lower(first.code(), second.code()))
 }
 
-/// Returns whichever of two faults comes first.
+// Returns whichever of two faults comes first.
 fn lesser(first: CheckFault, second: CheckFault) -> CheckFault
     ensures { result ≡ spec.lesser first second }
 {

@@ -21,7 +21,7 @@ pub(crate) fn unreached() -> Reach
     }
 }
 
-/// Whether both results are set and have the same type.
+// Whether both results are set and have the same type.
 fn same_result(first: Option<ElementaryType>, second: Option<ElementaryType>) -> bool
     ensures { result ≡ spec.same_result first second }
 {
@@ -31,7 +31,7 @@ fn same_result(first: Option<ElementaryType>, second: Option<ElementaryType>) ->
     }
 }
 
-/// Returns the type of a result that has the first type on one path and the second on the other.
+// Returns the type of a result that has the first type on one path and the second on the other.
 fn join_types(
     first: Option<ElementaryType>,
     second: Option<ElementaryType>,

@@ -31,7 +31,7 @@ pub(crate) fn typed_value(literal: Literal) -> Option<Value>
     }
 }
 
-/// Returns a literal's value as a read-only operand. A number outside its type is `Misused`.
+// Returns a literal's value as a read-only operand. A number outside its type is `Misused`.
 fn known(value: Option<Value>) -> Given
     ensures { result ≡ spec.given_of value }
 {
@@ -45,7 +45,7 @@ fn known(value: Option<Value>) -> Given
     }
 }
 
-/// Returns a number without a type as an operand; it must be at least a LINT.
+// Returns a number without a type as an operand; it must be at least a LINT.
 fn number_given(number: i64) -> Given
     ensures { result ≡ spec.number_given number }
 {
@@ -56,7 +56,7 @@ fn number_given(number: i64) -> Given
     }
 }
 
-/// Returns a literal as an operand.
+// Returns a literal as an operand.
 fn literal_given(literal: Literal) -> Given
     ensures { result ≡ spec.literal_given literal }
 {
@@ -66,7 +66,7 @@ fn literal_given(literal: Literal) -> Given
     }
 }
 
-/// Returns what a name means as a variable.
+// Returns what a name means as a variable.
 fn variable_given(meaning: Option<Meaning>) -> Given
     ensures { result ≡ spec.variable_given meaning }
 {
@@ -87,7 +87,7 @@ fn variable_given(meaning: Option<Meaning>) -> Given
     }
 }
 
-/// Returns the type of a timer's output.
+// Returns the type of a timer's output.
 fn output_type(output: Output) -> ElementaryType
     ensures { result ≡ spec.output_type output }
 {
@@ -97,7 +97,7 @@ fn output_type(output: Output) -> ElementaryType
     }
 }
 
-/// Returns what a name means as the timer of an output.
+// Returns what a name means as the timer of an output.
 fn output_given(meaning: Option<Meaning>, output: Output) -> Given
     ensures { result ≡ spec.output_given meaning output }
 {
@@ -112,7 +112,7 @@ fn output_given(meaning: Option<Meaning>, output: Output) -> Given
     }
 }
 
-/// Whether a literal is neither 0 nor FALSE.
+// Whether a literal is neither 0 nor FALSE.
 fn is_nonzero_literal(literal: Literal) -> bool
     ensures { result ≡ spec.is_nonzero_literal literal }
 {
@@ -126,7 +126,7 @@ fn is_nonzero_literal(literal: Literal) -> bool
     }
 }
 
-/// Whether an operand is a literal other than 0 and FALSE.
+// Whether an operand is a literal other than 0 and FALSE.
 fn is_nonzero(operand: Operand<'_>) -> bool
     ensures { result ≡ spec.is_nonzero (source_of operand.entry) }
 {
@@ -136,7 +136,7 @@ fn is_nonzero(operand: Operand<'_>) -> bool
     }
 }
 
-/// Returns what a name means as the timer of a call.
+// Returns what a name means as the timer of a call.
 fn called_of(meaning: Option<Meaning>) -> Called
     ensures { result ≡ spec.called_of meaning }
 {
@@ -148,7 +148,7 @@ fn called_of(meaning: Option<Meaning>) -> Called
 }
 
 impl Names {
-    /// Resolves a symbolic variable: a variable, or an output of a timer.
+    // Resolves a symbolic variable: a variable, or an output of a timer.
     fn variable(
         &self,
         buffer: &mut String,
@@ -165,7 +165,7 @@ impl Names {
         }
     }
 
-    /// Resolves an operand.
+    // Resolves an operand.
     fn operand(&self, buffer: &mut String, operand: Operand<'_>) -> Result<Given, AllocError>
         ensures { IfOk result (λ given. given
             ≡ spec.source_given (names_of self.now) (source_of operand.entry)) }
@@ -176,7 +176,7 @@ impl Names {
         }
     }
 
-    /// Resolves an argument of a call.
+    // Resolves an argument of a call.
     fn argument(
         &self,
         buffer: &mut String,
@@ -191,7 +191,7 @@ impl Names {
         })
     }
 
-    /// Resolves the arguments of a call.
+    // Resolves the arguments of a call.
     fn arguments(
         &self,
         buffer: &mut String,
@@ -211,7 +211,7 @@ impl Names {
         }
     }
 
-    /// Resolves the names of a call.
+    // Resolves the names of a call.
     fn call(
         &self,
         buffer: &mut String,

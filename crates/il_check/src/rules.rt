@@ -40,15 +40,15 @@ pub(crate) fn operand_in(kind: ElementaryType, given: Given) -> Option<TypedOper
     }
 }
 
-/// Whether the operand can be of the type.
+// Whether the operand can be of the type.
 fn fits(kind: ElementaryType, given: Given) -> bool
     ensures { result ≡ spec.fits kind given }
 {
     operand_in(kind, given).is_some()
 }
 
-/// Returns the type of an untyped number when it is loaded: the first of INT, DINT and LINT that
-/// holds it.
+// Returns the type of an untyped number when it is loaded: the first of INT, DINT and LINT that
+// holds it.
 fn own_type(number: i64) -> ElementaryType
     ensures { result ≡ spec.own_type number }
 {
@@ -72,14 +72,14 @@ pub(crate) fn load_type(given: Given) -> Option<ElementaryType>
     }
 }
 
-/// Whether this is BOOL, the only type that can be negated or tested.
+// Whether this is BOOL, the only type that can be negated or tested.
 fn is_boolean(kind: ElementaryType) -> bool
     ensures { result ≡ spec.is_boolean kind }
 {
     ElementaryType::Bool.is(kind)
 }
 
-/// Whether this is INT, DINT or LINT.
+// Whether this is INT, DINT or LINT.
 fn is_number(kind: ElementaryType) -> bool
     ensures { result ≡ spec.is_number kind }
 {
@@ -89,7 +89,7 @@ fn is_number(kind: ElementaryType) -> bool
     }
 }
 
-/// Whether an operator accepts a type on both sides.
+// Whether an operator accepts a type on both sides.
 fn takes(operator: Operator, kind: ElementaryType) -> bool
     ensures { result ≡ spec.takes operator kind }
 {
@@ -103,7 +103,7 @@ fn takes(operator: Operator, kind: ElementaryType) -> bool
     }
 }
 
-/// Returns the type of an operator's result.
+// Returns the type of an operator's result.
 fn gives(operator: Operator, kind: ElementaryType) -> ElementaryType
     ensures { result ≡ spec.gives operator kind }
 {
@@ -144,21 +144,21 @@ pub(crate) fn divides(operator: Operator) -> bool
     }
 }
 
-/// Whether a negation, if there is one, is allowed for the type: only a BOOL may be negated.
+// Whether a negation, if there is one, is allowed for the type: only a BOOL may be negated.
 fn may_negate(negated: bool, kind: ElementaryType) -> bool
     ensures { result ≡ spec.may_negate negated kind }
 {
     !negated || is_boolean(kind)
 }
 
-/// Whether the operator, with its operand negated or not, works on the type.
+// Whether the operator, with its operand negated or not, works on the type.
 fn works(operator: Operator, negated: bool, kind: ElementaryType) -> bool
     ensures { result ≡ spec.works operator negated kind }
 {
     takes(operator, kind) && may_negate(negated, kind)
 }
 
-/// Whether a store writes the result unchanged.
+// Whether a store writes the result unchanged.
 fn is_plain(kind: StoreKind) -> bool
     ensures { result ≡ spec.is_plain kind }
 {
@@ -168,7 +168,7 @@ fn is_plain(kind: StoreKind) -> bool
     }
 }
 
-/// Whether a jump or a return depends on the current result.
+// Whether a jump or a return depends on the current result.
 fn is_conditional(condition: Condition) -> bool
     ensures { result ≡ spec.is_conditional condition }
 {
@@ -178,7 +178,7 @@ fn is_conditional(condition: Condition) -> bool
     }
 }
 
-/// Returns the type that a conversion takes.
+// Returns the type that a conversion takes.
 fn converted_from(conversion: Conversion) -> ElementaryType
     ensures { result ≡ spec.converted_from conversion }
 {
@@ -188,7 +188,7 @@ fn converted_from(conversion: Conversion) -> ElementaryType
     }
 }
 
-/// Returns the type that a conversion gives.
+// Returns the type that a conversion gives.
 fn converted_to(conversion: Conversion) -> ElementaryType
     ensures { result ≡ spec.converted_to conversion }
 {
@@ -208,14 +208,14 @@ pub(crate) fn input_type(input: Input) -> ElementaryType
     }
 }
 
-/// Whether an argument fits its input's type.
+// Whether an argument fits its input's type.
 fn argument_fits(argument: GivenArgument) -> bool
     ensures { result ≡ spec.argument_fits argument }
 {
     fits(input_type(argument.input), argument.given)
 }
 
-/// Whether each argument fits its input's type.
+// Whether each argument fits its input's type.
 fn arguments_fit(arguments: GivenArguments) -> bool
     ensures { result ≡ spec.arguments_fit arguments }
 {
@@ -226,7 +226,7 @@ fn arguments_fit(arguments: GivenArguments) -> bool
     }
 }
 
-/// Whether the called name is a timer's.
+// Whether the called name is a timer's.
 fn is_timer(called: Called) -> bool
     ensures { result ≡ spec.is_timer called }
 {
@@ -236,7 +236,7 @@ fn is_timer(called: Called) -> bool
     }
 }
 
-/// Whether a value of this type may be loaded, negated or not. Without a type, nothing may.
+// Whether a value of this type may be loaded, negated or not. Without a type, nothing may.
 fn may_load(negated: bool, kind: Option<ElementaryType>) -> bool
     ensures { result ≡ spec.may_load negated kind }
 {
@@ -246,7 +246,7 @@ fn may_load(negated: bool, kind: Option<ElementaryType>) -> bool
     }
 }
 
-/// Whether the instruction is right if the current result has this type.
+// Whether the instruction is right if the current result has this type.
 fn allows(resolved: Resolved, kind: ElementaryType) -> bool
     ensures { result ≡ spec.allows resolved kind }
 {
@@ -270,7 +270,7 @@ fn allows(resolved: Resolved, kind: ElementaryType) -> bool
     }
 }
 
-/// Whether the instruction uses the current result.
+// Whether the instruction uses the current result.
 fn uses_result(resolved: Resolved) -> bool
     ensures { result ≡ spec.uses_result resolved }
 {
@@ -319,7 +319,7 @@ pub(crate) fn type_after(resolved: Resolved, kind: Option<ElementaryType>) -> Op
     }
 }
 
-/// Whether the result of a parenthesis may have this type.
+// Whether the result of a parenthesis may have this type.
 fn may_be(kind: ElementaryType, inner: Option<ElementaryType>) -> bool
     ensures { result ≡ spec.may_be kind inner }
 {
@@ -329,7 +329,7 @@ fn may_be(kind: ElementaryType, inner: Option<ElementaryType>) -> bool
     }
 }
 
-/// Whether the operator of a parenthesis is right on a current result of this type.
+// Whether the operator of a parenthesis is right on a current result of this type.
 fn combines(
     operator: Operator,
     negated: bool,
@@ -362,7 +362,7 @@ pub(crate) fn combines_wrong(
     }
 }
 
-/// Whether the operand is an undeclared name.
+// Whether the operand is an undeclared name.
 fn is_missing(given: Given) -> bool
     ensures { result ≡ spec.is_missing given }
 {
@@ -372,7 +372,7 @@ fn is_missing(given: Given) -> bool
     }
 }
 
-/// Whether an argument is an undeclared name.
+// Whether an argument is an undeclared name.
 fn misses_argument(arguments: GivenArguments) -> bool
     ensures { result ≡ spec.misses_argument arguments }
 {
@@ -383,7 +383,7 @@ fn misses_argument(arguments: GivenArguments) -> bool
     }
 }
 
-/// Whether the called name is not declared.
+// Whether the called name is not declared.
 fn misses_timer(called: Called) -> bool
     ensures { result ≡ spec.misses_timer called }
 {
@@ -428,7 +428,7 @@ pub(crate) fn misses_label(resolved: Resolved) -> bool
     }
 }
 
-/// Whether the target is read-only.
+// Whether the target is read-only.
 fn is_fixed(given: Given) -> bool
     ensures { result ≡ spec.is_fixed given }
 {

@@ -8,7 +8,7 @@ use crate::typed::{SimpleOperation, Slot, Transfer, TypedArgument, TypedArgument
 use bay_base::types::ElementaryType;
 use il_text::program::{Operator, StoreKind};
 
-/// Returns a load of the operand as one of this type.
+// Returns a load of the operand as one of this type.
 fn load_in(negated: bool, given: Given, kind: Option<ElementaryType>) -> Option<SimpleOperation>
     ensures { result ≡ spec.load_in negated given kind }
 {
@@ -16,7 +16,7 @@ fn load_in(negated: bool, given: Given, kind: Option<ElementaryType>) -> Option<
     Some(SimpleOperation::Load { negated, operand })
 }
 
-/// Returns the slot of a target that is a variable.
+// Returns the slot of a target that is a variable.
 fn target_slot(target: Given) -> Option<Slot>
     ensures { result ≡ spec.target_slot target }
 {
@@ -29,7 +29,7 @@ fn target_slot(target: Given) -> Option<Slot>
     }
 }
 
-/// Returns a store into the slot, or `None` without a slot.
+// Returns a store into the slot, or `None` without a slot.
 fn stored(kind: StoreKind, slot: Option<Slot>) -> Option<SimpleOperation>
     ensures { result ≡ spec.store_operation kind slot }
 {
@@ -37,7 +37,7 @@ fn stored(kind: StoreKind, slot: Option<Slot>) -> Option<SimpleOperation>
     Some(SimpleOperation::Store { kind, slot })
 }
 
-/// Returns an operator on a result of this type, with the operand as one of the type.
+// Returns an operator on a result of this type, with the operand as one of the type.
 fn combine_in(
     operator: Operator,
     negated: bool,
@@ -78,7 +78,7 @@ pub(crate) fn operation_in(
     }
 }
 
-/// Returns an argument with its input's type.
+// Returns an argument with its input's type.
 fn typed_argument(argument: GivenArgument) -> Option<TypedArgument>
     ensures { result ≡ spec.typed_argument argument }
 {
@@ -91,7 +91,7 @@ fn typed_argument(argument: GivenArgument) -> Option<TypedArgument>
     }
 }
 
-/// Returns the arguments, or `None` if one does not have its input's type.
+// Returns the arguments, or `None` if one does not have its input's type.
 fn arguments_in(arguments: GivenArguments) -> Option<TypedArguments>
     ensures { result ≡ spec.arguments_in arguments }
 {
@@ -107,7 +107,7 @@ fn arguments_in(arguments: GivenArguments) -> Option<TypedArguments>
     }
 }
 
-/// Returns a call, or `None` if no timer is called or its arguments are wrong.
+// Returns a call, or `None` if no timer is called or its arguments are wrong.
 fn call_in(called: Called, arguments: Option<TypedArguments>) -> Option<Transfer>
     ensures { result ≡ spec.call_in called arguments }
 {

@@ -25,7 +25,7 @@ use bay_base::types::ElementaryType;
 use il_text::program::{Instruction, Item, Operator};
 use std::alloc::{AllocError, Global};
 
-/// The maximum nesting depth of parentheses.
+// The maximum nesting depth of parentheses.
 const MAX_DEPTH: usize = 16;
 
 /// The state kept from item to item: the fault to report, if any so far, and a buffer for looking
@@ -37,7 +37,7 @@ pub(crate) struct Judge {
     pub(crate) found: Option<CheckFault>,
 }
 
-/// The operator of a parenthesis, and the lines of its opening and its closing.
+// The operator of a parenthesis, and the lines of its opening and its closing.
 #[derive(Clone, Copy)]
 struct Parenthesis {
     line: usize,
@@ -46,14 +46,14 @@ struct Parenthesis {
     end: usize,
 }
 
-/// The typed form of one entry, if it has one, and the type of the result after it.
+// The typed form of one entry, if it has one, and the type of the result after it.
 #[derive(Drop)]
 struct EntryLeft {
     entry: Option<TypedEntry>,
     kind: Option<ElementaryType>,
 }
 
-/// The typed forms of entries, and the type of the result after them.
+// The typed forms of entries, and the type of the result after them.
 #[derive(Drop)]
 struct Passed {
     entries: Vec<TypedEntry>,
@@ -61,7 +61,7 @@ struct Passed {
 }
 
 impl Judge {
-    /// Resolves the names of an instruction and notes its faults.
+    // Resolves the names of an instruction and notes its faults.
     fn instruction(
         &mut self,
         names: &Names,
@@ -82,8 +82,8 @@ impl Judge {
         Ok(resolved)
     }
 
-    /// Checks an instruction in a parenthesis, on a result of this type, or `None` if it is not
-    /// set.
+    // Checks an instruction in a parenthesis, on a result of this type, or `None` if it is not
+    // set.
     fn operate(
         &mut self,
         names: &Names,
@@ -111,7 +111,7 @@ impl Judge {
         })
     }
 
-    /// Checks the entries of a parenthesis.
+    // Checks the entries of a parenthesis.
     #[cycle(entries)]
     fn entries(
         &mut self,
@@ -142,7 +142,7 @@ impl Judge {
         Ok(passed)
     }
 
-    /// Checks one entry, on a result of this type, or `None` if it is not set.
+    // Checks one entry, on a result of this type, or `None` if it is not set.
     #[cycle(entries)]
     #[tactic(auto, using(crate::proofs::EntryLemmas::entry_rules))]
     fn entry(
@@ -189,8 +189,8 @@ impl Judge {
         }
     }
 
-    /// Checks a parenthesis on a result of this type, or `None` if it is not set, and returns its
-    /// typed form. The contents of one nested too deep are not checked.
+    // Checks a parenthesis on a result of this type, or `None` if it is not set, and returns its
+    // typed form. The contents of one nested too deep are not checked.
     #[cycle(entries)]
     fn block(
         &mut self,
@@ -237,7 +237,7 @@ impl Judge {
     }
 }
 
-/// Returns a parenthesis whose operator works on a result of this type.
+// Returns a parenthesis whose operator works on a result of this type.
 #[tactic(auto, using(crate::proofs::ViewLemmas::view_rules))]
 fn block_of(
     operator: Operator,
@@ -259,7 +259,7 @@ fn block_of(
     }
 }
 
-/// Returns the typed form of an instruction as an entry.
+// Returns the typed form of an instruction as an entry.
 #[tactic(auto, using(crate::proofs::ViewLemmas::view_rules))]
 fn entry_in(resolved: Resolved, kind: Option<ElementaryType>) -> Option<TypedEntry>
     ensures { option_map entry_view result ≡ typing.entry_in resolved kind }
@@ -270,7 +270,7 @@ fn entry_in(resolved: Resolved, kind: Option<ElementaryType>) -> Option<TypedEnt
     }
 }
 
-/// Returns the typed form of an instruction as an item.
+// Returns the typed form of an instruction as an item.
 fn item_in(resolved: Resolved, kind: Option<ElementaryType>) -> Option<TypedItem>
     ensures { option_map item_view result ≡ typing.item_in resolved kind }
 {
@@ -284,7 +284,7 @@ fn item_in(resolved: Resolved, kind: Option<ElementaryType>) -> Option<TypedItem
 }
 
 impl Passed {
-    /// Appends one entry, if it has a typed form.
+    // Appends one entry, if it has a typed form.
     #[tactic(auto, using(crate::proofs::ViewLemmas::view_rules))]
     fn add(&mut self, left: EntryLeft) -> Result<(), AllocError>
         ensures kind { OnOk result (self.new.kind ≡ left.kind) }
@@ -311,7 +311,7 @@ pub(crate) struct Walk {
 }
 
 impl Walk {
-    /// Returns the context of the next item, which is in no parenthesis.
+    // Returns the context of the next item, which is in no parenthesis.
     fn context(&self) -> Context
         ensures { result ≡ record
             { is_reached = self.now.reach.is_reached; passed = self.now.passed; room = 16 } }
@@ -323,7 +323,7 @@ impl Walk {
         }
     }
 
-    /// Returns what jumps bring to the label with this number, as far as the text has been read.
+    // Returns what jumps bring to the label with this number, as far as the text has been read.
     fn arrival(&self, label: usize) -> Reach
         ensures { result ≡ spec.arrival (slice_get self.now.arrivals.items label) }
     {
@@ -333,7 +333,7 @@ impl Walk {
         }
     }
 
-    /// Records what a jump brings to its label.
+    // Records what a jump brings to its label.
     fn arrive(&mut self, label: Option<usize>)
         ensures arrivals { self.new.arrivals.items
             ≡ spec.arrival_at label self.old.reach self.old.arrivals.items }
@@ -349,7 +349,7 @@ impl Walk {
         }
     }
 
-    /// Moves past an instruction.
+    // Moves past an instruction.
     fn follow(&mut self, resolved: Resolved)
         ensures standing { standing_of self.new
             ≡ spec.standing_after resolved (standing_of self.old) }
@@ -362,7 +362,7 @@ impl Walk {
         };
     }
 
-    /// Moves past a label.
+    // Moves past a label.
     fn enter_label(&mut self)
         requires { self.old.passed < usize.MAX }
         ensures standing { standing_of self.new ≡ spec.behind_label (standing_of self.old) }
@@ -372,7 +372,7 @@ impl Walk {
         self.passed += 1;
     }
 
-    /// Appends one item, if there is one.
+    // Appends one item, if there is one.
     #[tactic(auto, using(crate::proofs::ViewLemmas::view_rules))]
     fn add(&mut self, item: Option<TypedItem>) -> Result<(), AllocError>
         ensures items { OnOk result (map item_view self.new.items.items
@@ -385,8 +385,8 @@ impl Walk {
         Ok(())
     }
 
-    /// Keeps the typed items, or clears them once a fault is found: a program with a fault keeps
-    /// none.
+    // Keeps the typed items, or clears them once a fault is found: a program with a fault keeps
+    // none.
     fn keep(&mut self, found: Option<CheckFault>)
         ensures items { found ≡ None → self.new.items ≡ self.old.items }
         ensures standing { standing_of self.new ≡ standing_of self.old }
@@ -396,7 +396,7 @@ impl Walk {
         }
     }
 
-    /// Appends the typed form of an instruction, if it has one.
+    // Appends the typed form of an instruction, if it has one.
     fn add_instruction(&mut self, resolved: Resolved) -> Result<(), AllocError>
         ensures items { OnOk result (map item_view self.new.items.items
             ≡ map item_view self.old.items.items
@@ -406,7 +406,7 @@ impl Walk {
         self.add(item_in(resolved, self.reach.kind))
     }
 
-    /// Appends a label, by its number.
+    // Appends a label, by its number.
     fn add_label(&mut self) -> Result<(), AllocError>
         requires { self.old.passed < usize.MAX }
         ensures items { OnOk result
@@ -420,7 +420,7 @@ impl Walk {
         Ok(())
     }
 
-    /// Appends a parenthesis, if it has a typed form.
+    // Appends a parenthesis, if it has a typed form.
     #[tactic(auto, using(crate::proofs::ViewLemmas::view_rules))]
     fn add_block(&mut self, left: EntryLeft) -> Result<(), AllocError>
         ensures items { OnOk result (map item_view self.new.items.items
@@ -443,7 +443,7 @@ impl Walk {
 }
 
 impl Judge {
-    /// Checks a label.
+    // Checks a label.
     fn label(
         &mut self,
         names: &Names,
@@ -468,7 +468,7 @@ impl Judge {
         walk.add_label()
     }
 
-    /// Checks an instruction outside parentheses.
+    // Checks an instruction outside parentheses.
     fn act(
         &mut self,
         names: &Names,
@@ -494,7 +494,7 @@ impl Judge {
         Ok(())
     }
 
-    /// Checks a parenthesis that is not inside another.
+    // Checks a parenthesis that is not inside another.
     fn enclose(&mut self, names: &Names, item: &Item<'_>, walk: &mut Walk) -> Result<(), AllocError>
         ensures standing { OnOk result (standing_of walk.new
             ≡ record {
@@ -519,7 +519,7 @@ impl Judge {
         walk.add_block(left)
     }
 
-    /// Checks one item.
+    // Checks one item.
     #[tactic(auto, using(crate::proofs::EntryLemmas::entry_rules))]
     fn item(&mut self, names: &Names, item: &Item<'_>, walk: &mut Walk) -> Result<(), AllocError>
         requires { walk.old.passed < usize.MAX }

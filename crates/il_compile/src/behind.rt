@@ -15,7 +15,7 @@ use il_text::program::Condition;
 use std::alloc::{AllocError, Global};
 use std::collections::HashMap;
 
-/// The octets are counted up to this number.
+// The octets are counted up to this number.
 const BOUND: u32 = 0x1_0000;
 
 /// What is known of the items after a place.
@@ -83,7 +83,7 @@ fn put_before(
 }
 
 impl Behind {
-    /// Creates the state after the last item, where nothing follows.
+    // Creates the state after the last item, where nothing follows.
     fn new(alloc: Global) -> Behind
         ensures { (externals : ℕ) → IsSettled externals [] result }
     {

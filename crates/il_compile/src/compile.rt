@@ -24,10 +24,10 @@ use il_image::instr::Instr;
 use il_image::value::Value;
 use std::alloc::{AllocError, Global};
 
-/// The maximum number of octets in an image.
+// The maximum number of octets in an image.
 const MAX_OCTETS: usize = 65_535;
 
-/// Returns the point of an external variable.
+// Returns the point of an external variable.
 fn point_of(alloc: Global, external: &External) -> Result<ImagePoint, AllocError>
     ensures { IfOk result (λ point. point ≡ spec_compiled.point_of external.now) }
 {
@@ -38,7 +38,7 @@ fn point_of(alloc: Global, external: &External) -> Result<ImagePoint, AllocError
     })
 }
 
-/// Returns the points of the external variables, in order.
+// Returns the points of the external variables, in order.
 fn points_of(alloc: Global, externals: &[External]) -> Result<Vec<ImagePoint>, AllocError>
     ensures { IfOk result (λ points. points.items ≡ map spec_compiled.point_of externals.now) }
 {
@@ -49,7 +49,7 @@ fn points_of(alloc: Global, externals: &[External]) -> Result<Vec<ImagePoint>, A
     Ok(points)
 }
 
-/// Returns the initial values of the variables, in order.
+// Returns the initial values of the variables, in order.
 fn values_of(alloc: Global, variables: &[Variable]) -> Result<Vec<Value>, AllocError>
     ensures { IfOk result (λ values. values.items ≡ map (λ v. v.initial) variables.now) }
 {
@@ -60,7 +60,7 @@ fn values_of(alloc: Global, variables: &[Variable]) -> Result<Vec<Value>, AllocE
     Ok(values)
 }
 
-/// Returns the kinds of the timers, in order.
+// Returns the kinds of the timers, in order.
 fn kinds_of(alloc: Global, timers: &[Timer]) -> Result<Vec<TimerKind>, AllocError>
     ensures { IfOk result (λ kinds. kinds.items ≡ map (λ t. t.kind) timers.now) }
 {
@@ -85,8 +85,8 @@ fn points_size(externals: &[External]) -> usize
     size
 }
 
-/// Returns the octets of a program's code: a cell for the current result, the instructions of the
-/// items, which are given last first, and HALT.
+// Returns the octets of a program's code: a cell for the current result, the instructions of the
+// items, which are given last first, and HALT.
 fn spell_all(alloc: Global, behind: Vec<Instr>) -> Result<Vec<u8>, AllocError>
     ensures { IfOk result (λ code. code.items
         ≡ all_spelled (spec.unset ∷ reverse behind.items ++ Instr.Halt ∷ [])) }
@@ -101,8 +101,8 @@ fn spell_all(alloc: Global, behind: Vec<Instr>) -> Result<Vec<u8>, AllocError>
     Ok(code)
 }
 
-/// Returns the number of octets of an image without those of its code, in version 2 of the format:
-/// the mark and the version, the four counts, and the items counted.
+// Returns the number of octets of an image without those of its code, in version 2 of the format:
+// the mark and the version, the four counts, and the items counted.
 fn head_size(program: &Typed) -> usize
     requires { IsTyped (checked_view program.now) }
     ensures value { result ≡ 13 + points_octets program.now.externals
@@ -112,7 +112,7 @@ fn head_size(program: &Typed) -> usize
     13 + points_size(program.externals()) + 9 * program.variables().len() + program.timers().len()
 }
 
-/// Returns the image of a program, or `CodeTooLong` if it would have more than 65,535 octets.
+// Returns the image of a program, or `CodeTooLong` if it would have more than 65,535 octets.
 fn compiled(alloc: Global, program: &Typed) -> Result<Image, CompileFault>
     ensures image { Gives OutOfMemory (λ image. image) result
         (compiled_of (checked_view program.now)) }

@@ -18,7 +18,7 @@ use il_image::value::Value;
 use il_text::program::{Condition, Conversion, Input, Operator, Output, StoreKind};
 use std::alloc::AllocError;
 
-/// Returns the number of a slot: the externals come first, then the variables.
+// Returns the number of a slot: the externals come first, then the variables.
 fn slot_number(externals: usize, slot: Slot) -> u16
     requires { spec.slot_number externals slot < 2 ^ 16 }
     ensures { result ≡ spec.slot_number externals slot }
@@ -29,7 +29,7 @@ fn slot_number(externals: usize, slot: Slot) -> u16
     }
 }
 
-/// Returns the instruction that pushes an operand.
+// Returns the instruction that pushes an operand.
 fn fetch(externals: usize, operand: TypedOperand) -> Instr
     requires { IsInstr (spec.fetch externals operand) }
     ensures { result ≡ spec.fetch externals operand }
@@ -44,7 +44,7 @@ fn fetch(externals: usize, operand: TypedOperand) -> Instr
     }
 }
 
-/// Returns the width of an operation on numbers of a type.
+// Returns the width of an operation on numbers of a type.
 fn width_of(kind: ElementaryType) -> Width
     ensures { result ≡ spec.width_of kind }
 {
@@ -55,7 +55,7 @@ fn width_of(kind: ElementaryType) -> Width
     }
 }
 
-/// Returns the instruction of an operator on two values of a type.
+// Returns the instruction of an operator on two values of a type.
 fn operator_instr(operator: Operator, kind: ElementaryType) -> Instr
     ensures { result ≡ spec.sense_instr (senses.sense_of operator) kind }
 {
@@ -77,7 +77,7 @@ fn operator_instr(operator: Operator, kind: ElementaryType) -> Instr
     }
 }
 
-/// Returns the machine's name for a conversion.
+// Returns the machine's name for a conversion.
 fn widening_of(conversion: Conversion) -> Widening
     ensures { result ≡ senses.widening_of conversion }
 {
@@ -98,7 +98,7 @@ pub(crate) fn when_of(condition: Condition) -> When
     }
 }
 
-/// Returns what the machine does with an input of a timer.
+// Returns what the machine does with an input of a timer.
 fn input_use(input: Input) -> TimerUse
     ensures { result ≡ spec.input_use input }
 {
@@ -116,7 +116,7 @@ pub(crate) fn put(code: &mut Vec<Instr>, instr: Instr) -> Result<(), AllocError>
     Ok(())
 }
 
-/// Appends a NOT if the operand is negated.
+// Appends a NOT if the operand is negated.
 fn put_negation(code: &mut Vec<Instr>, negated: bool) -> Result<(), AllocError>
     ensures { OnOk result (code.new.items ≡ code.old.items ++ spec.negation negated) }
 {
@@ -126,7 +126,7 @@ fn put_negation(code: &mut Vec<Instr>, negated: bool) -> Result<(), AllocError>
     Ok(())
 }
 
-/// Appends what follows an operand or a parenthesis: a NOT if it is negated, and the operator.
+// Appends what follows an operand or a parenthesis: a NOT if it is negated, and the operator.
 fn put_operated(
     code: &mut Vec<Instr>,
     operator: Operator,
@@ -140,7 +140,7 @@ fn put_operated(
     put(code, operator_instr(operator, kind))
 }
 
-/// Appends a store of the result, which stays on the stack.
+// Appends a store of the result, which stays on the stack.
 fn put_store(code: &mut Vec<Instr>, kind: StoreKind, slot: u16) -> Result<(), AllocError>
     ensures { OnOk result (code.new.items ≡ code.old.items ++ spec.store_code kind slot) }
 {
@@ -156,7 +156,7 @@ fn put_store(code: &mut Vec<Instr>, kind: StoreKind, slot: u16) -> Result<(), Al
     }
 }
 
-/// Appends the instructions of an operation.
+// Appends the instructions of an operation.
 fn put_operation(
     code: &mut Vec<Instr>,
     externals: usize,
@@ -219,7 +219,7 @@ pub(crate) fn put_entry(
     }
 }
 
-/// Appends an argument of a call: its operand, and its input.
+// Appends an argument of a call: its operand, and its input.
 fn put_argument(
     code: &mut Vec<Instr>,
     externals: usize,

@@ -1,7 +1,7 @@
 // What the ranges of slots hang on. No clause speaks of it: it says where a case is best split, and
 // no answer is read off it.
 
-/// The most slots and timers of a verified image.
+// The most slots and timers of a verified image.
 const SLOTS: usize = 512;
 
 const TIMERS: usize = 64;

@@ -13,7 +13,7 @@ use il_image::instr::Instr;
 use il_image::opcode::{Connective, SlotUse, TimerUse, When};
 use il_image::timer::TimerState;
 
-/// NOT: negates the top.
+// NOT: negates the top.
 #[inline(always)]
 fn negate(stack: &mut Stack)
     requires some { 0 < length stack.old }
@@ -23,7 +23,7 @@ fn negate(stack: &mut Stack)
     stack.replace_top(i64::from(word == 0));
 }
 
-/// AND: combines two BOOLs into one.
+// AND: combines two BOOLs into one.
 #[inline(always)]
 fn and(stack: &mut Stack)
     requires two { 1 < length stack.old }
@@ -35,7 +35,7 @@ fn and(stack: &mut Stack)
     stack.replace_top(if first == 0 { 0 } else { second });
 }
 
-/// OR: combines two BOOLs into one.
+// OR: combines two BOOLs into one.
 #[inline(always)]
 fn or(stack: &mut Stack)
     requires two { 1 < length stack.old }
@@ -47,7 +47,7 @@ fn or(stack: &mut Stack)
     stack.replace_top(if first == 0 { second } else { 1 });
 }
 
-/// XOR: combines two BOOLs into one.
+// XOR: combines two BOOLs into one.
 #[inline(always)]
 fn xor(stack: &mut Stack)
     requires two { 1 < length stack.old }
@@ -59,7 +59,7 @@ fn xor(stack: &mut Stack)
     stack.replace_top(i64::from(first != second));
 }
 
-/// AND, OR or XOR.
+// AND, OR or XOR.
 #[inline(always)]
 fn combine(stack: &mut Stack, connective: Connective)
     requires two { 1 < length stack.old }
@@ -73,7 +73,7 @@ fn combine(stack: &mut Stack, connective: Connective)
     }
 }
 
-/// One of ADD, SUB, MUL, DIV and MOD: combines two numbers of the width into one.
+// One of ADD, SUB, MUL, DIV and MOD: combines two numbers of the width into one.
 #[inline(always)]
 fn calculate(stack: &mut Stack, operation: Operation, width: Width)
     requires two { 1 < length stack.old }
@@ -86,8 +86,8 @@ fn calculate(stack: &mut Stack, operation: Operation, width: Width)
     stack.replace_top(compute(operation, width, first, second));
 }
 
-/// ADD, SUB, MUL, DIV or MOD. Each is a separate call, so that the operation is known where the
-/// opcode is.
+// ADD, SUB, MUL, DIV or MOD. Each is a separate call, so that the operation is known where the
+// opcode is.
 #[inline(always)]
 fn calculate_by(stack: &mut Stack, operation: Operation, width: Width)
     requires two { 1 < length stack.old }
@@ -104,7 +104,7 @@ fn calculate_by(stack: &mut Stack, operation: Operation, width: Width)
     }
 }
 
-/// One of GT, GE, EQ, NE, LE and LT: compares two values of the same type and gives a BOOL.
+// One of GT, GE, EQ, NE, LE and LT: compares two values of the same type and gives a BOOL.
 #[inline(always)]
 fn relate(stack: &mut Stack, comparison: Comparison)
     requires two { 1 < length stack.old }
@@ -117,7 +117,7 @@ fn relate(stack: &mut Stack, comparison: Comparison)
     stack.replace_top(i64::from(compare(comparison, first, second)));
 }
 
-/// GT, GE, EQ, NE, LE or LT.
+// GT, GE, EQ, NE, LE or LT.
 #[inline(always)]
 fn relate_by(stack: &mut Stack, comparison: Comparison)
     requires two { 1 < length stack.old }
@@ -135,14 +135,14 @@ fn relate_by(stack: &mut Stack, comparison: Comparison)
     }
 }
 
-/// WIDEN, WIDENL: does nothing, because the word of a number is the same at each width.
+// WIDEN, WIDENL: does nothing, because the word of a number is the same at each width.
 #[inline(always)]
 fn widen(_stack: &mut Stack)
     requires { 0 < length _stack.old }
     ensures { _stack.new ≡ _stack.old }
 {}
 
-/// LOAD: pushes a slot's word.
+// LOAD: pushes a slot's word.
 #[inline(always)]
 fn load(stack: &mut Stack, slots: &[i64], number: u16)
     requires room { length stack.old < 32 }
@@ -152,7 +152,7 @@ fn load(stack: &mut Stack, slots: &[i64], number: u16)
     stack.push(slots[usize::from(number)]);
 }
 
-/// STORE: copies the top to the slot.
+// STORE: copies the top to the slot.
 #[inline(always)]
 fn store(stack: &Stack, slots: &mut [i64], number: u16)
     requires some { 0 < length stack.now }
@@ -162,7 +162,7 @@ fn store(stack: &Stack, slots: &mut [i64], number: u16)
     slots[usize::from(number)] = stack.top();
 }
 
-/// SETIF, RESETIF: sets the slot to TRUE or FALSE if the top is TRUE.
+// SETIF, RESETIF: sets the slot to TRUE or FALSE if the top is TRUE.
 #[inline(always)]
 fn set_if(stack: &Stack, slots: &mut [i64], number: u16, word: i64)
     requires some { 0 < length stack.now }
@@ -175,8 +175,8 @@ fn set_if(stack: &Stack, slots: &mut [i64], number: u16, word: i64)
     slots[place] = if stack.top() == 0 { old } else { word };
 }
 
-/// Returns the place of the next instruction after a conditional jump: `where_false` if the top is
-/// FALSE, otherwise `where_true`.
+// Returns the place of the next instruction after a conditional jump: `where_false` if the top is
+// FALSE, otherwise `where_true`.
 #[inline(always)]
 fn choose(stack: &Stack, where_false: usize, where_true: usize) -> usize
     requires { 0 < length stack.now }
@@ -189,7 +189,7 @@ fn choose(stack: &Stack, where_false: usize, where_true: usize) -> usize
     }
 }
 
-/// SETIN: pops the top as the timer's IN.
+// SETIN: pops the top as the timer's IN.
 #[inline(always)]
 fn set_input(stack: &mut Stack, timers: &mut [TimerState], number: u16)
     requires some { 0 < length stack.old }
@@ -204,7 +204,7 @@ fn set_input(stack: &mut Stack, timers: &mut [TimerState], number: u16)
     timer.input = word != 0;
 }
 
-/// SETPT: pops the top as the timer's PT.
+// SETPT: pops the top as the timer's PT.
 #[inline(always)]
 fn set_preset(stack: &mut Stack, timers: &mut [TimerState], number: u16)
     requires some { 0 < length stack.old }
@@ -220,7 +220,7 @@ fn set_preset(stack: &mut Stack, timers: &mut [TimerState], number: u16)
     timer.preset = word as u32;
 }
 
-/// RUN: calls the timer at this time.
+// RUN: calls the timer at this time.
 #[inline(always)]
 fn run(timers: &mut [TimerState], number: u16, now: u64)
     requires { number < length timers.old }
@@ -230,7 +230,7 @@ fn run(timers: &mut [TimerState], number: u16, now: u64)
     timers[usize::from(number)].call(now);
 }
 
-/// LOADQ: pushes Q.
+// LOADQ: pushes Q.
 #[inline(always)]
 fn load_output(stack: &mut Stack, timers: &[TimerState], number: u16)
     requires room { length stack.old < 32 }
@@ -241,7 +241,7 @@ fn load_output(stack: &mut Stack, timers: &[TimerState], number: u16)
     stack.push(i64::from(timer.output));
 }
 
-/// LOADET: pushes ET.
+// LOADET: pushes ET.
 #[inline(always)]
 fn load_elapsed(stack: &mut Stack, timers: &[TimerState], number: u16)
     requires room { length stack.old < 32 }

@@ -11,7 +11,7 @@ use il_image::instr::Instr;
 use il_image::opcode::Opcode;
 use il_image::value::Value;
 
-/// Reads a number of two octets.
+// Reads a number of two octets.
 #[inline(always)]
 fn number(code: &[u8], at: usize) -> u16
     requires { at + 2 ≤ length code.now }
@@ -20,7 +20,7 @@ fn number(code: &[u8], at: usize) -> u16
     u16::from_be_bytes([code[at], code[at + 1]])
 }
 
-/// Reads the number of a value of the type, in two's complement.
+// Reads the number of a value of the type, in two's complement.
 #[inline(always)]
 fn signed(elementary: ElementaryType, code: &[u8], at: usize) -> i64
     requires { at + octet_count (size_of elementary) ≤ length code.now }
@@ -55,7 +55,7 @@ fn signed(elementary: ElementaryType, code: &[u8], at: usize) -> i64
     }
 }
 
-/// Returns the number of octets of a value of the type.
+// Returns the number of octets of a value of the type.
 #[inline(always)]
 fn size(elementary: ElementaryType) -> usize
     ensures value { result ≡ octet_count (size_of elementary) }
@@ -69,7 +69,7 @@ fn size(elementary: ElementaryType) -> usize
     }
 }
 
-/// Reads the value of the type at a place.
+// Reads the value of the type at a place.
 #[inline(always)]
 fn value(elementary: ElementaryType, code: &[u8], at: usize) -> Value
     requires { IsOk (value_at (size_of elementary) elementary (drop at code.now)) }
@@ -82,7 +82,7 @@ fn value(elementary: ElementaryType, code: &[u8], at: usize) -> Value
     }
 }
 
-/// Reads the width at a place.
+// Reads the width at a place.
 #[inline(always)]
 fn width(code: &[u8], at: usize) -> Width
     requires { IsOk (width_at Two (drop at code.now)) }
@@ -96,7 +96,7 @@ fn width(code: &[u8], at: usize) -> Width
     }
 }
 
-/// Returns the instruction of an opcode whose operand is at a place, and the place after it.
+// Returns the instruction of an opcode whose operand is at a place, and the place after it.
 #[inline(always)]
 fn operand(opcode: Opcode, code: &[u8], at: usize) -> (Instr, usize)
     requires whole { IsOk (operand_from Two opcode (drop at code.now)) }

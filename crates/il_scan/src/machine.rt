@@ -55,8 +55,8 @@ pub struct Scan<'a> {
     pub outputs: &'a [Value],
 }
 
-/// The slots and timers of a machine, the places of its inputs and outputs, and room for the
-/// outputs.
+// The slots and timers of a machine, the places of its inputs and outputs, and room for the
+// outputs.
 #[derive(Drop)]
 struct Memory {
     slots: Vec<i64>,
@@ -65,7 +65,7 @@ struct Memory {
     outputs: Vec<Value>,
 }
 
-/// Creates the initial memory of a machine.
+// Creates the initial memory of a machine.
 fn memory_of(alloc: Global, image: &Image) -> Result<Memory, AllocError>
     ensures first { IfOk result
         (λ m. held_of image.now m.slots.items m.timers.items ≡ held_first image.now) }
@@ -86,7 +86,7 @@ fn memory_of(alloc: Global, image: &Image) -> Result<Memory, AllocError>
     })
 }
 
-/// Runs a scan over words: takes the inputs and runs the code.
+// Runs a scan over words: takes the inputs and runs the code.
 fn run_points<I: Inputs>(
     image: &Image,
     inputs: &I,
@@ -108,7 +108,7 @@ fn run_points<I: Inputs>(
     run(image, now, slots, timers)
 }
 
-/// Runs a scan over words with lists of inputs and outputs.
+// Runs a scan over words with lists of inputs and outputs.
 fn run_once(
     image: &Image,
     inputs: &[Value],

@@ -11,8 +11,8 @@ use crate::stack::Stack;
 use il_image::image::Image;
 use il_image::timer::TimerState;
 
-/// Executes the instruction at a place, and returns the place of the next one, or `None` if there
-/// is none.
+// Executes the instruction at a place, and returns the place of the next one, or `None` if there
+// is none.
 #[inline(always)]
 fn turn(
     _image: &Image,

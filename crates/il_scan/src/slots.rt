@@ -16,14 +16,14 @@ use il_image::timer::TimerState;
 use il_image::value::Value;
 use std::alloc::{AllocError, Global};
 
-/// Whether the value is one of the type.
+// Whether the value is one of the type.
 fn is_of(elementary: ElementaryType, value: Value) -> bool
     ensures { result ≡ places.is_of elementary value }
 {
     value.type_of() == elementary && Value::of(elementary, value.number()).is_some()
 }
 
-/// Whether there is a first input and it is of the type.
+// Whether there is a first input and it is of the type.
 fn begins_with(elementary: ElementaryType, inputs: &[Value]) -> bool
     ensures { result ≡ places.begins_with elementary inputs.now }
 {
@@ -33,7 +33,7 @@ fn begins_with(elementary: ElementaryType, inputs: &[Value]) -> bool
     }
 }
 
-/// Returns the inputs after the first.
+// Returns the inputs after the first.
 fn behind(inputs: &[Value]) -> &[Value]
     ensures { result.now ≡ drop 1 inputs.now }
 {
@@ -88,7 +88,7 @@ pub(crate) fn places_of(alloc: Global, points: &[ImagePoint]) -> Result<Places, 
     Ok(Places { reads, writes })
 }
 
-/// Puts an input into the slot at a place.
+// Puts an input into the slot at a place.
 #[inline(always)]
 fn take_input(slots: &mut [i64], place: usize, input: Value)
     requires { place < length slots.old }
@@ -110,7 +110,7 @@ pub(crate) fn read_inputs<I: Inputs>(reads: &[usize], inputs: &I, slots: &mut [i
     }
 }
 
-/// Returns the value of a type that a word stands for.
+// Returns the value of a type that a word stands for.
 #[inline(always)]
 fn value_of(elementary: ElementaryType, word: i64) -> Value
     requires { IsSome (values.value_of elementary word) }
@@ -132,7 +132,7 @@ pub(crate) fn output_value(points: &[ImagePoint], slots: &[i64], place: usize) -
     value_of(points[place].elementary, slots[place])
 }
 
-/// Whether a word of this type stands for TRUE.
+// Whether a word of this type stands for TRUE.
 #[inline(always)]
 fn is_true_word(elementary: ElementaryType, word: i64) -> bool
     ensures { result ≡ spec.is_true (Some (value_at elementary word)) }
@@ -170,7 +170,7 @@ pub(crate) fn give_outputs(
     }
 }
 
-/// Appends a 0 word for each point.
+// Appends a 0 word for each point.
 fn push_zeros(slots: &mut Vec<i64>, points: &[ImagePoint]) -> Result<(), AllocError>
     ensures ok { OnOk result (slots.new.items ≡ slots.old.items ++ map (λ _. pos 0) points.now) }
     ensures memory { IfErr result (λ e. 0 < length points.now) }
@@ -181,7 +181,7 @@ fn push_zeros(slots: &mut Vec<i64>, points: &[ImagePoint]) -> Result<(), AllocEr
     Ok(())
 }
 
-/// Appends the word of each variable's initial value.
+// Appends the word of each variable's initial value.
 fn push_numbers(slots: &mut Vec<i64>, variables: &[Value]) -> Result<(), AllocError>
     ensures ok { OnOk result (slots.new.items ≡ slots.old.items ++ words_of variables.now) }
     ensures memory { IfErr result (λ e. 0 < length variables.now) }

@@ -46,7 +46,7 @@ pub(crate) enum Line<'t, 'a> {
     Ending,
 }
 
-/// The tokens before and after a given token.
+// The tokens before and after a given token.
 #[derive(Clone, Copy)]
 struct Halves<'t, 'a> {
     front: &'t [Token<'a>],
@@ -63,7 +63,7 @@ pub(crate) fn name_of(token: Token<'_>) -> Option<&str>
     }
 }
 
-/// Returns the literal if the token is one.
+// Returns the literal if the token is one.
 fn literal_of(token: Token<'_>) -> Option<Literal>
     ensures { result ≡ spec.literal_of (symbol_of token.entry) }
 {
@@ -73,7 +73,7 @@ fn literal_of(token: Token<'_>) -> Option<Literal>
     }
 }
 
-/// Returns the type if the token is one.
+// Returns the type if the token is one.
 fn type_of(token: Token<'_>) -> Option<DeclaredType>
     ensures { result ≡ spec.type_of (symbol_of token.entry) }
 {
@@ -83,8 +83,8 @@ fn type_of(token: Token<'_>) -> Option<DeclaredType>
     }
 }
 
-/// Returns the elementary type if the token is one. A timer type gives `None`, since a timer has no
-/// initial value.
+// Returns the elementary type if the token is one. A timer type gives `None`, since a timer has no
+// initial value.
 fn elementary_of(token: Token<'_>) -> Option<DeclaredType>
     ensures { result ≡ spec.elementary_of (symbol_of token.entry) }
 {
@@ -94,7 +94,7 @@ fn elementary_of(token: Token<'_>) -> Option<DeclaredType>
     }
 }
 
-/// Whether a token is an operator.
+// Whether a token is an operator.
 fn is_mnemonic(token: Token<'_>) -> bool
     ensures { result ≡ spec.is_mnemonic (symbol_of token.entry) }
 {
@@ -108,7 +108,7 @@ pub(crate) fn is_mark(token: Token<'_>, mark: Mark) -> bool
     matches!(token, Token::Mark(found) if found == mark)
 }
 
-/// Reads exactly one name.
+// Reads exactly one name.
 #[tactic(auto, unfolding(crate::specs::Forms::only_name))]
 fn only_name<'a>(tokens: &[Token<'a>]) -> Option<&'a str>
     ensures { option_map (λ n. n.now) result ≡ spec.only_name (symbols_of tokens.now) }
@@ -119,7 +119,7 @@ fn only_name<'a>(tokens: &[Token<'a>]) -> Option<&'a str>
     }
 }
 
-/// Returns the timer output that a word names, case-insensitively.
+// Returns the timer output that a word names, case-insensitively.
 #[tactic(auto, unfolding(crate::specs::Forms::output_named))]
 fn output_named(word: &str) -> Option<Output>
     ensures { result ≡ spec.output_named word.now }
@@ -133,7 +133,7 @@ fn output_named(word: &str) -> Option<Output>
     None
 }
 
-/// Reads the output of a timer from the tokens of both names.
+// Reads the output of a timer from the tokens of both names.
 #[tactic(auto, unfolding(crate::specs::Forms::output_by))]
 fn output_by<'a>(timer: Token<'a>, output: Token<'a>) -> Option<SymbolicVariable<'a>>
     ensures { option_map place_of result
@@ -144,7 +144,7 @@ fn output_by<'a>(timer: Token<'a>, output: Token<'a>) -> Option<SymbolicVariable
     Some(SymbolicVariable::Output { timer, output })
 }
 
-/// Reads a name, or a name with `.Q` or `.ET`.
+// Reads a name, or a name with `.Q` or `.ET`.
 #[tactic(auto, unfolding(crate::specs::Forms::place))]
 fn place<'a>(tokens: &[Token<'a>]) -> Option<SymbolicVariable<'a>>
     ensures { option_map place_of result ≡ spec.place (symbols_of tokens.now) }
@@ -156,7 +156,7 @@ fn place<'a>(tokens: &[Token<'a>]) -> Option<SymbolicVariable<'a>>
     }
 }
 
-/// Reads exactly one literal.
+// Reads exactly one literal.
 #[tactic(auto, unfolding(crate::specs::Forms::only_literal))]
 fn only_literal(tokens: &[Token<'_>]) -> Option<Literal>
     ensures { result ≡ spec.only_literal (symbols_of tokens.now) }
@@ -167,7 +167,7 @@ fn only_literal(tokens: &[Token<'_>]) -> Option<Literal>
     }
 }
 
-/// Reads a literal, or whatever `place` reads.
+// Reads a literal, or whatever `place` reads.
 #[tactic(auto, unfolding(crate::specs::Forms::operand))]
 fn operand<'a>(tokens: &[Token<'a>]) -> Option<Operand<'a>>
     ensures { option_map source_of result ≡ spec.operand (symbols_of tokens.now) }
@@ -178,7 +178,7 @@ fn operand<'a>(tokens: &[Token<'a>]) -> Option<Operand<'a>>
     }
 }
 
-/// Returns the timer input that a word names, case-insensitively.
+// Returns the timer input that a word names, case-insensitively.
 #[tactic(auto, unfolding(crate::specs::Forms::input_named))]
 fn input_named(word: &str) -> Option<Input>
     ensures { result ≡ spec.input_named word.now }
@@ -192,7 +192,7 @@ fn input_named(word: &str) -> Option<Input>
     None
 }
 
-/// Reads one argument of a call: an input and its operand.
+// Reads one argument of a call: an input and its operand.
 #[tactic(auto, unfolding(crate::specs::Forms::argument))]
 fn argument<'a>(tokens: &[Token<'a>]) -> Option<Argument<'a>>
     ensures { option_map argument_of result ≡ spec.argument (symbols_of tokens.now) }
@@ -207,7 +207,7 @@ fn argument<'a>(tokens: &[Token<'a>]) -> Option<Argument<'a>>
     }
 }
 
-/// Returns two arguments, or `None` if both are for the same input.
+// Returns two arguments, or `None` if both are for the same input.
 fn both<'a>(first: Argument<'a>, second: Argument<'a>) -> Option<Arguments<'a>>
     ensures { option_map arguments_of result
         ≡ spec.both (argument_of first.entry) (argument_of second.entry) }
@@ -219,7 +219,7 @@ fn both<'a>(first: Argument<'a>, second: Argument<'a>) -> Option<Arguments<'a>>
     }
 }
 
-/// Counts the tokens before the first of this mark, or all tokens if there is none.
+// Counts the tokens before the first of this mark, or all tokens if there is none.
 fn mark_at(tokens: &[Token<'_>], mark: Mark) -> usize
     ensures place { result ≡ position_or_len (λ t. spec.is_mark mark (symbol_of t)) tokens.now }
     ensures within { result ≤ length tokens.now }
@@ -230,7 +230,7 @@ fn mark_at(tokens: &[Token<'_>], mark: Mark) -> usize
         .count()
 }
 
-/// Returns the tokens before and after the one at this index.
+// Returns the tokens before and after the one at this index.
 #[tactic(auto, using(crate::proofs::FormLemmas::parts_rules), unfolding(crate::specs::Forms::parts_at))]
 fn parts_at<'t, 'a>(tokens: &'t [Token<'a>], at: usize) -> Option<Halves<'t, 'a>>
     requires { at ≤ length tokens.now }
@@ -243,7 +243,7 @@ fn parts_at<'t, 'a>(tokens: &'t [Token<'a>], at: usize) -> Option<Halves<'t, 'a>
     }
 }
 
-/// Returns the tokens before and after the first one of this mark.
+// Returns the tokens before and after the first one of this mark.
 #[tactic(auto, using(crate::proofs::FormLemmas::place_of))]
 fn parted<'t, 'a>(tokens: &'t [Token<'a>], mark: Mark) -> Option<Halves<'t, 'a>>
     ensures { option_map halves_of result ≡ spec.split_at_mark mark (symbols_of tokens.now) }
@@ -251,7 +251,7 @@ fn parted<'t, 'a>(tokens: &'t [Token<'a>], mark: Mark) -> Option<Halves<'t, 'a>>
     parts_at(tokens, mark_at(tokens, mark))
 }
 
-/// Reads one argument or two.
+// Reads one argument or two.
 fn argument_list<'a>(tokens: &[Token<'a>]) -> Option<Arguments<'a>>
     ensures { option_map arguments_of result
         ≡ spec.argument_list (symbols_of tokens.now)
@@ -267,7 +267,7 @@ fn argument_list<'a>(tokens: &[Token<'a>]) -> Option<Arguments<'a>>
     }
 }
 
-/// Reads the arguments of a call: none, one or two.
+// Reads the arguments of a call: none, one or two.
 #[tactic(auto, unfolding(crate::specs::Forms::arguments))]
 fn arguments<'a>(tokens: &[Token<'a>]) -> Option<Arguments<'a>>
     ensures { option_map arguments_of result ≡ spec.arguments (symbols_of tokens.now) }
@@ -278,7 +278,7 @@ fn arguments<'a>(tokens: &[Token<'a>]) -> Option<Arguments<'a>>
     }
 }
 
-/// Reads the arguments of a call and the `)` after them.
+// Reads the arguments of a call and the `)` after them.
 #[tactic(auto, unfolding(crate::specs::Forms::closed_arguments))]
 fn closed_arguments<'a>(tokens: &[Token<'a>]) -> Option<Arguments<'a>>
     ensures { option_map arguments_of result ≡ spec.closed_arguments (symbols_of tokens.now) }
@@ -290,7 +290,7 @@ fn closed_arguments<'a>(tokens: &[Token<'a>]) -> Option<Arguments<'a>>
     }
 }
 
-/// Reads the call of a timer.
+// Reads the call of a timer.
 #[tactic(auto, unfolding(crate::specs::Forms::call_action))]
 fn called<'a>(tokens: &[Token<'a>]) -> Option<Instruction<'a>>
     ensures { option_map action_of result ≡ spec.call_action (symbols_of tokens.now) }
@@ -305,7 +305,7 @@ fn called<'a>(tokens: &[Token<'a>]) -> Option<Instruction<'a>>
     }
 }
 
-/// Returns the instruction if no token follows its operator.
+// Returns the instruction if no token follows its operator.
 fn alone<'a>(instruction: Instruction<'a>, tokens: &[Token<'a>]) -> Option<Statement<'a>>
     ensures { option_map statement_parts result
         ≡ spec.alone (action_of instruction.entry) (symbols_of tokens.now) }
@@ -317,7 +317,7 @@ fn alone<'a>(instruction: Instruction<'a>, tokens: &[Token<'a>]) -> Option<State
     }
 }
 
-/// Reads what follows the `(` of an operator: an operand or nothing.
+// Reads what follows the `(` of an operator: an operand or nothing.
 fn entered<'a>(operator: Operator, negated: bool, tokens: &[Token<'a>]) -> Option<Statement<'a>>
     ensures { option_map statement_parts result
         ≡ spec.parenthesis_parts operator negated (symbols_of tokens.now) }
@@ -333,7 +333,7 @@ fn entered<'a>(operator: Operator, negated: bool, tokens: &[Token<'a>]) -> Optio
     })
 }
 
-/// Reads what follows an operator that combines the current result with an operand.
+// Reads what follows an operator that combines the current result with an operand.
 fn combined<'a>(operator: Operator, negated: bool, tokens: &[Token<'a>]) -> Option<Statement<'a>>
     ensures { option_map statement_parts result
         ≡ spec.operator_parts operator negated (symbols_of tokens.now) }
@@ -352,7 +352,7 @@ fn combined<'a>(operator: Operator, negated: bool, tokens: &[Token<'a>]) -> Opti
     }
 }
 
-/// Reads the operand of `LD` or `LDN`.
+// Reads the operand of `LD` or `LDN`.
 fn load<'a>(negated: bool, tokens: &[Token<'a>]) -> Option<Instruction<'a>>
     ensures { option_map action_of result
         ≡ option_map (text.load negated) (spec.operand (symbols_of tokens.now)) }
@@ -361,7 +361,7 @@ fn load<'a>(negated: bool, tokens: &[Token<'a>]) -> Option<Instruction<'a>>
     Some(Instruction::Load { negated, operand })
 }
 
-/// Reads the variable that a store writes.
+// Reads the variable that a store writes.
 fn store<'a>(kind: StoreKind, tokens: &[Token<'a>]) -> Option<Instruction<'a>>
     ensures { option_map action_of result
         ≡ option_map (text.store kind) (spec.place (symbols_of tokens.now)) }
@@ -370,7 +370,7 @@ fn store<'a>(kind: StoreKind, tokens: &[Token<'a>]) -> Option<Instruction<'a>>
     Some(Instruction::Store { kind, target })
 }
 
-/// Reads the label of a jump.
+// Reads the label of a jump.
 fn jump<'a>(condition: Condition, tokens: &[Token<'a>]) -> Option<Instruction<'a>>
     ensures { option_map action_of result
         ≡ option_map (text.jump condition) (spec.only_name (symbols_of tokens.now)) }
@@ -379,7 +379,7 @@ fn jump<'a>(condition: Condition, tokens: &[Token<'a>]) -> Option<Instruction<'a
     Some(Instruction::Jump { condition, label })
 }
 
-/// Reads what belongs to an operator.
+// Reads what belongs to an operator.
 #[tactic(auto, unfolding(crate::specs::Forms::statement))]
 fn statement_of<'a>(mnemonic: Mnemonic, tokens: &[Token<'a>]) -> Option<Statement<'a>>
     ensures { option_map statement_parts result ≡ spec.statement mnemonic (symbols_of tokens.now) }
@@ -396,7 +396,7 @@ fn statement_of<'a>(mnemonic: Mnemonic, tokens: &[Token<'a>]) -> Option<Statemen
     }
 }
 
-/// Reads `type ;` or `type := literal ;`. A timer type takes no literal.
+// Reads `type ;` or `type := literal ;`. A timer type takes no literal.
 #[tactic(auto, unfolding(crate::specs::Forms::tail))]
 fn tail_of(tokens: &[Token<'_>]) -> Option<Tail>
     ensures { result ≡ spec.tail (symbols_of tokens.now) }
@@ -419,7 +419,7 @@ fn tail_of(tokens: &[Token<'_>]) -> Option<Tail>
     }
 }
 
-/// Reads a declaration. Its names are not checked yet.
+// Reads a declaration. Its names are not checked yet.
 #[tactic(auto, unfolding(crate::specs::Forms::declaration))]
 fn declaration<'t, 'a>(tokens: &'t [Token<'a>]) -> Option<Line<'t, 'a>>
     ensures { option_and_then line_parts result ≡ spec.declaration (symbols_of tokens.now) }
@@ -432,7 +432,7 @@ fn declaration<'t, 'a>(tokens: &'t [Token<'a>]) -> Option<Line<'t, 'a>>
     })
 }
 
-/// Whether these tokens may follow a label: nothing, or tokens that begin with an operator.
+// Whether these tokens may follow a label: nothing, or tokens that begin with an operator.
 #[tactic(auto, unfolding(crate::specs::Forms::may_follow_label))]
 fn may_follow_label(tokens: &[Token<'_>]) -> bool
     ensures { result ≡ spec.may_follow_label (symbols_of tokens.now) }
@@ -443,7 +443,7 @@ fn may_follow_label(tokens: &[Token<'_>]) -> bool
     }
 }
 
-/// Returns the tokens after the colon of a label.
+// Returns the tokens after the colon of a label.
 #[tactic(auto, unfolding(crate::specs::Forms::label_rest))]
 fn label_rest<'t, 'a>(tokens: &'t [Token<'a>]) -> Option<&'t [Token<'a>]>
     ensures { option_map (λ ts. symbols_of ts.now) result
@@ -455,7 +455,7 @@ fn label_rest<'t, 'a>(tokens: &'t [Token<'a>]) -> Option<&'t [Token<'a>]>
     }
 }
 
-/// Reads an operator, given as a token, and what belongs to it.
+// Reads an operator, given as a token, and what belongs to it.
 fn statement_by<'a>(first: Token<'a>, tokens: &[Token<'a>]) -> Option<Statement<'a>>
     ensures { option_map statement_parts result
         ≡ spec.statement_by (symbol_of first.entry) (symbols_of tokens.now) }
@@ -466,7 +466,7 @@ fn statement_by<'a>(first: Token<'a>, tokens: &[Token<'a>]) -> Option<Statement<
     }
 }
 
-/// Reads a label and the instruction that may follow it.
+// Reads a label and the instruction that may follow it.
 #[tactic(auto, unfolding(crate::specs::Forms::label_parts))]
 fn labelled<'t, 'a>(label: &'a str, tokens: &'t [Token<'a>]) -> Option<Line<'t, 'a>>
     ensures { option_and_then line_parts result
@@ -481,7 +481,7 @@ fn labelled<'t, 'a>(label: &'a str, tokens: &'t [Token<'a>]) -> Option<Line<'t, 
     }
 }
 
-/// Reads a line that begins with a keyword.
+// Reads a line that begins with a keyword.
 #[tactic(auto, unfolding(crate::specs::Forms::keyword_line))]
 fn keyword_line<'t, 'a>(word: Keyword, tokens: &'t [Token<'a>]) -> Option<Line<'t, 'a>>
     ensures { option_and_then line_parts result ≡ spec.keyword_line word (symbols_of tokens.now) }
@@ -496,7 +496,7 @@ fn keyword_line<'t, 'a>(word: Keyword, tokens: &'t [Token<'a>]) -> Option<Line<'
     if tokens.is_empty() { Some(line) } else { None }
 }
 
-/// Reads a line that begins with a name: a label or a declaration.
+// Reads a line that begins with a name: a label or a declaration.
 #[tactic(auto, unfolding(crate::specs::Forms::named_line))]
 fn named_line<'t, 'a>(
     name: &'a str,
@@ -512,7 +512,7 @@ fn named_line<'t, 'a>(
     }
 }
 
-/// Reads a line that begins with a mark: only `)` alone is one.
+// Reads a line that begins with a mark: only `)` alone is one.
 #[tactic(auto, unfolding(crate::specs::Forms::mark_parts))]
 fn marked<'t, 'a>(mark: Mark, tokens: &'t [Token<'a>]) -> Option<Line<'t, 'a>>
     ensures { option_and_then line_parts result ≡ spec.mark_parts mark (symbols_of tokens.now) }
@@ -523,7 +523,7 @@ fn marked<'t, 'a>(mark: Mark, tokens: &'t [Token<'a>]) -> Option<Line<'t, 'a>>
     }
 }
 
-/// Reads a line that begins with an operator.
+// Reads a line that begins with an operator.
 fn statement_line<'t, 'a>(mnemonic: Mnemonic, tokens: &'t [Token<'a>]) -> Option<Line<'t, 'a>>
     ensures { option_and_then line_parts result ≡ spec.statement mnemonic (symbols_of tokens.now) }
 {
@@ -548,14 +548,14 @@ pub(crate) fn line_of<'t, 'a>(tokens: &'t [Token<'a>]) -> Option<Line<'t, 'a>>
     }
 }
 
-/// Whether a line that begins with this token has no other token.
+// Whether a line that begins with this token has no other token.
 fn is_single(token: Token<'_>) -> bool
     ensures { result ≡ spec.is_single (symbol_of token.entry) }
 {
     matches!(token, Token::Type(_) | Token::Literal(_) | Token::Mark(_))
 }
 
-/// Whether the second token cannot follow the first, where the first begins a line.
+// Whether the second token cannot follow the first, where the first begins a line.
 fn is_misplaced(first: Token<'_>, second: Token<'_>) -> bool
     ensures { result ≡ spec.is_misplaced (symbol_of first.entry) (symbol_of second.entry) }
 {

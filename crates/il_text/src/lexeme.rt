@@ -20,10 +20,10 @@ pub(crate) enum Lexeme<'a> {
     BadLiteral,
 }
 
-/// The maximum length of a name, in characters.
+// The maximum length of a name, in characters.
 const MAX_NAME: usize = 64;
 
-/// Returns the lexeme of a word that was read as a literal, or of the fault found in it.
+// Returns the lexeme of a word that was read as a literal, or of the fault found in it.
 fn literal_lexeme<'a>(read: Result<Literal, LiteralFault>) -> Lexeme<'a>
     ensures { piece_of result ≡ spec.literal_piece read }
 {
@@ -34,7 +34,7 @@ fn literal_lexeme<'a>(read: Result<Literal, LiteralFault>) -> Lexeme<'a>
     }
 }
 
-/// Reads a word that begins with a letter or `_` and has no `#`.
+// Reads a word that begins with a letter or `_` and has no `#`.
 #[tactic(auto, unfolding(crate::specs::Symbols::plain_word))]
 fn plain_word(word: &str) -> Lexeme<'_>
     ensures { piece_of result ≡ spec.plain_word word.now }
@@ -49,7 +49,7 @@ fn plain_word(word: &str) -> Lexeme<'_>
     }
 }
 
-/// Reads a name, a reserved word or a literal.
+// Reads a name, a reserved word or a literal.
 #[tactic(auto, using(crate::proofs::LexemeLemmas::word_rules))]
 fn word_lexeme(word: &str) -> Lexeme<'_>
     ensures { piece_of result ≡ spec.word word.now }
@@ -64,7 +64,7 @@ fn word_lexeme(word: &str) -> Lexeme<'_>
     }
 }
 
-/// Returns the token of a mark, or of `&` or `&N`.
+// Returns the token of a mark, or of `&` or `&N`.
 #[tactic(auto, unfolding(crate::specs::Symbols::mark_of))]
 fn mark_of<'a>(piece: &[u8]) -> Option<Token<'a>>
     ensures { option_map symbol_of result ≡ spec.mark_of piece.now }
@@ -83,7 +83,7 @@ fn mark_of<'a>(piece: &[u8]) -> Option<Token<'a>>
     }
 }
 
-/// Whether a piece is LF or CR LF.
+// Whether a piece is LF or CR LF.
 fn is_line_end(piece: &[u8]) -> bool
     ensures { result ≡ spec.is_line_end piece.now }
 {

@@ -21,10 +21,10 @@ use crate::token::{Mark, Token};
 use std::alloc::Global;
 use std::mem;
 
-/// The maximum number of lines that hold an instruction or `)`.
+// The maximum number of lines that hold an instruction or `)`.
 const MAX_INSTRUCTIONS: usize = 4_000;
 
-/// The maximum number of open parentheses.
+// The maximum number of open parentheses.
 const MAX_OPEN: usize = 16;
 
 /// The place in the text that the lines so far have reached.
@@ -73,7 +73,7 @@ pub(crate) struct Position {
     pub(crate) last: usize,
 }
 
-/// Whether an instruction may stand in a parenthesis: any but a jump, a return or a call.
+// Whether an instruction may stand in a parenthesis: any but a jump, a return or a call.
 fn is_plain(instruction: Instruction<'_>) -> bool
     ensures { result ≡ grammar.is_plain (action_of instruction.entry) }
 {
@@ -87,28 +87,28 @@ fn is_plain(instruction: Instruction<'_>) -> bool
     }
 }
 
-/// Whether an instruction is LD or LDN, which a parenthesis begins with.
+// Whether an instruction is LD or LDN, which a parenthesis begins with.
 fn is_load(instruction: Instruction<'_>) -> bool
     ensures { result ≡ rules.is_load (action_of instruction.entry) }
 {
     matches!(instruction, Instruction::Load { .. })
 }
 
-/// Whether the PROGRAM line comes next.
+// Whether the PROGRAM line comes next.
 fn is_start(place: Stage) -> bool
     ensures { result ≡ rules.is_start place }
 {
     matches!(place, Stage::Start)
 }
 
-/// Whether a declaration block may begin here.
+// Whether a declaration block may begin here.
 fn is_between_blocks(place: Stage) -> bool
     ensures { result ≡ rules.is_between_blocks place }
 {
     matches!(place, Stage::Declarations)
 }
 
-/// Returns the scope of the open declaration block, or `None` if none is open.
+// Returns the scope of the open declaration block, or `None` if none is open.
 fn block_scope(place: Stage) -> Option<Scope>
     ensures { result ≡ rules.block_scope place }
 {
@@ -118,14 +118,14 @@ fn block_scope(place: Stage) -> Option<Scope>
     }
 }
 
-/// Whether a line of the body may stand here, be it the first or a later one.
+// Whether a line of the body may stand here, be it the first or a later one.
 fn is_body(place: Stage) -> bool
     ensures { result ≡ rules.is_body place }
 {
     matches!(place, Stage::Declarations | Stage::Body)
 }
 
-/// Whether a variable of the scope may have this initial value: an external has none.
+// Whether a variable of the scope may have this initial value: an external has none.
 fn may_begin_with(scope: Scope, initial: Option<Literal>) -> bool
     ensures { result ≡ rules.may_begin_with scope initial }
 {
@@ -135,7 +135,7 @@ fn may_begin_with(scope: Scope, initial: Option<Literal>) -> bool
     }
 }
 
-/// Whether a line counts towards the line limit: it holds an instruction or `)`.
+// Whether a line counts towards the line limit: it holds an instruction or `)`.
 fn has_instruction(line: Line<'_, '_>) -> bool
     ensures { (ps : List Part) → line_parts line.entry ≡ Some ps
         → result ≡ spec.has_instruction ps }
@@ -151,8 +151,8 @@ fn has_instruction(line: Line<'_, '_>) -> bool
     }
 }
 
-/// Returns the fault of a line past a limit. On the last line of the text this is a bad line,
-/// because the text also ends early there and that fault comes first.
+// Returns the fault of a line past a limit. On the last line of the text this is a bad line,
+// because the text also ends early there and that fault comes first.
 fn past_limit(position: Position, fault: TextFault) -> TextFault
     ensures { result ≡ spec.past_limit position.line position.last fault }
 {
@@ -208,7 +208,7 @@ impl<'a> Draft<'a> {
         Ok(())
     }
 
-    /// Counts a line that holds an instruction or `)`.
+    // Counts a line that holds an instruction or `)`.
     #[tactic(auto, using(crate::proofs::ListingLemmas::length_opened), unfolding(crate::specs::Reading::within_bounds))]
     fn count(&mut self, position: Position) -> Result<(), TextFault>
         ensures ok { OnOk result
@@ -230,7 +230,7 @@ impl<'a> Draft<'a> {
         Ok(())
     }
 
-    /// Takes the parts of a line, given by its form.
+    // Takes the parts of a line, given by its form.
     #[tactic(auto, using(crate::proofs::ListingLemmas::steps_rules))]
     fn take_form(&mut self, form: Line<'_, 'a>, line: usize) -> Result<(), TextFault>
         ensures ok { OnOk result
@@ -255,7 +255,7 @@ impl<'a> Draft<'a> {
         }
     }
 
-    /// Whether a line of the body may stand here, outside parentheses.
+    // Whether a line of the body may stand here, outside parentheses.
     #[tactic(auto, unfolding(crate::specs::Steps::may_stand))]
     fn may_stand(&self) -> bool
         ensures { result ≡ rules.may_stand (reached_of self.now) }
@@ -263,7 +263,7 @@ impl<'a> Draft<'a> {
         is_body(self.place) && is_outside(self.parentheses.as_slice())
     }
 
-    /// Whether an instruction may stand here.
+    // Whether an instruction may stand here.
     #[tactic(auto, unfolding(crate::specs::Steps::may_act))]
     fn may_act(&self, instruction: Instruction<'a>) -> bool
         ensures { result ≡ rules.may_act (reached_of self.now) (action_of instruction.entry) }
@@ -273,7 +273,7 @@ impl<'a> Draft<'a> {
         is_body(self.place) && (is_outside(self.parentheses.as_slice()) || inside)
     }
 
-    /// Whether a parenthesis may open here.
+    // Whether a parenthesis may open here.
     #[tactic(auto, unfolding(crate::specs::Steps::may_enter))]
     fn may_enter(&self) -> bool
         ensures { result ≡ rules.may_enter (reached_of self.now) }
@@ -282,7 +282,7 @@ impl<'a> Draft<'a> {
             && (is_outside(self.parentheses.as_slice()) || is_some(self.items.as_slice()))
     }
 
-    /// Whether the innermost parenthesis may close here.
+    // Whether the innermost parenthesis may close here.
     #[tactic(auto, unfolding(crate::specs::Steps::may_leave))]
     fn may_leave(&self) -> bool
         ensures { result ≡ rules.may_leave (reached_of self.now) }
@@ -290,7 +290,7 @@ impl<'a> Draft<'a> {
         is_body(self.place) && is_some(self.items.as_slice())
     }
 
-    /// Takes the PROGRAM line.
+    // Takes the PROGRAM line.
     #[tactic(auto, unfolding(crate::specs::Steps::step))]
     fn take_heading(&mut self, name: &'a str, line: usize) -> Result<(), TextFault>
         ensures ok { OnOk result
@@ -308,7 +308,7 @@ impl<'a> Draft<'a> {
         Ok(())
     }
 
-    /// Takes VAR or VAR_EXTERNAL.
+    // Takes VAR or VAR_EXTERNAL.
     #[tactic(auto, unfolding(crate::specs::Steps::step))]
     fn take_opening(&mut self, scope: Scope, line: usize) -> Result<(), TextFault>
         ensures ok { OnOk result
@@ -324,7 +324,7 @@ impl<'a> Draft<'a> {
         Ok(())
     }
 
-    /// Takes END_VAR.
+    // Takes END_VAR.
     #[tactic(auto, unfolding(crate::specs::Steps::step))]
     fn take_closing(&mut self, line: usize) -> Result<(), TextFault>
         ensures ok { OnOk result
@@ -340,7 +340,7 @@ impl<'a> Draft<'a> {
         Ok(())
     }
 
-    /// Takes a declaration, and checks its names.
+    // Takes a declaration, and checks its names.
     fn take_declaration(
         &mut self,
         names: &[Token<'a>],
@@ -367,7 +367,7 @@ impl<'a> Draft<'a> {
         Ok(())
     }
 
-    /// Takes a label.
+    // Takes a label.
     #[tactic(auto, unfolding(crate::specs::Steps::step))]
     fn take_label(&mut self, name: &'a str, line: usize) -> Result<(), TextFault>
         ensures ok { OnOk result
@@ -385,8 +385,8 @@ impl<'a> Draft<'a> {
         Ok(())
     }
 
-    /// Takes an instruction. The first one in a parenthesis is a load, and none in it leaves the
-    /// parenthesis.
+    // Takes an instruction. The first one in a parenthesis is a load, and none in it leaves the
+    // parenthesis.
     #[tactic(auto, unfolding(crate::specs::Steps::step))]
     fn take_acting(&mut self, instruction: Instruction<'a>, line: usize) -> Result<(), TextFault>
         ensures ok { OnOk result
@@ -406,7 +406,7 @@ impl<'a> Draft<'a> {
         Ok(())
     }
 
-    /// Takes an operator with `(`.
+    // Takes an operator with `(`.
     #[tactic(auto, unfolding(crate::specs::Steps::step))]
     fn take_entering(
         &mut self,
@@ -437,7 +437,7 @@ impl<'a> Draft<'a> {
         Ok(())
     }
 
-    /// Takes a `)`. The parenthesis must not be empty.
+    // Takes a `)`. The parenthesis must not be empty.
     #[tactic(auto, unfolding(crate::specs::Steps::step))]
     fn take_leaving(&mut self, line: usize) -> Result<(), TextFault>
         ensures ok { OnOk result
@@ -471,7 +471,7 @@ impl<'a> Draft<'a> {
         Ok(())
     }
 
-    /// Takes END_PROGRAM.
+    // Takes END_PROGRAM.
     #[tactic(auto, unfolding(crate::specs::Steps::step))]
     fn take_ending(&mut self, line: usize) -> Result<(), TextFault>
         ensures ok { OnOk result
@@ -487,7 +487,7 @@ impl<'a> Draft<'a> {
         Ok(())
     }
 
-    /// Takes an instruction, or an operator with `(` and its operand.
+    // Takes an instruction, or an operator with `(` and its operand.
     #[tactic(auto, using(crate::proofs::ListingLemmas::steps_rules))]
     fn take_statement(&mut self, statement: Statement<'a>, line: usize) -> Result<(), TextFault>
         ensures ok { OnOk result
@@ -514,7 +514,7 @@ impl<'a> Draft<'a> {
         }
     }
 
-    /// Takes an operator with `(` and the operand after it.
+    // Takes an operator with `(` and the operand after it.
     #[tactic(auto, using(crate::proofs::ListingLemmas::steps_rules))]
     fn take_loaded(
         &mut self,
@@ -541,7 +541,7 @@ impl<'a> Draft<'a> {
         Ok(())
     }
 
-    /// Takes a label and the instruction after it.
+    // Takes a label and the instruction after it.
     #[tactic(auto, using(crate::proofs::ListingLemmas::steps_rules))]
     fn take_labelled(
         &mut self,
@@ -564,7 +564,7 @@ impl<'a> Draft<'a> {
     }
 }
 
-/// Whether no parenthesis is open.
+// Whether no parenthesis is open.
 #[tactic(auto, using(crate::proofs::ListingLemmas::outside_rules))]
 fn is_outside(parentheses: &[Open<'_>]) -> bool
     ensures { result ≡ rules.is_outside (reverse (map opened_of parentheses.now)) }
@@ -572,7 +572,7 @@ fn is_outside(parentheses: &[Open<'_>]) -> bool
     parentheses.is_empty()
 }
 
-/// Whether there are any items.
+// Whether there are any items.
 #[tactic(auto, using(crate::proofs::ListingLemmas::some_rules))]
 fn is_some(items: &[Item<'_>]) -> bool
     ensures { result ≡ rules.is_some (map entry_of items.now) }
@@ -580,7 +580,7 @@ fn is_some(items: &[Item<'_>]) -> bool
     !items.is_empty()
 }
 
-/// What one line of declarations gives to each of its names.
+// What one line of declarations gives to each of its names.
 #[derive(Clone, Copy)]
 struct Declaring {
     line: usize,
@@ -588,7 +588,7 @@ struct Declaring {
     tail: Tail,
 }
 
-/// Declares the names of a list, `name {"," name}`.
+// Declares the names of a list, `name {"," name}`.
 fn declare<'a>(
     declarations: &mut Vec<Declaration<'a>>,
     names: &[Token<'a>],
@@ -615,7 +615,7 @@ fn declare<'a>(
     }
 }
 
-/// Takes one token of a list of names, and returns whether it was a name.
+// Takes one token of a list of names, and returns whether it was a name.
 #[tactic(auto, using(crate::proofs::ListingLemmas::declare_rules))]
 fn declare_token<'a>(
     declarations: &mut Vec<Declaration<'a>>,

@@ -22,10 +22,10 @@ pub enum LiteralFault {
     OutOfRange,
 }
 
-/// The cap on milliseconds: greater values count as this many, which no duration has.
+// The cap on milliseconds: greater values count as this many, which no duration has.
 const CAP: u64 = 0x1_0000_0000;
 
-/// Reads the number that digits spell, with single underscores allowed between them.
+// Reads the number that digits spell, with single underscores allowed between them.
 #[tactic(auto, using(crate::proofs::LiteralLemmas::number_rules))]
 fn number(digits: &[u8], radix: u32) -> Option<u64>
     requires low { 2 ≤ radix }
@@ -48,7 +48,7 @@ fn number(digits: &[u8], radix: u32) -> Option<u64>
     if wanted { None } else { Some(value) }
 }
 
-/// Reads the base before `#`: 2, 8 or 16.
+// Reads the base before `#`: 2, 8 or 16.
 #[tactic(auto, unfolding(crate::specs::Literals::base_of))]
 fn base_of(word: &str) -> Option<u32>
     ensures value { result ≡ spec.base_of word.now }
@@ -79,7 +79,7 @@ pub(crate) fn decimal(word: &[u8]) -> Option<(bool, u64)>
     }
 }
 
-/// Reads a number after its base. It has no sign.
+// Reads a number after its base. It has no sign.
 #[tactic(auto, unfolding(crate::specs::Literals::based_integer))]
 fn based(base: &str, digits: &str) -> Option<(bool, u64)>
     ensures { result ≡ capped_signed (spec.based_integer base.now digits.now) }
@@ -95,7 +95,7 @@ pub(crate) fn halves(word: &str) -> Option<(&str, &str)>
     word.split_once('#')
 }
 
-/// Reads a number with a sign or after a base: whether it is negative, and its magnitude.
+// Reads a number with a sign or after a base: whether it is negative, and its magnitude.
 #[tactic(auto, using(crate::proofs::LiteralLemmas::integer_some, crate::proofs::LiteralLemmas::integer_none))]
 fn integer(word: &str) -> Option<(bool, u64)>
     ensures { result ≡ capped_signed (spec.integer word.now) }
@@ -106,7 +106,7 @@ fn integer(word: &str) -> Option<(bool, u64)>
     }
 }
 
-/// Returns the value of a number, which must fit in 64 bits.
+// Returns the value of a number, which must fit in 64 bits.
 fn signed(number: Option<(bool, u64)>) -> Result<i64, LiteralFault>
     ensures { result ≡ spec.number_value number }
 {
@@ -129,7 +129,7 @@ pub(crate) fn untyped(number: Option<(bool, u64)>) -> Result<Literal, LiteralFau
     Ok(Literal::Number(signed(number)?))
 }
 
-/// Returns the BOOL of a number, which must be 0 or 1.
+// Returns the BOOL of a number, which must be 0 or 1.
 fn bool_literal(value: i64) -> Result<Literal, LiteralFault>
     ensures { result ≡ spec.bool_literal value }
 {
@@ -140,7 +140,7 @@ fn bool_literal(value: i64) -> Result<Literal, LiteralFault>
     }
 }
 
-/// Returns the INT of a number.
+// Returns the INT of a number.
 fn int_literal(value: i64) -> Result<Literal, LiteralFault>
     ensures { result ≡ spec.int_literal value }
 {
@@ -151,7 +151,7 @@ fn int_literal(value: i64) -> Result<Literal, LiteralFault>
     }
 }
 
-/// Returns the DINT of a number.
+// Returns the DINT of a number.
 fn dint_literal(value: i64) -> Result<Literal, LiteralFault>
     ensures { result ≡ spec.dint_literal value }
 {
@@ -162,7 +162,7 @@ fn dint_literal(value: i64) -> Result<Literal, LiteralFault>
     }
 }
 
-/// Returns the truth value that a word names, case-insensitively.
+// Returns the truth value that a word names, case-insensitively.
 fn truth_of(word: &str) -> Option<bool>
     ensures { result ≡ spec.truth_of word.now }
 {
@@ -175,7 +175,7 @@ fn truth_of(word: &str) -> Option<bool>
     None
 }
 
-/// Reads the number after a numeric type's `#`. A truth value is outside the type.
+// Reads the number after a numeric type's `#`. A truth value is outside the type.
 #[tactic(auto, using(crate::proofs::LiteralLemmas::signed_capped), unfolding(crate::specs::Literals::typed_number))]
 fn typed_number(word: &str) -> Result<i64, LiteralFault>
     ensures { result ≡ spec.typed_number word.now }
@@ -186,7 +186,7 @@ fn typed_number(word: &str) -> Result<i64, LiteralFault>
     }
 }
 
-/// Reads what follows `BOOL#`: TRUE, FALSE, 0 or 1.
+// Reads what follows `BOOL#`: TRUE, FALSE, 0 or 1.
 #[tactic(auto, using(crate::proofs::LiteralLemmas::signed_capped), unfolding(crate::specs::Literals::typed_bool))]
 fn typed_bool(word: &str) -> Result<Literal, LiteralFault>
     ensures { result ≡ spec.typed_bool word.now }
@@ -197,7 +197,7 @@ fn typed_bool(word: &str) -> Result<Literal, LiteralFault>
     bool_literal(signed(integer(word))?)
 }
 
-/// Reads what follows `INT#`.
+// Reads what follows `INT#`.
 #[tactic(auto, unfolding(crate::specs::Literals::typed_int))]
 fn typed_int(word: &str) -> Result<Literal, LiteralFault>
     ensures { result ≡ spec.typed_int word.now }
@@ -205,7 +205,7 @@ fn typed_int(word: &str) -> Result<Literal, LiteralFault>
     int_literal(typed_number(word)?)
 }
 
-/// Reads what follows `DINT#`.
+// Reads what follows `DINT#`.
 #[tactic(auto, unfolding(crate::specs::Literals::typed_dint))]
 fn typed_dint(word: &str) -> Result<Literal, LiteralFault>
     ensures { result ≡ spec.typed_dint word.now }
@@ -213,7 +213,7 @@ fn typed_dint(word: &str) -> Result<Literal, LiteralFault>
     dint_literal(typed_number(word)?)
 }
 
-/// Reads what follows `LINT#`.
+// Reads what follows `LINT#`.
 #[tactic(auto, unfolding(crate::specs::Literals::typed_lint))]
 fn typed_lint(word: &str) -> Result<Literal, LiteralFault>
     ensures { result ≡ spec.typed_lint word.now }
@@ -244,7 +244,7 @@ pub(crate) fn prefixed(before: &str, word: &str) -> Result<Literal, LiteralFault
     untyped(based(before, word))
 }
 
-/// The unread rest of a duration, its milliseconds so far, and whether a part has been read.
+// The unread rest of a duration, its milliseconds so far, and whether a part has been read.
 #[derive(Clone, Copy)]
 struct Duration<'a> {
     rest: &'a [u8],
@@ -252,7 +252,7 @@ struct Duration<'a> {
     begun: bool,
 }
 
-/// Counts the number characters at the front of the word: digits and `_`.
+// Counts the number characters at the front of the word: digits and `_`.
 fn number_len(word: &[u8]) -> usize
     ensures len { result ≡ spec.number_len word.now }
     ensures within { result ≤ length word.now }
@@ -262,7 +262,7 @@ fn number_len(word: &[u8]) -> usize
         .count()
 }
 
-/// Counts the letters at the front of the word.
+// Counts the letters at the front of the word.
 fn letter_len(word: &[u8]) -> usize
     ensures len { result ≡ prefix_len is_ascii_alphabetic word.now }
     ensures within { result ≤ length word.now }
@@ -270,7 +270,7 @@ fn letter_len(word: &[u8]) -> usize
     word.iter().take_while(|x| x.is_ascii_alphabetic()).count()
 }
 
-/// Reads the number of a part. After the first part, an `_` may precede it.
+// Reads the number of a part. After the first part, an `_` may precede it.
 fn part_number(digits: &[u8], begun: bool) -> Option<u64>
     ensures { result ≡ capped_number (spec.number_of_part begun digits.now) }
 {
@@ -280,7 +280,7 @@ fn part_number(digits: &[u8], begun: bool) -> Option<u64>
     }
 }
 
-/// Adds a number of units, of `factor` milliseconds each, to a total, up to the cap.
+// Adds a number of units, of `factor` milliseconds each, to a total, up to the cap.
 fn add_capped(total: u64, number: u64, factor: u64) -> u64
     requires { factor < 2 ^ 31 }
     ensures { result ≡ min (min total (2 ^ 32) + min number (2 ^ 32) * factor) (2 ^ 32) }
@@ -288,7 +288,7 @@ fn add_capped(total: u64, number: u64, factor: u64) -> u64
     (total.min(CAP) + number.min(CAP) * factor).min(CAP)
 }
 
-/// Takes the part in this unit, if it comes first.
+// Takes the part in this unit, if it comes first.
 #[tactic(auto, using(crate::proofs::DurationLemmas::part_rules))]
 fn part<'a>(duration: Option<Duration<'a>>, unit: &[u8], factor: u64) -> Option<Duration<'a>>
     requires some { 0 < factor }
@@ -312,8 +312,8 @@ fn part<'a>(duration: Option<Duration<'a>>, unit: &[u8], factor: u64) -> Option<
     })
 }
 
-/// Reads the parts of a duration in descending units. The first may exceed one of the next greater
-/// unit.
+// Reads the parts of a duration in descending units. The first may exceed one of the next greater
+// unit.
 fn parts(word: &[u8]) -> Option<Duration<'_>>
     ensures { capped_duration (spec.parts word.now) ≡ option_map duration_view result }
 {
@@ -329,7 +329,7 @@ fn parts(word: &[u8]) -> Option<Duration<'_>>
     part(seconds, b"ms", 1)
 }
 
-/// Returns the milliseconds of a duration: at least one part, and nothing after the parts.
+// Returns the milliseconds of a duration: at least one part, and nothing after the parts.
 fn milliseconds(word: &[u8]) -> Option<u64>
     ensures { result ≡ capped_time (spec.milliseconds word.now) }
 {
@@ -343,7 +343,7 @@ fn milliseconds(word: &[u8]) -> Option<u64>
     }
 }
 
-/// Reads what follows `T#` or `TIME#`.
+// Reads what follows `T#` or `TIME#`.
 #[tactic(auto, using(crate::proofs::DurationLemmas::time_capped), unfolding(crate::specs::Literals::typed_time))]
 fn typed_time(word: &[u8]) -> Result<Literal, LiteralFault>
     ensures { result ≡ spec.typed_time word.now }
@@ -351,7 +351,7 @@ fn typed_time(word: &[u8]) -> Result<Literal, LiteralFault>
     time_literal(milliseconds(word))
 }
 
-/// Returns the TIME of a number of milliseconds, at most 2,147,483,647.
+// Returns the TIME of a number of milliseconds, at most 2,147,483,647.
 fn time_literal(milliseconds: Option<u64>) -> Result<Literal, LiteralFault>
     ensures { result ≡ spec.time_literal milliseconds }
 {

@@ -35,7 +35,7 @@ pub(crate) fn closes(bytes: &[u8], at: usize) -> bool
     false
 }
 
-/// Returns the end of the longest run in which each character is linked to the one before it.
+// Returns the end of the longest run in which each character is linked to the one before it.
 #[tactic(auto, using(crate::proofs::PieceLemmas::run_rules))]
 fn run_end(bytes: &[u8], start: usize) -> usize
     requires { start < length bytes.now }
@@ -49,7 +49,7 @@ fn run_end(bytes: &[u8], start: usize) -> usize
     bytes.len()
 }
 
-/// Whether `&N` stands here and no letter, digit, `_` or `#` follows it.
+// Whether `&N` stands here and no letter, digit, `_` or `#` follows it.
 #[tactic(auto, unfolding(crate::specs::Runs::is_negated_and))]
 fn is_negated_and(bytes: &[u8], at: usize) -> bool
     requires { at < length bytes.now }

@@ -18,7 +18,7 @@ use crate::program::Program;
 use crate::token::Token;
 use std::alloc::Global;
 
-/// A text, how far it has been read, and what was read.
+// A text, how far it has been read, and what was read.
 #[derive(Drop)]
 struct Reader<'a> {
     text: &'a str,
@@ -51,7 +51,7 @@ pub fn read_program<'a>(alloc: Global, text: &'a str) -> Result<Program<'a>, Tex
     Ok(program)
 }
 
-/// Reads the lines of a text from the first to the last.
+// Reads the lines of a text from the first to the last.
 fn read_lines<'a>(alloc: Global, text: &'a str) -> Result<Program<'a>, TextFault>
     ensures ok { IfOk result (λ program. program_of text.now ≡ Ok (plain_program program)) }
     ensures refused { IfErr result
@@ -95,8 +95,8 @@ fn read_lines<'a>(alloc: Global, text: &'a str) -> Result<Program<'a>, TextFault
     })
 }
 
-/// Returns the number of the last line. What follows the last line end is a line only if it is not
-/// empty.
+// Returns the number of the last line. What follows the last line end is a line only if it is not
+// empty.
 #[tactic(auto, using(crate::proofs::PlaceLemmas::line_rules))]
 fn last_line_of(text: &str) -> usize
     ensures { result ≡ last_line text.now }
@@ -114,7 +114,7 @@ fn last_line_of(text: &str) -> usize
 impl<'a> Reader<'a> {
     ghost use Rattle.il_text.specs.ReaderViews.{left_of, ended_of, whole_of};
 
-    /// Reads one piece, or one character of a comment.
+    // Reads one piece, or one character of a comment.
     #[tactic(auto, using(crate::proofs::ReadLemmas::step_rules))]
     fn step(&mut self) -> Result<(), TextFault>
         requires { self.old.at < length self.old.text.now }
@@ -132,7 +132,7 @@ impl<'a> Reader<'a> {
         self.piece_step()
     }
 
-    /// Reads one piece outside comments.
+    // Reads one piece outside comments.
     #[tactic(auto, using(crate::proofs::ReadLemmas::piece_rules))]
     fn piece_step(&mut self) -> Result<(), TextFault>
         requires within { self.old.at < length self.old.text.now }
@@ -160,7 +160,7 @@ impl<'a> Reader<'a> {
         }
     }
 
-    /// Reads the opening of a comment, which must be closed.
+    // Reads the opening of a comment, which must be closed.
     #[tactic(auto, using(crate::proofs::ReadLemmas::opening_rules))]
     fn open_comment(&mut self) -> Result<(), TextFault>
         requires outside { self.old.in_comment ≡ false }
@@ -178,7 +178,7 @@ impl<'a> Reader<'a> {
         Ok(())
     }
 
-    /// Reads one character of a comment, or its closing.
+    // Reads one character of a comment, or its closing.
     #[tactic(auto, using(crate::proofs::ReadLemmas::comment_rules))]
     fn comment_step(&mut self) -> Result<(), TextFault>
         requires within { self.old.at < length self.old.text.now }
@@ -201,7 +201,7 @@ impl<'a> Reader<'a> {
         self.end_line()
     }
 
-    /// Takes the tokens of the line that ends here.
+    // Takes the tokens of the line that ends here.
     fn end_line(&mut self) -> Result<(), TextFault>
         requires { self.old.line ≤ self.old.at }
         ensures text { OnOk result (self.new.text.now ≡ self.old.text.now) }
@@ -219,7 +219,7 @@ impl<'a> Reader<'a> {
         Ok(())
     }
 
-    /// Takes the last line, after which the program must be complete.
+    // Takes the last line, after which the program must be complete.
     fn finish(&mut self) -> Result<(), TextFault>
         ensures ok { OnOk result
             (whole_of self.old ≡ Ok (program_made (reached_of self.new.listing))) }

@@ -16,7 +16,7 @@ pub(crate) fn combine(operator: Operator, negated: bool) -> Mnemonic
     Mnemonic::Combine { operator, negated }
 }
 
-/// Returns the token of a reserved word.
+// Returns the token of a reserved word.
 fn token_of<'a>(word: ReservedWord) -> Token<'a>
     ensures { symbol_of result ≡ spec.symbol_of_word word }
 {

@@ -6,8 +6,8 @@ use cases::octets::{check_octets, octets_of};
 use cases::told::check_text;
 use std::alloc::Global;
 
-/// Checks that a TSDU is received as a word says: `answer:TSDU`, `mms:PDU`, `released:TSDU`,
-/// `aborted` or `fault:NUMBER`.
+// Checks that a TSDU is received as a word says: `answer:TSDU`, `mms:PDU`, `released:TSDU`,
+// `aborted` or `fault:NUMBER`.
 fn check_heard(alloc: Global, assoc: &mut Assoc, tsdu: &[u8], word: &str) -> Result<()> {
     let (kind, what) = word.split_once(":").unwrap_or((word, "-"));
     match assoc.on_tsdu(tsdu) {

@@ -9,7 +9,7 @@ use bay_config::read::read_bay;
 use cases::told::check_lines;
 use std::alloc::{AllocError, Global};
 
-/// Appends the fields of a bay, without points and rows.
+// Appends the fields of a bay, without points and rows.
 fn put_fields(text: &mut String, bay: &Bay) -> Result<(), AllocError> {
     let (domain, vendor) = (bay.domain.as_str(), bay.vendor.as_str());
     let (model, revision) = (bay.model.as_str(), bay.revision.as_str());
@@ -25,7 +25,7 @@ fn put_fields(text: &mut String, bay: &Bay) -> Result<(), AllocError> {
     )
 }
 
-/// Appends the names of the logical nodes of the switch at an index.
+// Appends the names of the logical nodes of the switch at an index.
 fn put_switch(alloc: Global, text: &mut String, bay: &Bay, place: usize) -> Result<(), AllocError>
     requires { place < length bay.now.switches }
 {
@@ -37,8 +37,8 @@ fn put_switch(alloc: Global, text: &mut String, bay: &Bay, place: usize) -> Resu
     text.push_str("\n")
 }
 
-/// Appends the names of the logical nodes: a line with three for each switch, and a line with one
-/// for each meter.
+// Appends the names of the logical nodes: a line with three for each switch, and a line with one
+// for each meter.
 fn put_nodes(alloc: Global, text: &mut String, bay: &Bay) -> Result<(), AllocError> {
     for place in 0..bay.switches.as_slice().len() {
         put_switch(alloc, text, bay, place)?;
@@ -50,7 +50,7 @@ fn put_nodes(alloc: Global, text: &mut String, bay: &Bay) -> Result<(), AllocErr
     Ok(())
 }
 
-/// Appends the points: name, type, whether they are writable, and their sources.
+// Appends the points: name, type, whether they are writable, and their sources.
 fn put_points(text: &mut String, bay: &Bay) -> Result<(), AllocError> {
     for point in bay.points.as_slice() {
         let (name, kind) = (point.name.as_str(), point.kind);
@@ -63,7 +63,7 @@ fn put_points(text: &mut String, bay: &Bay) -> Result<(), AllocError> {
     Ok(())
 }
 
-/// Appends the rows: name and value.
+// Appends the rows: name and value.
 fn put_rows(text: &mut String, bay: &Bay) -> Result<(), AllocError> {
     for row in bay.rows.as_slice() {
         writeln!(text, "{} {:?}", row.name.as_str(), row.leaf)?;
@@ -71,7 +71,7 @@ fn put_rows(text: &mut String, bay: &Bay) -> Result<(), AllocError> {
     Ok(())
 }
 
-/// Checks what a section says of a bay.
+// Checks what a section says of a bay.
 fn check_read(alloc: Global, bay: &Bay, head: &str, wanted: &str) -> Result<()> {
     let mut text = String::new(alloc);
     match head {

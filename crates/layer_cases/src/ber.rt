@@ -14,10 +14,10 @@ use cases::told::{check, check_text};
 use cases::words::first_word;
 use std::alloc::Global;
 
-/// The maximum number of octets written.
+// The maximum number of octets written.
 const MOST: usize = 16_777_300;
 
-/// Reads a tag: `u`, `a`, `c` or `p` for its class, `+` if it is constructed, and its number.
+// Reads a tag: `u`, `a`, `c` or `p` for its class, `+` if it is constructed, and its number.
 fn tag_of(word: &str) -> Result<Tag> {
     let (class, rest) = word.split_at_checked(1).context("no tag")?;
     let class = match class {
@@ -34,19 +34,19 @@ fn tag_of(word: &str) -> Result<Tag> {
     })
 }
 
-/// Checks that a value is that of a word, `TAG:CONTENT`.
+// Checks that a value is that of a word, `TAG:CONTENT`.
 fn check_value(alloc: Global, tag: Tag, content: &[u8], word: &str) -> Result<()> {
     let (wanted, octets) = word.split_once(":").context("no content")?;
     check(tag == tag_of(wanted)?)?;
     check_octets(alloc, content, octets)
 }
 
-/// Checks that a fault is that of a word, `fault:NUMBER`.
+// Checks that a fault is that of a word, `fault:NUMBER`.
 fn check_fault(alloc: Global, fault: BerFault, word: &str) -> Result<()> {
     check_text(format!(in alloc; "fault:{}", fault.code())?.as_str(), word)
 }
 
-/// Checks the value at the front of octets and what follows it, or their fault.
+// Checks the value at the front of octets and what follows it, or their fault.
 fn check_front(alloc: Global, octets: &[u8], words: &str) -> Result<()> {
     let (value, behind) = first_word(words);
     match read_tlv(octets) {
@@ -58,7 +58,7 @@ fn check_front(alloc: Global, octets: &[u8], words: &str) -> Result<()> {
     }
 }
 
-/// Checks the next value in octets: a value, `end`, or a fault.
+// Checks the next value in octets: a value, `end`, or a fault.
 fn check_next(alloc: Global, values: &mut Values<'_>, word: &str) -> Result<()> {
     match values.next_value() {
         Ok(Some(value)) => check_value(alloc, value.tag, value.content, word),
@@ -67,7 +67,7 @@ fn check_next(alloc: Global, values: &mut Values<'_>, word: &str) -> Result<()> 
     }
 }
 
-/// Checks the values in octets, in turn.
+// Checks the values in octets, in turn.
 fn check_values(alloc: Global, octets: &[u8], words: &str) -> Result<()> {
     let mut values = Values::new(octets);
     for word in words.split(" ") {
@@ -76,7 +76,7 @@ fn check_values(alloc: Global, octets: &[u8], words: &str) -> Result<()> {
     Ok(())
 }
 
-/// Checks the one value that octets are, or `none`.
+// Checks the one value that octets are, or `none`.
 fn check_whole(alloc: Global, octets: &[u8], word: &str) -> Result<()> {
     match whole_value(octets) {
         Some(value) => check_value(alloc, value.tag, value.content, word),
@@ -84,7 +84,7 @@ fn check_whole(alloc: Global, octets: &[u8], word: &str) -> Result<()> {
     }
 }
 
-/// Returns the value of a content, as Rust's `{:?}` prints it: an integer, a truth value, or bits.
+// Returns the value of a content, as Rust's `{:?}` prints it: an integer, a truth value, or bits.
 fn content_text(alloc: Global, kind: &str, content: &[u8]) -> Result<String> {
     Ok(match kind {
         "int" => format!(in alloc; "{:?}", int_of(content).ok())?,
@@ -93,7 +93,7 @@ fn content_text(alloc: Global, kind: &str, content: &[u8]) -> Result<String> {
     })
 }
 
-/// Writes octets under a tag, within a value of another tag.
+// Writes octets under a tag, within a value of another tag.
 #[tactic(auto, using(bay_ber::proofs::SheetLemmas::sheet_rules))]
 fn put_nested(writer: &mut Writer, outer: Tag, inner: Tag, octets: &[u8])
     requires outer { outer.number < 31 }
@@ -104,7 +104,7 @@ fn put_nested(writer: &mut Writer, outer: Tag, inner: Tag, octets: &[u8])
     writer.close(start);
 }
 
-/// Reads a tag that is encoded in one octet.
+// Reads a tag that is encoded in one octet.
 fn low_tag_of(word: &str) -> Result<Tag>
     ensures { IfOk result (λ tag. tag.number < 31) }
 {
@@ -115,7 +115,7 @@ fn low_tag_of(word: &str) -> Result<Tag>
     Ok(tag)
 }
 
-/// Writes a value of a kind under a tag.
+// Writes a value of a kind under a tag.
 fn put(alloc: Global, writer: &mut Writer, kind: &str, tag: Tag, what: &str) -> Result<()>
     requires { tag.number < 31 }
 {
@@ -134,7 +134,7 @@ fn put(alloc: Global, writer: &mut Writer, kind: &str, tag: Tag, what: &str) -> 
     Ok(())
 }
 
-/// Writes what the words say, `KIND:TAG:WHAT`, and returns it if it is within the limit.
+// Writes what the words say, `KIND:TAG:WHAT`, and returns it if it is within the limit.
 fn built(alloc: Global, limit: u32, words: &str) -> Result<Option<Outgoing>> {
     let mut writer = Writer::new(alloc, limit)?;
     for word in words.split(" ") {
@@ -145,8 +145,8 @@ fn built(alloc: Global, limit: u32, words: &str) -> Result<Option<Outgoing>> {
     Ok(writer.finish())
 }
 
-/// Checks that the words, in order, write the octets if the limit is their number, and do not if
-/// the limit is one less.
+// Checks that the words, in order, write the octets if the limit is their number, and do not if
+// the limit is one less.
 fn check_built(alloc: Global, word: &str, words: &str) -> Result<()> {
     let size = octets_of(alloc, word)?.len();
     if size == 0 || size > MOST {

@@ -22,7 +22,7 @@ use cases::told::check_text;
 use cases::words::{first_word, words_of};
 use std::alloc::{AllocError, Global};
 
-/// Whether a word is the first of two. It must be one of them.
+// Whether a word is the first of two. It must be one of them.
 fn is_first(word: &str, first: &str, second: &str) -> Result<bool> {
     if word != first && word != second {
         bail!("neither {first} nor {second}: {word}");
@@ -30,7 +30,7 @@ fn is_first(word: &str, first: &str, second: &str) -> Result<bool> {
     Ok(word == first)
 }
 
-/// Reads who asks, as `CATEGORY/IDENTITY`.
+// Reads who asks, as `CATEGORY/IDENTITY`.
 fn origin_of(alloc: Global, word: &str) -> Result<Origin> {
     let (category, identity) = word.split_once("/").context("no identity")?;
     let octets = octets_of(alloc, identity)?;
@@ -43,7 +43,7 @@ fn origin_of(alloc: Global, word: &str) -> Result<Origin> {
     })
 }
 
-/// Reads what is asked for.
+// Reads what is asked for.
 fn ask_of(alloc: Global, word: &str) -> Result<Ask> {
     let (position, rest) = word.split_once(",").context("no originator")?;
     let (origin, test) = rest.split_once(",").unwrap_or((rest, "live"));
@@ -54,7 +54,7 @@ fn ask_of(alloc: Global, word: &str) -> Result<Ask> {
     })
 }
 
-/// Reads what is seen of a switch.
+// Reads what is seen of a switch.
 fn view_of(position: &str, age: &str, released: &str) -> Result<View> {
     let (opens, closes) = released.split_at_checked(1).context("no released ways")?;
     Ok(View {
@@ -65,7 +65,7 @@ fn view_of(position: &str, age: &str, released: &str) -> Result<View> {
     })
 }
 
-/// Returns the index of a switch, or `none`.
+// Returns the index of a switch, or `none`.
 fn place_text(alloc: Global, place: Option<usize>) -> Result<String, AllocError> {
     match place {
         Some(place) => format!(in alloc; "{place}"),
@@ -73,7 +73,7 @@ fn place_text(alloc: Global, place: Option<usize>) -> Result<String, AllocError>
     }
 }
 
-/// Returns `ok`, or the number of a refusal's cause.
+// Returns `ok`, or the number of a refusal's cause.
 fn answer_text(alloc: Global, answer: Result<(), AddCause>) -> Result<String, AllocError> {
     match answer {
         Ok(()) => String::from_str(alloc, "ok"),
@@ -81,7 +81,7 @@ fn answer_text(alloc: Global, answer: Result<(), AddCause>) -> Result<String, Al
     }
 }
 
-/// Appends the bay file's entry for a switch with this control.
+// Appends the bay file's entry for a switch with this control.
 fn put_switch(text: &mut String, number: usize, control: &str) -> Result<(), AllocError> {
     let (control, times) = control.split_once("/").unwrap_or((control, ""));
     write!(
@@ -96,7 +96,7 @@ fn put_switch(text: &mut String, number: usize, control: &str) -> Result<(), All
     text.push_str(" },\n")
 }
 
-/// Returns a bay file with these controls.
+// Returns a bay file with these controls.
 fn bay_text(alloc: Global, controls: &str) -> Result<String, AllocError> {
     let mut text = String::from_str(
         alloc,
@@ -109,7 +109,7 @@ fn bay_text(alloc: Global, controls: &str) -> Result<String, AllocError> {
     Ok(text)
 }
 
-/// Returns what the file of a bay says of these controls.
+// Returns what the file of a bay says of these controls.
 fn table_of(alloc: Global, controls: &str) -> Result<ControlTable> {
     let text = bay_text(alloc, controls)?;
     let bay = read_bay(alloc, text.as_str())?;
@@ -134,7 +134,7 @@ impl ControlSession {
         })
     }
 
-    /// Makes a request of an association for a switch at a time.
+    // Makes a request of an association for a switch at a time.
     fn request(&mut self, now: u64, words: &[&str]) -> Result<Result<(), AddCause>> {
         let [what, association, switch, rest @ ..] = words else {
             bail!("no request");
@@ -160,7 +160,7 @@ impl ControlSession {
         })
     }
 
-    /// Answers what is asked at a time.
+    // Answers what is asked at a time.
     fn timed(&mut self, moment: &str, words: &[&str]) -> Result<String> {
         let now = moment.parse::<u64>().context("no moment")?;
         if let ["advance"] = words {
@@ -170,14 +170,14 @@ impl ControlSession {
         Ok(answer_text(self.alloc, answer)?)
     }
 
-    /// Answers `contact`: the switch and its position.
+    // Answers `contact`: the switch and its position.
     fn contact(&mut self, switch: &str, position: &str) -> Result<String> {
         let switch = switch.parse::<usize>()?;
         let ends = self.controls.contact(switch, position_of(position)?);
         Ok(format!(in self.alloc; "{ends}")?)
     }
 
-    /// Answers a question.
+    // Answers a question.
     fn answer(&mut self, words: &[&str]) -> Result<String> {
         match words {
             ["selected"] => return Ok(place_text(self.alloc, self.controls.selected())?),

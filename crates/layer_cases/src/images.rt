@@ -57,8 +57,8 @@ pub fn check_verdict(alloc: Global, points: &[Point], image: Image, wanted: &str
     check_text(found.as_str(), wanted)
 }
 
-/// Appends a description of an image: the points, each with its name, its type, and whether it is
-/// writable, the variables, the timers, and the number of octets of code.
+// Appends a description of an image: the points, each with its name, its type, and whether it is
+// writable, the variables, the timers, and the number of octets of code.
 fn put_image(text: &mut String, image: &Image) -> Result<(), AllocError> {
     for point in image.points() {
         let (name, kind, writable) = (point.name.as_str(), point.elementary, point.writable);
@@ -73,8 +73,8 @@ fn put_image(text: &mut String, image: &Image) -> Result<(), AllocError> {
     )
 }
 
-/// Checks that octets decode to an image that is encoded as these octets and has this description,
-/// or are refused with a number.
+// Checks that octets decode to an image that is encoded as these octets and has this description,
+// or are refused with a number.
 fn check_decoded(alloc: Global, octets: &[u8], wanted: &str) -> Result<()> {
     let mut text = String::new(alloc);
     let (written, words) = first_word(wanted);
@@ -91,8 +91,8 @@ fn check_decoded(alloc: Global, octets: &[u8], wanted: &str) -> Result<()> {
     }
 }
 
-/// Returns the index in the counts of what octets are: an image, whose scan must end within its
-/// budget if it is verified, or a fault.
+// Returns the index in the counts of what octets are: an image, whose scan must end within its
+// budget if it is verified, or a fault.
 fn place_of(alloc: Global, points: &[Point], octets: &[u8]) -> Result<usize> {
     match decode(alloc, octets) {
         Ok(image) => {
@@ -109,7 +109,7 @@ fn place_of(alloc: Global, points: &[Point], octets: &[u8]) -> Result<usize> {
     }
 }
 
-/// Counts what octets are with the one at an index changed to each other value.
+// Counts what octets are with the one at an index changed to each other value.
 fn count_at(
     alloc: Global,
     points: &[Point],
@@ -133,9 +133,9 @@ fn count_at(
     Ok(())
 }
 
-/// Checks how many variants of the octets, with one octet changed to each other value, are an
-/// image, and how many have each fault, by number. The scan of each verified one must end within
-/// its budget.
+// Checks how many variants of the octets, with one octet changed to each other value, are an
+// image, and how many have each fault, by number. The scan of each verified one must end within
+// its budget.
 fn check_changed(alloc: Global, points: &[Point], octets: &mut [u8], wanted: &str) -> Result<()> {
     let mut counts = [0u32; 5];
     for at in 0..octets.len() {

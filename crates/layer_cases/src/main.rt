@@ -87,7 +87,7 @@ use std::io::Read;
 use stream::check_transport;
 use texts::check_program_text;
 
-/// Runs the case of a line in a section whose lines do not depend on each other.
+// Runs the case of a line in a section whose lines do not depend on each other.
 fn check_line(alloc: Global, head: &str, line: &str) -> Result<()> {
     match head {
         "ber" => check_ber(alloc, line),
@@ -104,7 +104,7 @@ fn check_line(alloc: Global, head: &str, line: &str) -> Result<()> {
     }
 }
 
-/// Runs the cases of the lines of such a section.
+// Runs the cases of the lines of such a section.
 fn tell_lines(alloc: Global, told: &mut Told, head: &str, body: &str) -> Result<()> {
     for line in body.lines() {
         if is_case(line) {
@@ -114,7 +114,7 @@ fn tell_lines(alloc: Global, told: &mut Told, head: &str, body: &str) -> Result<
     Ok(())
 }
 
-/// Runs the lines of a tree's rows.
+// Runs the lines of a tree's rows.
 fn tell_tree(alloc: Global, told: &mut Told, body: &str) -> Result<()> {
     let mut rows = Rows::new(alloc);
     for line in body.lines() {
@@ -125,7 +125,7 @@ fn tell_tree(alloc: Global, told: &mut Told, body: &str) -> Result<()> {
     Ok(())
 }
 
-/// Runs the lines of what controls are asked.
+// Runs the lines of what controls are asked.
 fn tell_controls(alloc: Global, told: &mut Told, body: &str) -> Result<()> {
     let mut session = controls::ControlSession::new(alloc)?;
     for line in body.lines() {
@@ -136,7 +136,7 @@ fn tell_controls(alloc: Global, told: &mut Told, body: &str) -> Result<()> {
     Ok(())
 }
 
-/// Runs the lines of faults' messages.
+// Runs the lines of faults' messages.
 fn tell_messages(alloc: Global, told: &mut Told, body: &str) -> Result<()> {
     let messages = messages(alloc)?;
     for line in body.lines() {
@@ -145,7 +145,7 @@ fn tell_messages(alloc: Global, told: &mut Told, body: &str) -> Result<()> {
     Ok(())
 }
 
-/// Runs the cases of a section, with the last bay file.
+// Runs the cases of a section, with the last bay file.
 fn tell_section(alloc: Global, told: &mut Told, bay: &str, head: &str, body: &str) -> Result<()> {
     match head {
         "tree" => tell_tree(alloc, told, body),
@@ -160,13 +160,13 @@ fn tell_section(alloc: Global, told: &mut Told, bay: &str, head: &str, body: &st
     }
 }
 
-/// The bay file of the last section that has one.
+// The bay file of the last section that has one.
 #[derive(Drop)]
 struct Before<'a> {
     bay: &'a str,
 }
 
-/// Runs the cases of all sections, and returns what is reported of them.
+// Runs the cases of all sections, and returns what is reported of them.
 fn run(alloc: Global, text: &str) -> Result<String> {
     let mut before = Before { bay: "" };
     let mut told = Told::new(alloc);

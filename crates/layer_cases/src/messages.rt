@@ -11,7 +11,7 @@ use il_check::fault::CheckFault;
 use il_image::fault::ImageFault;
 use std::alloc::Global;
 
-/// Appends the messages of the protocol's faults.
+// Appends the messages of the protocol's faults.
 fn put_protocol(text: &mut String) -> Result<()> {
     for fault in [
         BerFault::Truncated,
@@ -45,7 +45,7 @@ fn put_protocol(text: &mut String) -> Result<()> {
     Ok(())
 }
 
-/// Appends the messages of the faults of the bay and its tree.
+// Appends the messages of the faults of the bay and its tree.
 fn put_bay(text: &mut String) -> Result<()> {
     for fault in [
         BayFault::BadToml,
@@ -67,7 +67,7 @@ fn put_bay(text: &mut String) -> Result<()> {
     Ok(())
 }
 
-/// Appends the messages of the language's faults.
+// Appends the messages of the language's faults.
 fn put_language(text: &mut String) -> Result<()> {
     for fault in [
         CheckFault::UnknownName { line: 1 },
@@ -89,7 +89,7 @@ fn put_language(text: &mut String) -> Result<()> {
     Ok(())
 }
 
-/// Appends the causes with which controls are refused.
+// Appends the causes with which controls are refused.
 fn put_causes(text: &mut String) -> Result<()> {
     for cause in [
         AddCause::NotSupported,

@@ -11,7 +11,7 @@ use cases::told::{check, check_text};
 use cases::words::{truth_of, words_of};
 use std::alloc::{AllocError, Global};
 
-/// Returns the row of a word.
+// Returns the row of a word.
 fn row_of(alloc: Global, word: &str) -> Result<Row, AllocError> {
     let leaf = match word.ends_with("$") {
         true => None,
@@ -21,7 +21,7 @@ fn row_of(alloc: Global, word: &str) -> Result<Row, AllocError> {
     Ok(Row { name, leaf })
 }
 
-/// Returns the rows of words.
+// Returns the rows of words.
 fn rows_of(alloc: Global, words: &[&str]) -> Result<Vec<Row>, AllocError> {
     let mut rows = Vec::new(alloc);
     for word in words {
@@ -30,13 +30,13 @@ fn rows_of(alloc: Global, words: &[&str]) -> Result<Vec<Row>, AllocError> {
     Ok(rows)
 }
 
-/// Returns the name in the word at an index.
+// Returns the name in the word at an index.
 fn name_at<'a>(words: &[&'a str], place: usize) -> Option<&'a str> {
     Some(words.get(place)?.trim_end_matches("$"))
 }
 
-/// Checks that a page of a tree's names, which begins at an index, is as the words say. Returns
-/// where the next page begins.
+// Checks that a page of a tree's names, which begins at an index, is as the words say. Returns
+// where the next page begins.
 fn check_page(page: &Names, words: &[&str], start: usize, count: usize) -> Result<usize> {
     let mut at = start;
     for name in page.names.as_slice() {
@@ -49,8 +49,8 @@ fn check_page(page: &Names, words: &[&str], start: usize, count: usize) -> Resul
     Ok(at)
 }
 
-/// Checks the names of a tree in pages of `count`, and where each page begins after a name given as
-/// octets.
+// Checks the names of a tree in pages of `count`, and where each page begins after a name given as
+// octets.
 fn check_pages(alloc: Global, tree: &Tree, words: &[&str], count: usize) -> Result<()> {
     let mut at = 0usize;
     for _ in 0..=words.len() {
@@ -63,7 +63,7 @@ fn check_pages(alloc: Global, tree: &Tree, words: &[&str], count: usize) -> Resu
     check(at == words.len())
 }
 
-/// Checks that each name is found as octets, and that octets that are not text name nothing.
+// Checks that each name is found as octets, and that octets that are not text name nothing.
 fn check_found(alloc: Global, tree: &Tree, words: &[&str]) -> Result<()> {
     for at in 0..words.len() {
         let name = name_at(words, at).unwrap_or("");
@@ -74,7 +74,7 @@ fn check_found(alloc: Global, tree: &Tree, words: &[&str]) -> Result<()> {
     check(tree.place_after(Some(no_text)).is_err())
 }
 
-/// Checks that a tree has the names of these words, and lists them in pages of several sizes.
+// Checks that a tree has the names of these words, and lists them in pages of several sizes.
 fn check_tree(alloc: Global, tree: &Tree, words: &[&str]) -> Result<()> {
     check_found(alloc, tree, words)?;
     for count in [1usize, 53, 54, 100, 154, 200] {

@@ -17,7 +17,7 @@ use il_text::read::read_program;
 use il_verify::verify::Verified;
 use std::alloc::{AllocError, Global};
 
-/// Appends the lines of a text.
+// Appends the lines of a text.
 fn push_lines(text: &mut String, lines: &str) -> Result<()> {
     for part in lines.split(" / ") {
         let (times, line) = part.split_once(" * ").unwrap_or(("1", part));
@@ -28,7 +28,7 @@ fn push_lines(text: &mut String, lines: &str) -> Result<()> {
     Ok(())
 }
 
-/// Returns how many words give the expectation of a case of this kind.
+// Returns how many words give the expectation of a case of this kind.
 fn words_of(kind: &str) -> usize {
     match kind {
         "check" => 2,
@@ -37,7 +37,7 @@ fn words_of(kind: &str) -> usize {
     }
 }
 
-/// Returns the program of declarations and lines.
+// Returns the program of declarations and lines.
 fn program_of(alloc: Global, declared: &str, lines: &str) -> Result<String> {
     let mut text = String::from_str(alloc, "PROGRAM P\n")?;
     push_lines(&mut text, declared)?;
@@ -46,8 +46,8 @@ fn program_of(alloc: Global, declared: &str, lines: &str) -> Result<String> {
     Ok(text)
 }
 
-/// Checks the number and the line of the fault that the checks find in a program; 0 and 0 if there
-/// is none.
+// Checks the number and the line of the fault that the checks find in a program; 0 and 0 if there
+// is none.
 fn check_fault(alloc: Global, points: &[Point], program: &Program<'_>, wanted: &str) -> Result<()> {
     let (code, line) = match check(alloc, program, points) {
         Ok(_) => (0, 0),
@@ -56,7 +56,7 @@ fn check_fault(alloc: Global, points: &[Point], program: &Program<'_>, wanted: &
     check_text(format!(in alloc; "{code} {line}")?.as_str(), wanted)
 }
 
-/// Returns the image of a program, or the number of the fault for which it is not compiled.
+// Returns the image of a program, or the number of the fault for which it is not compiled.
 fn compiled(alloc: Global, points: &[Point], program: &Program<'_>) -> Result<Result<Image, u8>> {
     let typed = check(alloc, program, points)?;
     match compile(alloc, &typed) {
@@ -65,7 +65,7 @@ fn compiled(alloc: Global, points: &[Point], program: &Program<'_>) -> Result<Re
     }
 }
 
-/// Counts the instructions of code.
+// Counts the instructions of code.
 fn instructions(code: &[u8]) -> u32 {
     let mut count = 0u32;
     let mut place = 0;
@@ -78,13 +78,13 @@ fn instructions(code: &[u8]) -> u32 {
     count
 }
 
-/// Returns the report of a verified program.
+// Returns the report of a verified program.
 fn report_text(alloc: Global, verified: &Verified) -> Result<String, AllocError> {
     let count = instructions(verified.image().code());
     format!(in alloc; "{count} {} {}", verified.depth(), verified.budget())
 }
 
-/// Checks the octets of an image, or their number.
+// Checks the octets of an image, or their number.
 fn check_image(alloc: Global, kind: &str, image: &Image, wanted: &str) -> Result<()> {
     let octets = encode(alloc, image)?;
     match kind {
@@ -93,14 +93,14 @@ fn check_image(alloc: Global, kind: &str, image: &Image, wanted: &str) -> Result
     }
 }
 
-/// Checks an image's report, and returns its machine.
+// Checks an image's report, and returns its machine.
 fn reported(alloc: Global, points: &[Point], image: Image, wanted: &str) -> Result<Machine> {
     let verified = verified_of(alloc, points, image)?;
     check_text(report_text(alloc, &verified)?.as_str(), wanted)?;
     machine_of(alloc, verified)
 }
 
-/// Runs a case of a compiled program, and returns its machine if the case is a report.
+// Runs a case of a compiled program, and returns its machine if the case is a report.
 fn check_compiled(
     alloc: Global,
     points: &[Point],

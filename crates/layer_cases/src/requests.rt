@@ -9,7 +9,7 @@ use cases::told::{check, check_text};
 use cases::words::first_word;
 use std::alloc::Global;
 
-/// Appends a description of a requested service.
+// Appends a description of a requested service.
 fn put_call(text: &mut String, call: &Call<'_>) -> Result<()> {
     match call {
         Call::Identify => text.push_str("identify")?,
@@ -25,7 +25,7 @@ fn put_call(text: &mut String, call: &Call<'_>) -> Result<()> {
     Ok(())
 }
 
-/// Appends a description of a request.
+// Appends a description of a request.
 fn put_request(text: &mut String, request: &Request<'_>) -> Result<()> {
     match request {
         Request::Initiate(proposal) => write!(text, "{proposal:?}")?,
@@ -38,7 +38,7 @@ fn put_request(text: &mut String, request: &Request<'_>) -> Result<()> {
     Ok(())
 }
 
-/// Appends a fault's number, and its invoke id, or `-` if it has none.
+// Appends a fault's number, and its invoke id, or `-` if it has none.
 fn put_fault(text: &mut String, fault: MmsFault) -> Result<()> {
     let number = fault.code().unwrap_or(0);
     match fault {
@@ -50,7 +50,7 @@ fn put_fault(text: &mut String, fault: MmsFault) -> Result<()> {
     Ok(())
 }
 
-/// Checks that octets are the request that words describe, or have the fault that they say.
+// Checks that octets are the request that words describe, or have the fault that they say.
 fn check_asked(alloc: Global, octets: &[u8], wanted: &str) -> Result<()> {
     let mut text = String::new(alloc);
     match read_request(alloc, octets) {
@@ -60,8 +60,8 @@ fn check_asked(alloc: Global, octets: &[u8], wanted: &str) -> Result<()> {
     check_text(text.as_str(), wanted)
 }
 
-/// Checks that octets are this request, that with one octet less they are a bad PDU without an
-/// invoke id, and that they are an initiate exactly if the words say so.
+// Checks that octets are this request, that with one octet less they are a bad PDU without an
+// invoke id, and that they are an initiate exactly if the words say so.
 fn check_whole(alloc: Global, octets: &[u8], wanted: &str) -> Result<()> {
     check(read_initiate(octets).is_some() == wanted.starts_with("Proposal"))?;
     check_asked(alloc, octets, wanted)?;
@@ -71,8 +71,8 @@ fn check_whole(alloc: Global, octets: &[u8], wanted: &str) -> Result<()> {
     }
 }
 
-/// Checks that octets are this request, and that with one octet more they are a bad PDU with this
-/// invoke id.
+// Checks that octets are this request, and that with one octet more they are a bad PDU with this
+// invoke id.
 fn check_request(alloc: Global, octets: &mut Vec<u8>, words: &str) -> Result<()> {
     let (id, wanted) = first_word(words);
     check_whole(alloc, octets.as_slice(), wanted)?;
@@ -81,12 +81,12 @@ fn check_request(alloc: Global, octets: &mut Vec<u8>, words: &str) -> Result<()>
     check_asked(alloc, octets.as_slice(), bad.as_str())
 }
 
-/// Returns an error's number and its message.
+// Returns an error's number and its message.
 fn error_words(alloc: Global, error: DataAccessError) -> Result<String> {
     Ok(format!(in alloc; "{} {error}", error.code())?)
 }
 
-/// Describes the operate or the cancel in data, or their error.
+// Describes the operate or the cancel in data, or their error.
 fn control_words(alloc: Global, kind: &str, written: &Data<'_>) -> Result<String> {
     if kind == "operate" {
         return match operate_of(written) {
@@ -100,7 +100,7 @@ fn control_words(alloc: Global, kind: &str, written: &Data<'_>) -> Result<String
     }
 }
 
-/// Checks that the first value of a write is this operate or cancel, or has this error.
+// Checks that the first value of a write is this operate or cancel, or has this error.
 fn check_written(alloc: Global, kind: &str, octets: &[u8], wanted: &str) -> Result<()> {
     let Request::Confirmed {
         id: _,

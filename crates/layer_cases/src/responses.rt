@@ -14,10 +14,10 @@ use cases::octets::octets_of;
 use cases::words::{first_word, truth_of, words_of};
 use std::alloc::Global;
 
-/// The maximum number of octets of a response or a report.
+// The maximum number of octets of a response or a report.
 const SIZE: u32 = 100_000;
 
-/// Returns the names of a page.
+// Returns the names of a page.
 fn names_of(alloc: Global, words: &[&str]) -> Result<Vec<Text>> {
     let mut names = Vec::new(alloc);
     for name in words {
@@ -26,8 +26,8 @@ fn names_of(alloc: Global, words: &[&str]) -> Result<Vec<Text>> {
     Ok(names)
 }
 
-/// Appends the value of a variable, with TRUE at the marked row if there is one: `NAME`, or
-/// `NAME@MARK`.
+// Appends the value of a variable, with TRUE at the marked row if there is one: `NAME`, or
+// `NAME@MARK`.
 fn add_value(response: &mut ReadResponse, tree: &Tree, word: &str) -> Result<()> {
     let (name, marked) = match word.split_once("@") {
         Some((name, mark)) => (name, Some(tree.find(mark)?)),
@@ -37,7 +37,7 @@ fn add_value(response: &mut ReadResponse, tree: &Tree, word: &str) -> Result<()>
     Ok(())
 }
 
-/// Returns the error with this number.
+// Returns the error with this number.
 fn error_of(number: &str) -> Result<DataAccessError> {
     match number {
         "3" => Ok(DataAccessError::ObjectAccessDenied),
@@ -46,8 +46,8 @@ fn error_of(number: &str) -> Result<DataAccessError> {
     }
 }
 
-/// Appends the result of reading a variable: `value:` and its name, `text:` and a text instead of
-/// it, or `failure:` and a number.
+// Appends the result of reading a variable: `value:` and its name, `text:` and a text instead of
+// it, or `failure:` and a number.
 fn add_read(response: &mut ReadResponse, tree: &Tree, word: &str) -> Result<()> {
     match word.split_once(":") {
         Some(("value", value)) => add_value(response, tree, value)?,
@@ -58,7 +58,7 @@ fn add_read(response: &mut ReadResponse, tree: &Tree, word: &str) -> Result<()> 
     Ok(())
 }
 
-/// Returns the octets of the results of reading variables, each given by a word.
+// Returns the octets of the results of reading variables, each given by a word.
 fn read(alloc: Global, tree: &Tree, id: u32, words: &[&str]) -> Result<Outgoing> {
     let mut response = ReadResponse::new(alloc, SIZE)?;
     for word in words {
@@ -67,7 +67,7 @@ fn read(alloc: Global, tree: &Tree, id: u32, words: &[&str]) -> Result<Outgoing>
     Ok(response.finish(id)?)
 }
 
-/// Returns the octets of the results of writes, each `success` or a number.
+// Returns the octets of the results of writes, each `success` or a number.
 fn write(alloc: Global, id: u32, words: &[&str]) -> Result<Outgoing> {
     let mut response = WriteResponse::new(alloc);
     for word in words {
@@ -79,8 +79,8 @@ fn write(alloc: Global, id: u32, words: &[&str]) -> Result<Outgoing> {
     Ok(response.finish(id, SIZE)?)
 }
 
-/// Reads the agreed parameters: the size, the number of outstanding calls on either side, the
-/// nesting or `-`, and the parameters.
+// Reads the agreed parameters: the size, the number of outstanding calls on either side, the
+// nesting or `-`, and the parameters.
 fn agreed_of(words: &[&str]) -> Result<Agreed> {
     match words {
         [size, calling, called, nesting, parameters] => Ok(Agreed {
@@ -94,9 +94,9 @@ fn agreed_of(words: &[&str]) -> Result<Agreed> {
     }
 }
 
-/// Returns the octets of a response that is made of words alone; the first word is usually its id.
-/// The kinds are in one function because the borrow checker wants the types of a response's parts
-/// named where one is written.
+// Returns the octets of a response that is made of words alone; the first word is usually its id.
+// The kinds are in one function because the borrow checker wants the types of a response's parts
+// named where one is written.
 fn plain(alloc: Global, kind: &str, id: Option<u32>, words: &[&str]) -> Result<Outgoing> {
     let written = match (kind, id, words) {
         ("initiate", _, _) => write_response(alloc, &Response::Initiate(agreed_of(words)?), SIZE),
@@ -130,7 +130,7 @@ fn plain(alloc: Global, kind: &str, id: Option<u32>, words: &[&str]) -> Result<O
     Ok(written?)
 }
 
-/// Returns the octets of a page: whether more names follow, and the names.
+// Returns the octets of a page: whether more names follow, and the names.
 fn page(alloc: Global, id: u32, more: &str, words: &[&str]) -> Result<Outgoing> {
     let names = names_of(alloc, words)?;
     let service = Service::Names {
@@ -140,14 +140,14 @@ fn page(alloc: Global, id: u32, more: &str, words: &[&str]) -> Result<Outgoing> 
     Ok(write_response(alloc, &Response::Confirmed { id, service }, SIZE)?)
 }
 
-/// Returns the octets of a row's type.
+// Returns the octets of a row's type.
 fn attributes(alloc: Global, tree: &Tree, id: u32, name: &str) -> Result<Outgoing> {
     let handle = tree.find(name)?;
     let service = Service::Attributes { tree, handle };
     Ok(write_response(alloc, &Response::Confirmed { id, service }, SIZE)?)
 }
 
-/// Returns the octets of a response: its kind, its invoke id, and the other words.
+// Returns the octets of a response: its kind, its invoke id, and the other words.
 fn response(alloc: Global, tree: &Tree, kind: &str, words: &[&str]) -> Result<Outgoing> {
     let [id, rest @ ..] = words else {
         return plain(alloc, kind, None, words);
@@ -162,7 +162,7 @@ fn response(alloc: Global, tree: &Tree, kind: &str, words: &[&str]) -> Result<Ou
     }
 }
 
-/// Returns the eight octets of a time.
+// Returns the eight octets of a time.
 fn moment_of(alloc: Global, word: &str) -> Result<[u8; 8]> {
     let octets = octets_of(alloc, word)?;
     match octets.as_slice() {
@@ -171,8 +171,8 @@ fn moment_of(alloc: Global, word: &str) -> Result<[u8; 8]> {
     }
 }
 
-/// Reads an operate of an identity: its value, category, identity, number, time, whether it is a
-/// test, and its two checks.
+// Reads an operate of an identity: its value, category, identity, number, time, whether it is a
+// test, and its two checks.
 fn operate_of<'a>(alloc: Global, words: &[&str], or_ident: &'a [u8]) -> Result<Operate<'a>> {
     match words {
         [
@@ -204,8 +204,8 @@ fn operate_of<'a>(alloc: Global, words: &[&str], or_ident: &'a [u8]) -> Result<O
     }
 }
 
-/// Returns the octets of a report on an operate of an identity. For a failure, an object and a
-/// cause precede the domain, the item and the operate.
+// Returns the octets of a report on an operate of an identity. For a failure, an object and a
+// cause precede the domain, the item and the operate.
 fn report(alloc: Global, kind: &str, words: &[&str], identity: &[u8]) -> Result<Outgoing> {
     match (kind, words) {
         ("termination", [domain, item, operate @ ..]) => {
@@ -238,7 +238,7 @@ fn report(alloc: Global, kind: &str, words: &[&str], identity: &[u8]) -> Result<
     }
 }
 
-/// Returns the octets of a response or a report.
+// Returns the octets of a response or a report.
 fn written(alloc: Global, tree: &Tree, kind: &str, words: &[&str]) -> Result<Outgoing> {
     let identity = match (kind, words) {
         ("termination", [_, _, _, _, identity, ..])

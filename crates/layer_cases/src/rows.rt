@@ -38,7 +38,7 @@ pub fn position_of(word: &str) -> Result<Dbpos> {
     }
 }
 
-/// Returns a quality by its name.
+// Returns a quality by its name.
 fn quality_of(word: &str) -> Result<Quality> {
     match word {
         "good" => Ok(Quality::Good),
@@ -47,7 +47,7 @@ fn quality_of(word: &str) -> Result<Quality> {
     }
 }
 
-/// Returns a leaf by its kind and its value. A structure has none.
+// Returns a leaf by its kind and its value. A structure has none.
 fn leaf_of(alloc: Global, kind: &str, value: &str) -> Result<Option<Leaf>> {
     Ok(Some(match kind {
         "structure" => return Ok(None),
@@ -66,10 +66,10 @@ fn leaf_of(alloc: Global, kind: &str, value: &str) -> Result<Option<Leaf>> {
     }))
 }
 
-/// The maximum number of octets of data and of types.
+// The maximum number of octets of data and of types.
 const SIZE: u32 = 100_000;
 
-/// Checks a row's data, both encoded and as a tree.
+// Checks a row's data, both encoded and as a tree.
 fn check_value(alloc: Global, tree: &Tree, name: &str, words: &str) -> Result<()> {
     let (octets, wanted) = first_word(words);
     let handle = tree.find(name)?;
@@ -82,7 +82,7 @@ fn check_value(alloc: Global, tree: &Tree, name: &str, words: &str) -> Result<()
     check_text(format!(in alloc; "{data:?}")?.as_str(), wanted)
 }
 
-/// Checks a row's type, both encoded and as a tree.
+// Checks a row's type, both encoded and as a tree.
 fn check_type(alloc: Global, tree: &Tree, name: &str, words: &str) -> Result<()> {
     let (octets, wanted) = first_word(words);
     let handle = tree.find(name)?;
@@ -95,8 +95,8 @@ fn check_type(alloc: Global, tree: &Tree, name: &str, words: &str) -> Result<()>
     check_text(format!(in alloc; "{kind:?}")?.as_str(), wanted)
 }
 
-/// Checks that the page after a name, or the first page, is encoded in these octets, or that the
-/// name is `unknown`.
+// Checks that the page after a name, or the first page, is encoded in these octets, or that the
+// name is `unknown`.
 fn check_names(
     alloc: Global,
     tree: &Tree,
@@ -115,8 +115,8 @@ fn check_names(
     }
 }
 
-/// Checks a page of names: its octets, its invoke id, the size of a PDU, and the octets of the name
-/// before it, or `first`.
+// Checks a page of names: its octets, its invoke id, the size of a PDU, and the octets of the name
+// before it, or `first`.
 fn check_page(alloc: Global, tree: &Tree, octets: &str, words: &str) -> Result<()> {
     let (id, rest) = first_word(words);
     let (size, after) = first_word(rest);
@@ -131,7 +131,7 @@ fn check_page(alloc: Global, tree: &Tree, octets: &str, words: &str) -> Result<(
     check_names(alloc, tree, page, Some(name.as_slice()), octets)
 }
 
-/// Runs a case of a tree's rows: its kind, and its words.
+// Runs a case of a tree's rows: its kind, and its words.
 fn check_tree(alloc: Global, tree: &Tree, kind: &str, words: &str) -> Result<()> {
     let (first, rest) = first_word(words);
     match kind {
@@ -152,7 +152,7 @@ impl Rows {
         }
     }
 
-    /// Appends a row.
+    // Appends a row.
     fn add(&mut self, words: &str) -> Result<()> {
         let (name, rest) = first_word(words);
         let (kind, value) = first_word(rest);
@@ -162,7 +162,7 @@ impl Rows {
         Ok(())
     }
 
-    /// Returns the tree of all rows so far.
+    // Returns the tree of all rows so far.
     fn tree(&mut self) -> Result<&Tree> {
         if self.tree.is_none() {
             let rows = std::mem::replace(&mut self.rows, Vec::new(self.alloc));

@@ -10,7 +10,7 @@ use il_scan::machine::Machine;
 use il_verify::verify::Verified;
 use std::alloc::{AllocError, Global};
 
-/// Returns the values of the read-only points from their numbers.
+// Returns the values of the read-only points from their numbers.
 fn inputs_of(alloc: Global, points: &[ImagePoint], numbers: &str) -> Result<Vec<Value>> {
     let mut inputs = Vec::new(alloc);
     let mut words = numbers.split(",");
@@ -23,7 +23,7 @@ fn inputs_of(alloc: Global, points: &[ImagePoint], numbers: &str) -> Result<Vec<
     Ok(inputs)
 }
 
-/// Returns the numbers of values, separated by commas; `-` for none.
+// Returns the numbers of values, separated by commas; `-` for none.
 fn numbers_text(alloc: Global, values: &[Value]) -> Result<String, AllocError> {
     let mut text = String::new(alloc);
     for value in values {
@@ -66,7 +66,7 @@ pub fn check_budget(alloc: Global, verified: Verified) -> Result<()> {
     check(machine.scan(inputs.as_slice(), 0).steps <= budget)
 }
 
-/// Calls a timer with IN, PT and the time from words, and checks Q and ET.
+// Calls a timer with IN, PT and the time from words, and checks Q and ET.
 fn check_call(timer: &mut TimerState, words: &[&str]) -> Result<()> {
     let [input, preset, now, output, elapsed] = words else {
         bail!("five words are wanted");

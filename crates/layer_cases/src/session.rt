@@ -10,7 +10,7 @@ use cases::words::{first_word, front_words, is_case};
 use il_scan::machine::Machine;
 use std::alloc::Global;
 
-/// A bay of two switches, QA1 and QB1, an input ES and a meter M1.
+// A bay of two switches, QA1 and QB1, an input ES and a meter M1.
 const BAY: &str =
     "bay = { domain = \"B\", vendor = \"V\", model = \"M\", revision = \"1\", scan_max_age_ms = 0 }
 switch = [{ id = \"QA1\", kind = \"breaker\", control = \"status\" },
@@ -19,8 +19,8 @@ input = [{ name = \"ES\" }]
 meter = [{ id = \"M1\" }]
 ";
 
-/// What the next images begin with, what the next programs declare, and the machine that is
-/// scanned.
+// What the next images begin with, what the next programs declare, and the machine that is
+// scanned.
 #[derive(Drop)]
 struct Session<'a> {
     alloc: Global,
@@ -30,15 +30,15 @@ struct Session<'a> {
     machine: Machine,
 }
 
-/// Returns the machine of the image with this code after these front octets.
+// Returns the machine of the image with this code after these front octets.
 fn machine_of_code(alloc: Global, points: &[Point], front: &str, code: &str) -> Result<Machine> {
     let image = image_of(alloc, front, code)?;
     machine_of(alloc, verified_of(alloc, points, image)?)
 }
 
 impl<'a> Session<'a> {
-    /// Creates a session at its first line: an image has no points, variables or timers, and the
-    /// machine's code is HALT.
+    // Creates a session at its first line: an image has no points, variables or timers, and the
+    // machine's code is HALT.
     fn new(alloc: Global, points: &'a [Point]) -> Result<Session<'a>> {
         let front = "494c424302000000000000";
         Ok(Session {
@@ -50,14 +50,14 @@ impl<'a> Session<'a> {
         })
     }
 
-    /// Checks a verdict on the image of a code.
+    // Checks a verdict on the image of a code.
     fn check_code(&self, line: &str) -> Result<()> {
         let (wanted, code) = front_words(line, 3);
         let image = image_of(self.alloc, self.front, code)?;
         check_verdict(self.alloc, self.points, image, wanted)
     }
 
-    /// Runs a case, or processes a part of one.
+    // Runs a case, or processes a part of one.
     fn check(&mut self, line: &'a str) -> Result<()> {
         let (alloc, points) = (self.alloc, self.points);
         let (kind, words) = first_word(line);
@@ -78,7 +78,7 @@ impl<'a> Session<'a> {
     }
 }
 
-/// Runs the lines of a section with the points of a bay.
+// Runs the lines of a section with the points of a bay.
 fn tell_lines(alloc: Global, told: &mut Told, points: &[Point], body: &str) -> Result<()> {
     let mut session = Session::new(alloc, points)?;
     for line in body.lines() {

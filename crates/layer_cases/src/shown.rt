@@ -4,7 +4,7 @@ use il_text::program::{Item, Program};
 use il_text::read::read_program;
 use std::alloc::{AllocError, Global};
 
-/// Appends the first item of a program, which must be an instruction on the second line.
+// Appends the first item of a program, which must be an instruction on the second line.
 fn put_instruction(text: &mut String, program: &Program<'_>) -> Result<()> {
     match program.items.first().context("no items")? {
         Item::Instruction {
@@ -15,7 +15,7 @@ fn put_instruction(text: &mut String, program: &Program<'_>) -> Result<()> {
     }
 }
 
-/// Appends the name of a program, and each of its declarations.
+// Appends the name of a program, and each of its declarations.
 fn put_declarations(text: &mut String, program: &Program<'_>) -> Result<(), AllocError> {
     text.push_str(program.name)?;
     for declaration in program.declarations.iter() {
@@ -24,7 +24,7 @@ fn put_declarations(text: &mut String, program: &Program<'_>) -> Result<(), Allo
     Ok(())
 }
 
-/// Appends an item by itself: its lines, what it is, and the number of items of a parenthesis.
+// Appends an item by itself: its lines, what it is, and the number of items of a parenthesis.
 fn put_item(text: &mut String, item: &Item<'_>) -> Result<(), AllocError> {
     match item {
         Item::Label { line, name } => write!(text, "{line} {name}:; "),
@@ -42,7 +42,7 @@ fn put_item(text: &mut String, item: &Item<'_>) -> Result<(), AllocError> {
     }
 }
 
-/// Appends the items of a program, those of a parenthesis after it.
+// Appends the items of a program, those of a parenthesis after it.
 fn put_outline(text: &mut String, program: &Program<'_>) -> Result<(), AllocError> {
     for item in program.items.iter() {
         put_item(text, item)?;

@@ -9,8 +9,8 @@ use cases::told::check;
 use cases::words::first_word;
 use std::alloc::{AllocError, Global};
 
-/// Feeds octets once and logs the answer, with a letter before it. Returns how many octets were
-/// taken, or `None` if the connection is over.
+// Feeds octets once and logs the answer, with a letter before it. Returns how many octets were
+// taken, or `None` if the connection is over.
 fn turn(
     transport: &mut Transport,
     piece: &[u8],
@@ -38,7 +38,7 @@ fn turn(
     Ok(Some(used))
 }
 
-/// Returns the log of octets in pieces of at most `size`.
+// Returns the log of octets in pieces of at most `size`.
 fn log_of(
     alloc: Global,
     transport: &mut Transport,
@@ -60,7 +60,7 @@ fn log_of(
     Ok(log)
 }
 
-/// Logs what a word says that octets lead to, as `turn` does.
+// Logs what a word says that octets lead to, as `turn` does.
 fn push_doing(alloc: Global, word: &str, log: &mut Vec<u8>) -> Result<()> {
     let (kind, what) = word.split_once(":").unwrap_or((word, "-"));
     match kind {
@@ -74,7 +74,7 @@ fn push_doing(alloc: Global, word: &str, log: &mut Vec<u8>) -> Result<()> {
     Ok(log.extend_from_slice(octets_of(alloc, what)?.as_slice())?)
 }
 
-/// Returns the log of what the words say that octets lead to.
+// Returns the log of what the words say that octets lead to.
 fn doings_of(alloc: Global, words: &str) -> Result<Vec<u8>> {
     let mut log = Vec::new(alloc);
     for word in words.split(" ") {
@@ -83,8 +83,8 @@ fn doings_of(alloc: Global, words: &str) -> Result<Vec<u8>> {
     Ok(log)
 }
 
-/// Checks that a connection that is over stays so: after an end it ends again and takes nothing,
-/// and after a fault it has failed.
+// Checks that a connection that is over stays so: after an end it ends again and takes nothing,
+// and after a fault it has failed.
 fn check_over(alloc: Global, transport: &mut Transport, log: &[u8]) -> Result<()> {
     let wanted = match log {
         [.., b'E'] => b"E".as_slice(),
@@ -99,8 +99,8 @@ fn check_over(alloc: Global, transport: &mut Transport, log: &[u8]) -> Result<()
     Ok(())
 }
 
-/// Checks that octets in pieces of at most `size` lead to this log, and that the connection stays
-/// as it is then.
+// Checks that octets in pieces of at most `size` lead to this log, and that the connection stays
+// as it is then.
 fn check_pieces(
     alloc: Global,
     number: u16,
@@ -114,7 +114,7 @@ fn check_pieces(
     check_over(alloc, &mut transport, wanted)
 }
 
-/// Checks that octets lead to what the words say, in pieces of several sizes.
+// Checks that octets lead to what the words say, in pieces of several sizes.
 fn check_stream(alloc: Global, octets: &[u8], number: u16, wanted: &[u8]) -> Result<()> {
     for size in [1, 3, 100, 65_536] {
         check_pieces(alloc, number, octets, size, wanted)?;
@@ -122,7 +122,7 @@ fn check_stream(alloc: Global, octets: &[u8], number: u16, wanted: &[u8]) -> Res
     Ok(())
 }
 
-/// Checks that a TSDU is wrapped in these frames on a connection, and is read back from them.
+// Checks that a TSDU is wrapped in these frames on a connection, and is read back from them.
 fn check_wrapped(
     alloc: Global,
     transport: &mut Transport,
@@ -138,7 +138,7 @@ fn check_wrapped(
     check(log.as_slice().strip_prefix(b"T") == Some(tsdu))
 }
 
-/// Does the same on a connection that a request has opened.
+// Does the same on a connection that a request has opened.
 fn check_wrap(alloc: Global, request: &[u8], tsdu: &str, frames: &str) -> Result<()> {
     let tsdu = octets_of(alloc, tsdu)?;
     let mut transport = Transport::new(alloc, 1);

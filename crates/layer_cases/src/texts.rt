@@ -6,15 +6,15 @@ use cases::words::first_word;
 use il_text::read::read_program;
 use std::alloc::Global;
 
-/// Returns the text that a line spells with escapes.
+// Returns the text that a line spells with escapes.
 fn unescaped(alloc: Global, line: &str) -> Result<String> {
     let lines = line.replace(alloc, "\\n", "\n")?;
     let returns = lines.replace(alloc, "\\r", "\r")?;
     Ok(returns.replace(alloc, "\\t", "\t")?)
 }
 
-/// Returns what precedes and follows the text of a case: nothing if it is a whole text; a program,
-/// whose body begins on the second line; or a block of declarations, which begin on the third.
+// Returns what precedes and follows the text of a case: nothing if it is a whole text; a program,
+// whose body begins on the second line; or a block of declarations, which begin on the third.
 fn around(kind: &str) -> (&str, &str) {
     match kind {
         "text" | "declares" => ("", ""),
@@ -24,14 +24,14 @@ fn around(kind: &str) -> (&str, &str) {
     }
 }
 
-/// Returns the whole text of a case.
+// Returns the whole text of a case.
 fn surrounded(alloc: Global, kind: &str, line: &str) -> Result<String> {
     let (before, after) = around(kind);
     let text = unescaped(alloc, line)?;
     Ok(format!(in alloc; "{before}{text}{after}")?)
 }
 
-/// Returns the program with a body line repeated, followed by an end: `TIMES EQUAL|END`.
+// Returns the program with a body line repeated, followed by an end: `TIMES EQUAL|END`.
 fn repeated(alloc: Global, words: &str) -> Result<String> {
     let (times, rest) = first_word(words);
     let (equal, end) = rest.split_once("|").context("no end")?;
@@ -44,7 +44,7 @@ fn repeated(alloc: Global, words: &str) -> Result<String> {
     Ok(text)
 }
 
-/// Checks that a text is refused with this number at this line, or read if both are 0.
+// Checks that a text is refused with this number at this line, or read if both are 0.
 fn check_refused(alloc: Global, text: &str, number: &str, line: &str) -> Result<()> {
     let wanted = (number.parse::<u8>()?, line.parse::<usize>()?);
     let found = match read_program(alloc, text) {
