@@ -313,7 +313,7 @@ fn connect_with<'a>(
     })
 }
 
-// The same by its parts; the selectors of the one who calls and of the one called may be missing.
+// Reads the parts of a CP PPDU; the selectors of both sides may be missing.
 fn connect_of<'a>(alloc: Global, parts: &[Value<'a>]) -> Result<Connect<'a>, AssocFault>
     ensures { Gives AssocFault.OutOfMemory connect_view result
         (or_fault BadPresentation (spec.connect_of (map part_of parts.now))) }

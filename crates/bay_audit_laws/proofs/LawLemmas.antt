@@ -128,6 +128,7 @@ turned-if false false choice now event s answer new late early typed answered le
     turned-event choice now event s answer new typed left
     (λ is. halts is (ap₂ (λ x y. x || y) late early))
 
+-- a step of a device is a turn of the audited run
 pub turned : (now : ℕ) (event : Event) (s : State) (answer : Result Step StepFault) (new : State)
     → IsOfType event → Steps now event s answer new → HaltsAt now event s answer new
     → Turned now event s answer new

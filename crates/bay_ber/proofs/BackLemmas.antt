@@ -34,6 +34,7 @@ pub content-bytes : (octets : List ℕ) (tag : Tag) (content : List ℕ) → Spe
 content-bytes octets tag content s b =
     bytes-behind s.len content (bytes-behind s.front (s.len ++ content) (subst IsBytes s.parts b))
 
+-- the contents of all parts are octets
 abbrev pub AllBytes : List Part → Type 0
 AllBytes [] = Unit {0}
 AllBytes (p ∷ ps) = IsBytes p.content × AllBytes ps

@@ -399,6 +399,7 @@ pub is_full : (values : List Value) (count : ℕ) (now : List Part)
 is_full values count now view size full =
     omega (arith, ap length view, length-map (take count values) part_of, length-take count values)
 
+-- a value that is set behind those that count is one part more
 pub pushed : (values : List Value) (count : ℕ) (value : Value) (now : List Part)
     → map part_of (take count values) ≡ now → length values ≡ 5 → count < 5
     → (map part_of (take (count + 1) (set values count value)) ≡ now ++ part_of value ∷ [])

@@ -14,6 +14,7 @@ use Rattle.bay_ber.specs.Spelling.{identifier, IsTag, IsLength, Spells}
 use Rattle.bay_ber.specs.Reading.{Reading, reading_of, Begins, HasLargeTag, HasLengthOctet, IsIndefinite, HasLongLength, IsTruncated, class_of, is_constructed, low_bits, second_at, tag_at, length_at, tlv_at}
 use Rattle.bay_ber.proofs.TagLemmas.{class_of-identifier, is_constructed-identifier, low_bits-identifier, identifier-of}
 
+-- each number is an octet
 abbrev pub IsBytes : List ℕ → Type 0
 IsBytes octets = (i : ℕ) → get_or octets i 0 < 256
 

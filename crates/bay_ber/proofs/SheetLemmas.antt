@@ -12,9 +12,11 @@ use Rattle.bay_ber.specs.Spelling.{octet_of}
 use Rattle.bay_ber.specs.Writing.{octets_needed, length_octets, element}
 use Rattle.bay_ber.specs.Sheets.{Sheet, short_value, empty, within, text_with, sheet_with, rewritten, close_sheet, message, value_around, behind, IsLength, IsEnd, HasTwoAt, IsOpen}
 
+-- a text longer than the limit is none
 pub past : (limit : ℕ) (text : List ℕ) → limit < length text → within limit text ≡ None
 past limit text lt = rw (lt-ltb limit (length text) lt) refl
 
+-- a text within the limit stays as it is
 pub fits : (limit : ℕ) (text : List ℕ) → length text ≤ limit → within limit text ≡ Some text
 fits limit text le = rw (le-ltb limit (length text) le) refl
 
@@ -24,6 +26,7 @@ pub no-room : (limit : ℕ) (text octets : List ℕ) → limit - length text < l
     → text_with limit (Some text) octets ≡ None
 no-room limit text octets lt = rw (lt-ltb (limit - length text) (length octets) lt) refl
 
+-- octets for which there is room stand behind the text
 pub room : (limit : ℕ) (text octets : List ℕ) → length octets ≤ limit - length text
     → text_with limit (Some text) octets ≡ Some (text ++ octets)
 room limit text octets le = rw (le-ltb (limit - length text) (length octets) le) refl

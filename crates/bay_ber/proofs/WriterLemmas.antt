@@ -46,6 +46,7 @@ fits-put w sheet more new is clear front fit room added =
 
 -- ---- beginning again
 
+-- a writer cut to the room of its heads holds no text
 pub cleared : (w : Inside) (sheet : Sheet) (new : List ℕ) → seen w ≡ sheet
     → new ≡ take 64 w.octets.items → sheet_of w.limit 64 false new ≡ empty sheet.limit
 cleared w sheet new is cut =
@@ -240,6 +241,7 @@ text-stays first n octets head count fits heads front =
     ∙ drop-append-add (take k octets ++ head) (drop (k + n) octets) (64 - first)
     ∙ rw (drop-drop (64 - first) (k + n) octets, sum, all) refl)
 
+-- a head copied in front of the first octet is one head more
 pub fronted : (w : Inside) (sheet : Sheet) (head new : List ℕ) → seen w ≡ sheet
     → 64 ≤ length w.octets.items → w.first ≤ 64 → length head ≤ w.first
     → new ≡ take (w.first - length head) w.octets.items

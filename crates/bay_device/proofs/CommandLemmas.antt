@@ -45,6 +45,7 @@ pub record Makes (now : ℕ) (s : State) (d : Done) : Type 0 where
   pub replied : d.commands ≢ [] → d.sent ≢ []
   pub sole : AreTimed s.controls.controls → Sole now d.commands d.state.controls
 
+-- with nothing done yet, nothing is made
 pub begins : (now : ℕ) (s : State) → Makes now s (nothing_done (device_at now s))
 begins now s = record {
   leaves =

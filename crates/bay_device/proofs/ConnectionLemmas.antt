@@ -56,6 +56,7 @@ taken-going [] place u all e = absurd (cc)
 taken-going (x ∷ ts) zero u all e = ap (λ o. Some o) e
 taken-going (x ∷ ts) (suc place) u all e = taken-going ts place u (λ j v h. all (suc j) v h) e
 
+-- a connection that is taken from its place can go on
 pub taken : (clients : List (Option Client)) (place : ℕ) (c : Option Client)
     → AreEight (talks clients) → c ≡ slice_index_or clients place None
     → IfSome c (λ x. IsGoing x.talk.stream.left)

@@ -74,6 +74,7 @@ heard-from now a octets told s new talk why e comes is =
 
 -- ---- a Recv
 
+-- octets that an open association hears are an event that is received
 pub received : (now a : ℕ) (octets : List ℕ) (old new : State) (talk : Talk) (step : Step)
     → connection_at (place_of a) old ≡ Some talk → 0 < length octets
     → HearsFrom now a octets (ended_at now old) (device_at now old) talk step new

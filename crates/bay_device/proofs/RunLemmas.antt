@@ -90,6 +90,7 @@ pub record Tells (n : Bay) (es : List (ℕ × Event)) (old : State)
       new.controls
   pub operates : AllOperate n old.connections es answers
 
+-- a run tells what its events tell, one after the other
 pub tells : (Did : ℕ → Event → State → Result Step StepFault → State → Type 0) (n : Bay)
     (es : List (ℕ × Event)) (old : State) (answers : List (Result Step StepFault)) (new : State)
     → length old.connections ≡ 8 → AreNamedAlike n (bay_of old) → AreTalks old.connections

@@ -235,6 +235,7 @@ hearing-sized phases.Failed tsdu is = tt
 
 -- ---- what octets come to can be answered
 
+-- the association that an indication leaves can send
 abbrev pub CanAnswer : Indication → Type 0
 CanAnswer (answers octets) = Unit {0}
 CanAnswer (tells terms pdu) = IsSome terms.size × IsOpen terms.phase
@@ -242,6 +243,7 @@ CanAnswer (releases octets) = Unit {0}
 CanAnswer ends = Unit {0}
 CanAnswer (fails code) = Unit {0}
 
+-- so it is for each of several indications
 abbrev pub CanAnswerAll : List Indication → Type 0
 CanAnswerAll [] = Unit {0}
 CanAnswerAll (i ∷ is) = CanAnswer i × CanAnswerAll is

@@ -19,6 +19,7 @@ unfolding id_as
 id-read number id is below =
     rw (integer-again number (pos id) is, lt-ltb id 4294967296 (omega arith)) refl
 
+-- the id that a confirmed PDU spells is the one that is found in its octets
 pub known : (octets content number rest behind : List ℕ) (id : ℕ)
     → tlv_at octets ≡ Ok (record { tag = constructed 0; content = content; rest = rest })
     → tlv_at content ≡ Ok (record { tag = int_tag; content = number; rest = behind })

@@ -144,6 +144,7 @@ texts-are names start count from to is_from is_to =
     rw (size, rest) (ap (take (length some)) (text-split (drop start names) count)
     ∙ take-append_seam some (names_text (drop count (drop start names))))
 
+-- a cut between two ends is the text of the names between them
 pub sliced : (names : List (List ℕ)) (n : NamesText) (start count from to : ℕ)
     → n ≡ text_of_names names → start + count ≤ length n.ends → from ≡ begin_at n.ends start
     → to ≡ begin_at n.ends (start + count)

@@ -59,6 +59,7 @@ failed_is e domain item o =
 
 -- ---- a report that was opened, written and closed
 
+-- a report written part by part is its spelling
 pub reported : (old a b d e f g h new : Sheet) (report information results : ℕ)
     (names values : List ℕ) → IsEnd report old → a ≡ sheet_with old (0xA3 ∷ 0 ∷ [])
     → IsEnd information a → b ≡ sheet_with a (0xA0 ∷ 0 ∷ [])

@@ -139,6 +139,7 @@ parent-follows node earlier done (c ∷ cs) plain h =
     parent-found node earlier done (c ∷ cs) (parent_of (c ∷ cs)) refl
     (and_parts (nat_eq c 36) _ h).1
 
+-- what follows from a property holds of each element, where the property does
 pub weaker : {X : Type 0} (P Q : X → Type 0) (xs : List X) → ((x : X) → P x → Q x)
     → AllByRecursion P xs → AllByRecursion Q xs
 weaker P Q [] f h = tt
@@ -236,6 +237,7 @@ node-heads node good =
     subst (AllByRecursion (λ o. head_of o.name ≡ node.name)) (rows-under node)
     (heads node.name [] (paths node) good.plain good.standing)
 
+-- a property of the elements of two lists is one of those of both together
 pub both : {X : Type 0} (P : X → Type 0) (xs ys : List X) → AllByRecursion P xs
     → AllByRecursion P ys → AllByRecursion P (xs ++ ys)
 both P [] ys f g = g

@@ -246,6 +246,7 @@ turned-if false true choice now event s =
     inl (quiet-parts s (refusal_of TimeWentBack s) refl refl)
 turned-if false false choice now event s = turned-event choice now event s
 
+-- a step of a device is a turn of the run that a report keeps
 pub turned : (now : ℕ) (event : Event) (old : State) (answer : Result Step StepFault)
     (new : State) → Steps now event old answer new → Turned now event old answer new
 turned now event old answer new steps =

@@ -201,6 +201,7 @@ module _ (log : Option (List ℕ)) (first : State) (done : List (List ℕ)) (lin
   goes-line choice (Some (at_moment m named)) text status is told =
       goes-named m named is choice text status told
 
+-- from any place on, a trace goes on as it is read
 pub goes : (log : Option (List ℕ)) (first : State) (done lines : List (List ℕ))
     → Later log first done lines
 goes log first done [] past room text status steps of told = record {

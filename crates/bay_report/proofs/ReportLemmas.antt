@@ -244,10 +244,12 @@ Prints-fault old new (Ok status) p e =
 Prints-fault old new (Err fault) p e =
     sym p.printed.1 ∙ p.asked.failed ∙ ap (λ b. b || some_call write_failed p.asked.calls) e
 
+-- of two, the first where the condition holds
 pub chosen : {A : Type 0} (B : Type 0) (b : Bool) → b ≡ true → A → MatchBool b A B
 chosen B true e a = a
 chosen B false e a = absurd cc
 
+-- of two, the second where it does not
 pub other : (A : Type 0) {B : Type 0} (b : Bool) → b ≡ false → B → MatchBool b A B
 other A true e x = absurd cc
 other A false e x = x

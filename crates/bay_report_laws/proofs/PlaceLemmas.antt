@@ -22,12 +22,15 @@ pub record InSecond {A : Type 0} (us bs xs ys : List A) (x : A) : Type 0 where
   pub before : xs ≡ us ++ part
   pub second : bs ≡ part ++ x ∷ ys
 
+-- equal lists have equal heads
 pub heads : {A : Type 0} (a b : A) (xs ys : List A) → a ∷ xs ≡ b ∷ ys → a ≡ b
 heads a b xs ys e = cc
 
+-- equal lists have equal tails
 pub tails : {A : Type 0} (a b : A) (xs ys : List A) → a ∷ xs ≡ b ∷ ys → xs ≡ ys
 tails a b xs ys e = cc
 
+-- an element of two lists together is in the first or in the second
 pub cut : {A : Type 0} (us bs xs ys : List A) (x : A) → us ++ bs ≡ xs ++ x ∷ ys
     → InFirst us bs xs ys x ⊎ InSecond us bs xs ys x
 cut [] bs xs ys x e = inr (record { part = xs; before = refl; second = e })
@@ -67,6 +70,7 @@ pub record IsGroup (p : Past) (g : List (List ℕ)) : Type 0 where
   pub whole : step_text p.now p.answer p.after ≡ ended g
   pub each : Each (λ line. IsLineOf p.now p.answer p.after line) g
 
+-- each group is what is printed for the event at its place
 abbrev pub AreGroups : List Past → Groups → Type 0
 AreGroups [] [] = Unit {0}
 AreGroups [] (g ∷ gs) = ⊥
@@ -106,6 +110,7 @@ each-at : (Is : List ℕ → Type 0) (part : List (List ℕ)) (line : List ℕ) 
 each-at Is [] line rest each = each.0.1
 each-at Is (x ∷ part) line rest each = each-at Is part line rest each.1
 
+-- a printed line belongs to one event, with the lines before it
 pub placed : (past : List Past) (gs : Groups) (before after : List (List ℕ)) (line : List ℕ)
     → AreGroups past gs → flat gs ≡ before ++ line ∷ after → Placed past before line
 placed [] [] [] after line are e = absurd cc

@@ -45,6 +45,7 @@ pub record IsCommandLine (now : ℕ) (answer : Result Step StepFault) (s : State
   pub here : slice_get s.switches command.switch ≡ Some switch
   pub is : line ≡ order_line now switch.id command.on
 
+-- a line of an event: of its scan, of a command, or another
 abbrev pub IsLineOf : ℕ → Result Step StepFault → State → List ℕ → Type 0
 IsLineOf now answer s line =
     IsScanLine now answer s line ⊎ (IsCommandLine now answer s line ⊎ IsOther line)

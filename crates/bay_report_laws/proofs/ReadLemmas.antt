@@ -80,6 +80,7 @@ pub record IsPlain (id : List ℕ) : Type 0 where
   pub no_space : free 32 id ≡ true
   pub no_equals : free 61 id ≡ true
 
+-- no id holds a character at which a line is cut
 abbrev pub AllPlain : List PrintedSwitch → Type 0
 AllPlain [] = Unit {0}
 AllPlain (p ∷ ps) = IsPlain p.id × AllPlain ps

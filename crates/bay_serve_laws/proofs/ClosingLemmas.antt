@@ -96,6 +96,7 @@ grown-kept l = record {
 
 -- ---- events that close nothing
 
+-- none of the events brings octets
 abbrev pub AllQuiet : List ChosenEvent → Type 0
 AllQuiet [] = Unit {0}
 AllQuiet (e ∷ es) = IsWithoutOctets e.1 × AllQuiet es

@@ -61,6 +61,7 @@ pub record Moves (P R : List ℕ → List ℕ → Turning → Type 0) (now p : �
       → R (taken ++ taken_of (p + 1) calls)
       (sent ++ sent_to (p + 1) (done_at now events s.server.device).answers) t
 
+-- a relation holds of equal octets taken and sent
 pub moved : (R : List ℕ → List ℕ → Turning → Type 0) (t : Turning)
     (taken more sent further : List ℕ) → R taken sent t → taken ≡ more → sent ≡ further
     → R more further t

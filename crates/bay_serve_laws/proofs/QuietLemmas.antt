@@ -22,6 +22,7 @@ pub record SaysLittle (step : Step) : Type 0 where
   pub commands : step.commands ≡ []
   pub closed : step.closed ≡ None
 
+-- a step, if it is accepted, sends nothing but what tells of an end
 abbrev pub IsQuiet : Result Step StepFault → Type 0
 IsQuiet (Err fault) = Unit {0}
 IsQuiet (Ok step) = SaysLittle step

@@ -357,6 +357,7 @@ abbrev pub LeftOpen : ℕ → Option (ℕ × Why) → State → Type 0
 LeftOpen p None s = up_at p s ≡ true
 LeftOpen p (Some without_connection) s = up_at p s ≡ false
 
+-- the association at a place is open still, unless the step closed it
 abbrev pub HeardOpen : ℕ → Result Step StepFault → State → Type 0
 HeardOpen p (Err fault) s = up_at p s ≡ true
 HeardOpen p (Ok step) s = LeftOpen p step.closed s

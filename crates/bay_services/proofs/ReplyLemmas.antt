@@ -121,6 +121,7 @@ read-fits c id b r found was is some =
 
 -- ---- results of calls
 
+-- what follows from two clauses of a success is one
 pub both : (r : Result (Unit {0}) AllocError) (P Q R : Type 0) → OnOk r P → OnOk r Q → (P → Q → R)
     → OnOk r R
 both (Ok done) P Q R p q f = f p q
@@ -130,6 +131,7 @@ pub mapped : (r : Result (Unit {0}) AllocError) (P R : Type 0) → OnOk r P → 
 mapped (Ok done) P R p f = f p
 mapped (Err e) P R p f = tt
 
+-- what follows from the octets that were added holds of a success
 pub added : (r : Result (Unit {0}) EncodeFault) (size : ℕ) (old new text : List ℕ) (P : Type 0)
     → Adds size old r new text → (new ≡ old ++ text → P) → OnOk r P
 added (Ok done) size old new text P adds f = f adds
@@ -212,6 +214,7 @@ response-more id results =
       element-more (constructed 1) (number ++ four),
     )
 
+-- what holds of a success holds, where there is one
 pub done : (r : Result (List ℕ) EncodeFault) (P : Type 0) → is_ok r ≡ true → OnOk r P → P
 done (Ok x) P is p = p
 done (Err e) P is p = absurd cc

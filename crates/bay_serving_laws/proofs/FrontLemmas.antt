@@ -22,6 +22,7 @@ use Rattle.bay_serving_laws.proofs.SameLemmas.{Same, same-outcome}
 abbrev IsOf : ChosenEvent → Type 0
 IsOf e = OfAssociation e.1
 
+-- each event is one of an association
 abbrev pub OfAssociations : List ChosenEvent → Type 0
 OfAssociations es = All (λ (e : ChosenEvent). OfAssociation e.1) es
 
@@ -35,9 +36,11 @@ IsWithout (Input k value) = Unit {0}
 IsWithout (Measure k field value) = Unit {0}
 IsWithout Scan = Unit {0}
 
+-- an event without octets
 abbrev pub IsFree : ChosenEvent → Type 0
 IsFree e = IsWithout e.1
 
+-- none of the events brings octets
 abbrev pub AreWithout : List ChosenEvent → Type 0
 AreWithout es = All (λ (e : ChosenEvent). IsWithout e.1) es
 

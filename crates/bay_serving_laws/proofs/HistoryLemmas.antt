@@ -46,6 +46,7 @@ stands-first first came = record {
   tracks = tracks-first first came;
 }
 
+-- the age that a scan may have is that of load
 pub aged : (first : State) (past : List Past) (s : State) → Stands first past s
     → s.scan_max_age_ms ≡ first.scan_max_age_ms
 aged first past s at =

@@ -26,6 +26,7 @@ pub record Mapped {A B : Type 0} (f : A → B) (xs : List A) (y : B) : Type 0 wh
   pub among : Contains xs item
   pub is : f item ≡ y
 
+-- what a mapped list contains comes from an element
 pub mapped : {A B : Type 0} (f : A → B) (xs : List A) (y : B) → Contains (map f xs) y
     → Mapped f xs y
 mapped f xs y has = at xs has.0 has.1 has.2

@@ -233,5 +233,6 @@ close-told text word o e told =
     sym (ap (λ t. association_event_in (slice_split is_space t)) e
     ∙ ap (option_map disconnects) (alone-association word ∙ sym told))
 
+-- octets that compare as different differ
 pub differs : (xs ys : List ℕ) → bytes_eq xs ys ≡ false → xs ≢ ys
 differs xs ys other e = let yes = (bytes_eq-Decides xs ys).1 e in absurd cc

@@ -192,6 +192,7 @@ within-frames size (suc full) octets some few =
       within-frames size full (drop room octets) some (omega arith),
     )
 
+-- the TPDUs that are written carry the TSDU
 pub carries : (size : ℕ) (tsdu octets : List ℕ) → 3 < size → length tsdu ≤ 70000
     → octets ≡ tpdus_of size tsdu → Carries size tsdu octets
 carries size tsdu octets some few is =

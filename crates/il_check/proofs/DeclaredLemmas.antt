@@ -129,6 +129,7 @@ point-named points name p e = name-is name (if-there (is_name name) _ p e)
 
 -- ---- what a name means is there
 
+-- a meaning is that of a declared variable, point or timer
 abbrev pub IsMeant : List External → List Variable → List Timer → Meaning → Type 0
 IsMeant es vs ts (meaning.Variable (slot.External n) kind writable) =
     (e : External) × (slice_get es n ≡ Some e) × (e.kind ≡ kind) × (e.writable ≡ writable)

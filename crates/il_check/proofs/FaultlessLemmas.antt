@@ -20,6 +20,7 @@ use Rattle.il_check.specs.declared.fault.CheckFault.TheVariants.{TooMany}
 
 -- ---- lists of faults that are empty
 
+-- a truth is TRUE or FALSE
 pub two : (b : Bool) → (b ≡ true) ⊎ (b ≡ false)
 two true = inl refl
 two false = inr refl

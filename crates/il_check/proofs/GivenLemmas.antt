@@ -210,6 +210,7 @@ IsCalled c called.Missing = Unit {0}
 IsCalled c called.Misused = Unit {0}
 IsCalled c (called.Timer n) = n < length c.timers
 
+-- what an action names is declared
 abbrev pub IsFound : Checked → Resolved → Type 0
 IsFound c (Load negated g) = IsGiven c g
 IsFound c (Store how g) = IsGiven c g
@@ -220,6 +221,7 @@ IsFound c (Jump condition label) = Unit {0}
 IsFound c (Return condition) = Unit {0}
 IsFound c (Call what args) = IsCalled c what × AreGiven c args
 
+-- each name that means something means something declared
 abbrev pub AreNamed : Checked → Names → Type 0
 AreNamed c names = (name : List ℕ) (m : Meaning) → names.meaning name ≡ Some m → IsNamed c m
 
@@ -247,6 +249,7 @@ arguments-are c names meant (a ∷ []) = source-is c names meant a.1
 arguments-are c names meant (a ∷ b ∷ more) =
     (source-is c names meant a.1, source-is c names meant b.1)
 
+-- what the names of an action are resolved to is declared
 pub found : (c : Checked) (names : Names) → AreNamed c names → (a : text.Action)
     → IsFound c (resolution_of names a)
 found c names meant (text.load negated source) = source-is c names meant source

@@ -634,6 +634,7 @@ judged-ok : (o : Option CheckFault) (c d : Checked) → unless_refused o c ≡ O
 judged-ok None c d e = (refl, cc)
 judged-ok (Some f) c d e = absurd (cc)
 
+-- a checked program keeps what its text says
 pub keeps : (points : List Point) (program : text.PlainProgram) (c : Checked)
     → checked_of points program ≡ Ok c → list_all is_outer program.items ≡ true
     → Keeps points program c

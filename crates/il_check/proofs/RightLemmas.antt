@@ -159,6 +159,7 @@ judged-err : (o : Option CheckFault) (x : Checked) (f : CheckFault) → unless_r
 judged-err None x f e = absurd cc
 judged-err (Some g) x f e = cc
 
+-- a text that the check accepts is a right program
 pub passes : (points : List Point) (program : text.PlainProgram) (c : Checked)
     → checked_of points program ≡ Ok c → IsRightProgram points program
 passes points program c e =

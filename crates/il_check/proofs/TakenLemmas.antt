@@ -68,6 +68,7 @@ pub record Noted (d : text.Declared) (name : List ℕ) (point : Option Point)
   pub variables : middle.variables ≡ old.variables
   pub timers : middle.timers ≡ old.timers
 
+-- a declaration that is noted and added is taken
 pub taken : (points : List Point) (d : text.Declared) (old middle new : Declarations)
     (name copy : List ℕ) (point : Option Point) (is_known is_beyond : Bool) (meaning : Meaning)
     → name ≡ upper d.name → copy ≡ name → point ≡ point_of points d.name

@@ -166,6 +166,7 @@ each-drop P f zero l h = h
 each-drop P f (suc n) [] h = tt
 each-drop P f (suc n) (x ∷ l) h = each-drop P f n l h.1
 
+-- the code behind an item is no longer than an image
 pub bounded : (n : ℕ) (is : List Item) (b : Behind) → IsSettled n is b → b.octets ≤ 65_536
 bounded n is b s = let c = s.behind.counted in omega arith
 

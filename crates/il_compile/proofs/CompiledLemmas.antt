@@ -96,6 +96,7 @@ short-enough c head size b settled h e le =
     let n = settled.behind.counted in
     omega arith
 
+-- a program whose image is short enough has one
 pub given : (c : Checked) → image_size c ≤ 65_535 → compiled_of c ≡ Ok (image_of c)
 given c le =
     ap (λ x. if x then Ok (image_of c) else Err CodeTooLong) (le-leb (image_size c) 65_535 le)

@@ -38,6 +38,7 @@ abbrev pub Agrees : Option ElementaryType → Option Value → Value → Type 0
 Agrees None result cell = Unit {0}
 Agrees (Some kind) result cell = (result ≡ Some cell) × (type_of cell ≡ kind)
 
+-- the core that holds a memory below these cells
 abbrev pub holding : List Value → Memory → Core
 holding cells m = core cells (flat m) m.timers
 

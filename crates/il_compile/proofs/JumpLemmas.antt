@@ -24,6 +24,7 @@ leaps now l is s o b e =
     ap (λ (p : Option Bool). p
     >>= (λ (x : Bool). if x then mean_from now (Some l) is s else mean_from now None is s)) e
 
+-- a jump that is taken goes on at its label
 pub taken : (now : ℕ) (condition : Condition) (l : ℕ) (is : List Item) (s : State)
     → goes condition s.result ≡ Some true
     → mean_from now None (transfer (go.Jump condition l) ∷ is) s

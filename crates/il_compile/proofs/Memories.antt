@@ -98,6 +98,7 @@ pub record Changed (c : Checked) (m : Memory) (s : Slot) (v : Value) : Type 0 wh
 pub so_many : (c : Checked) (m : Memory) → HasTypes c m → length c.externals ≡ length m.externals
 so_many c m ty = sym (same-count type_of (λ e. e.kind) m.externals c.externals ty.externals)
 
+-- a slot of a type holds a value of it
 pub there : (c : Checked) (m : Memory) (s : Slot) (kind : ElementaryType) → HasTypes c m
     → slot_type c s ≡ Some kind → There c m s kind
 there c m (External n) kind ty h =
@@ -114,6 +115,7 @@ there c m (Variable n) kind ty h =
           ∙ get-back m.externals m.variables n ∙ v.1;
     }
 
+-- a value of its type can be put in a slot
 pub changed : (c : Checked) (m : Memory) (s : Slot) (v : Value) → HasTypes c m
     → slot_type c s ≡ Some (type_of v) → Changed c m s v
 changed c m (External n) v ty h =

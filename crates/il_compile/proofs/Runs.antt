@@ -554,6 +554,7 @@ module _ (c : Checked) (labels : Labelling) (now : ℕ) where
 
 -- ---- the whole program
 
+-- a typed program has a meaning
 pub means : (c : Checked) → IsTyped c → (now : ℕ) (m : Memory) → HasTypes c m → Means c now m
 means c ok now m ty =
     let f = items-finish c ok.labels now c.items None 0 [] (Some None)
@@ -576,6 +577,7 @@ pub record Finds (c : Checked) (code : List ℕ) (now : ℕ) (m : Memory) : Type
   pub halts : run code now (length code) (at 0 (holding [] m)) 0
       ≡ Halted (flat means.after) means.after.timers steps
 
+-- the run of a typed program's code is found
 pub follows : (c : Checked) → IsTyped c → Each IsInstr (program_code c) → (now : ℕ) (m : Memory)
     → HasTypes c m → Finds c (all_spelled (program_code c)) now m
 follows c ok are now m ty =

@@ -32,9 +32,11 @@ pub record Core : Type 0 where
   pub slots : List Value
   pub timers : List TimerState
 
+-- the machine at a place, with this core
 abbrev pub at : ℕ → Core → State
 at p k = record { place = p; cells = k.cells; slots = k.slots; timers = k.timers }
 
+-- what the machine holds beside its place
 abbrev pub core : List Value → List Value → List TimerState → Core
 core cells slots timers = record { cells = cells; slots = slots; timers = timers }
 
@@ -42,15 +44,18 @@ core cells slots timers = record { cells = cells; slots = slots; timers = timers
 abbrev pub Does : ℕ → Instr → Core → Core → Type 0
 Does now i a b = (p next : ℕ) → act now i next (at p a) ≡ Goes (at next b)
 
+-- instructions without jumps, one after the other
 abbrev pub DoesAll : ℕ → List Instr → Core → Core → Type 0
 DoesAll now [] a b = a ≡ b
 DoesAll now (i ∷ is) a c = (b : Core) × Does now i a b × DoesAll now is b c
 
+-- two such lists are one
 pub both : (now : ℕ) (is js : List Instr) (a b c : Core) → DoesAll now is a b → DoesAll now js b c
     → DoesAll now (is ++ js) a c
 both now [] js a b c e g = subst (λ x. DoesAll now js x c) (sym e) g
 both now (i ∷ is) js a b c f g = (f.0, f.1, both now is js f.0 b c f.2 g)
 
+-- one instruction is such a list
 pub alone : (now : ℕ) (i : Instr) (a b : Core) → Does now i a b → DoesAll now (i ∷ []) a b
 alone now i a b d = (b, d, refl)
 

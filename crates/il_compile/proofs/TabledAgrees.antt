@@ -21,6 +21,7 @@ pub record IsRight (image : Image) (r : Row) (behind : List Row) : Type 0 where
   pub enters : (d : ℕ) → LeadsTo r.instr 0 d → Enters (table_of behind) d after
   pub room : length r.kinds ≤ 32
 
+-- each row of the table agrees with those behind it
 abbrev pub AreRight : Image → List Row → Type 0
 AreRight image [] = Unit {0}
 AreRight image (r ∷ rs) = IsRight image r rs × AreRight image rs

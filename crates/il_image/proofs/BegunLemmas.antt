@@ -100,6 +100,7 @@ pub a_place_is_told : (code : List ℕ) (place : ℕ) → IsTrue (is_place code 
     ↔ IsPlace code place
 a_place_is_told code place = (tells code place, told code place)
 
+-- what begins at a place is the instruction there
 pub begun : (code : List ℕ) (place : ℕ) → IsPlace code place
     → begun_at code place ≡ instr_at code place
 begun code place p = rw (told code place p) refl

@@ -96,5 +96,6 @@ spelled-faultless (suc n) [] good = refl
 spelled-faultless (suc n) (i ∷ is) good =
     rw (back-instr i (all_spelled is) good.0) (spelled-faultless n is good.1)
 
+-- code that is spelled is decoded without a fault
 pub faultless : (code : List ℕ) (n : ℕ) → IsCode code → code_fault Two n code ≡ None
 faultless code n c = rw c.spelled (spelled-faultless n c.instrs c.are)

@@ -107,6 +107,7 @@ pub record EndsIn {B : Type 0} (f : List ℕ → Result B ImageFault) (Q : B →
 abbrev pub Empty : {A : Type 0} → A × List ℕ → Type 0
 Empty r = r.1 ≡ []
 
+-- with some octets behind, the item is read and nothing is left
 abbrev pub Ends : {A : Type 0} → (List ℕ → Read A) → List ℕ → Type 0
 Ends item octets = EndsIn item Empty octets
 

@@ -43,6 +43,7 @@ pub record Forward (code : List ℕ) (place : ℕ) (i : Instr) (rest : List ℕ)
   pub within : place + length (spelling i) ≤ length code
   pub small : length rest ≤ length code
 
+-- an instruction that is read goes forward
 pub forward : (code : List ℕ) (place : ℕ) (i : Instr) (rest : List ℕ)
     → instr_from Two (drop place code) ≡ Ok (i, rest) → Forward code place i rest
 forward code place i rest e =
@@ -60,6 +61,7 @@ behind place n next code front rest e size is =
     ∙ sym (drop-drop (length front) place code) ∙ ap (drop (length front)) e
     ∙ drop-append_seam front rest
 
+-- an instruction that is read at a place is spelled there
 pub stands : (code : List ℕ) (place : ℕ) (i : Instr) (next : ℕ) → AreOctets code
     → instr_at code place ≡ Some (i, next) → StandsAt code place i next
 stands code place i next fits e =
@@ -80,6 +82,7 @@ stands code place i next fits e =
       within = subst (λ (n : ℕ). n ≤ length code) (sym size) f.within;
     }
 
+-- an instruction that is spelled at a place is read there
 pub stood : (code : List ℕ) (place : ℕ) (i : Instr) (next : ℕ) → StandsAt code place i next
     → instr_at code place ≡ Some (i, next)
 unfolding instr_at
@@ -95,6 +98,7 @@ pub none-past-end : (code : List ℕ) (place : ℕ) → length code ≤ place �
 unfolding instr_at instr_from
 none-past-end code place past = rw (drop_of_length-le code past) refl
 
+-- reading an instruction leaves no more octets
 pub shorter : (octets : List ℕ) (i : Instr) (rest : List ℕ) → instr_from Two octets ≡ Ok (i, rest)
     → length rest ≤ length octets
 shorter octets i rest e = (forward octets 0 i rest e).small

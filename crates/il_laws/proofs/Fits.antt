@@ -282,6 +282,7 @@ short c image e =
       | false ↦ (λ t g. absurd cc)
     ] refl e
 
+-- the image of a checked text is verified
 pub verified : (points : List Point) (program : text.PlainProgram) (c : Checked)
     → checked_of points program ≡ Ok c → IsTyped c
     → (image : Image) → compiled_of c ≡ Ok image → IsVerified points image

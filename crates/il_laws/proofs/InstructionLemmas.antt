@@ -465,6 +465,7 @@ jumped names passed condition name (Some n) t u is ok e = (
   sym e,
 )
 
+-- an action that is well typed is right by the table
 pub acts : (names : Names) (passed : ℕ) (a : text.Action) (t u : Option ElementaryType)
     → IsRight passed (resolution_of names a) t → type_after (resolution_of names a) t ≡ u
     → IsRightAction names passed a t u

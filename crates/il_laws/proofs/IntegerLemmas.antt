@@ -154,6 +154,7 @@ no-quotient a q h = let e = h.greatest (unsigned_abs q + 1) (omega arith) in ome
 
 -- ---- the operations
 
+-- the machine's arithmetic is that of the standard
 pub computed : (operator : Operator) (o : Operation) (w : Width) (a b z : ℤ)
     → sense_of operator ≡ computes o → DividesBy o b
     → (computation_of o w a b ≡ z) ↔ IsOutcome operator (type_of_width w) a b z

@@ -249,6 +249,7 @@ means operator.Lt a b v =
 says-so : (x : Truth) (P : Type 0) → ((x ≡ true) ↔ P) → (number_of (Logical x) ≡ pos 1) ↔ P
 says-so x P h = (λ e. h.0 ((one-is-true x).0 e), λ p. (one-is-true x).1 (h.1 p))
 
+-- the machine's comparisons are those of the standard
 pub tests : (operator : Operator) (c : Comparison) (kind : ElementaryType) (a b : ℤ)
     → sense_of operator ≡ compares c
     → IsOutcome operator kind a b (number_of (Logical (comparison_holds c a b)))
@@ -260,6 +261,7 @@ tests operator.Le comparison.Le kind a b e = says-so _ _ (is-at-most a b)
 tests operator.Lt comparison.Lt kind a b e = says-so _ _ (is-less a b)
 tests operator c kind a b e = absurd (cc)
 
+-- the machine's connectives are those of the standard
 pub joins : (operator : Operator) (c : Connective) (kind : ElementaryType) (a b : Truth)
     → sense_of operator ≡ connects c
     → IsOutcome operator kind (number_of (Logical a)) (number_of (Logical b))
@@ -269,6 +271,7 @@ joins operator.Or Or kind a b e = says-so _ _ (some-true a b)
 joins operator.Xor Xor kind a b e = says-so _ _ (one-true a b)
 joins operator c kind a b e = absurd (cc)
 
+-- the machine's conversions are those of the standard
 pub converts : (conversion : Conversion) (v w : Value)
     → (wider_value (widening_of conversion) v ≡ Some w) ↔ IsConverted conversion v w
 converts conversion.IntToDint (Short z) (Long y) =
@@ -277,6 +280,7 @@ converts conversion.DintToLint (Long z) (Wide y) =
     (λ e. (refl, cc), λ h. ap (λ x. Some (Wide x)) (sym h.1))
 converts conversion v w = (λ e. absurd (cc), λ h. absurd (let t = h.0 in cc))
 
+-- the machine's negation is that of the standard
 pub inverts : (v w : Value) → (inverse v ≡ Some w) ↔ IsInverted v w
 inverts (Logical true) (Logical true) =
     (λ e. absurd (cc), λ h. absurd (let z = h.2.0 refl in omega (arith, ints)))
@@ -356,6 +360,7 @@ module _ (operator : Operator) (negated : Truth) (m : Memory) (t : State) where
       ∙ ap (λ (r : Option Value). Some (record { result = r; memory = m })) (sym h.0.leaves)
       ∙ ap (λ (x : Memory). Some (record { result = t.result; memory = x })) (sym h.1)
 
+-- an operator with an operand means what the table says
 pub instruction : (operator : Operator) (kind : ElementaryType) (negated : Truth)
     (x : TypedOperand) (s t : State)
     → (state_after (op.Combine operator kind negated x) s ≡ Some t)
@@ -366,6 +371,7 @@ instruction operator kind negated x s t = (
   applies operator negated s.memory t s.result (operand_value x s.memory),
 )
 
+-- a closing parenthesis means what the table says
 pub parenthesis : (operator : Operator) (negated : Truth) (before : Option Value)
     (inner t : State) → (state_after_close operator negated before inner ≡ Some t)
     ↔ (IsApplied operator negated before inner.result t.result × (t.memory ≡ inner.memory))

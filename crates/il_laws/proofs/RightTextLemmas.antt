@@ -159,6 +159,7 @@ module _ (names : Names) (labels : Labelling) where
 
 -- ---- a program
 
+-- a text is accepted exactly where it is right
 pub pass : (points : List Point) (program : text.PlainProgram)
     → ((c : Checked) × (checked_of points program ≡ Ok c)) ↔ IsRightText points program
 pass points program =

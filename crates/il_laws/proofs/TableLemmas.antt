@@ -94,18 +94,21 @@ table Ne t u v = rows equality (λ k. true) (λ k. Bool) equality-is t u v
 table Le t u v = rows order (λ k. not (is_boolean k)) (λ k. Bool) order-is t u v
 table Lt t u v = rows order (λ k. not (is_boolean k)) (λ k. Bool) order-is t u v
 
+-- the row of an operator with two operands of one type
 pub row : (o : Operator) (t : ElementaryType) → takes o t ≡ true
     → result_type o t t ≡ Some (gives o t)
 row o t e = (table o t t (gives o t)).1 (e, refl, refl)
 
 -- ---- conversions
 
+-- a conversion takes and gives the types of its name
 pub widened : (conversion : Conversion) (t u : ElementaryType) → wider_type conversion t ≡ Some u
     → (t ≡ converted_from conversion) × (u ≡ converted_to conversion)
 widened IntToDint Int u e = (refl, cc)
 widened DintToLint Dint u e = (refl, cc)
 widened conversion t u e = absurd (cc)
 
+-- a conversion takes the type of its name
 pub widens : (conversion : Conversion)
     → wider_type conversion (converted_from conversion) ≡ Some (converted_to conversion)
 widens IntToDint = refl
@@ -113,6 +116,7 @@ widens DintToLint = refl
 
 -- ---- the other rules
 
+-- the modifier N is taken where the table has it
 pub negation : (n : Truth) (kind : ElementaryType) → (may_negate n kind ≡ true) ↔ MayNegate n kind
 negation false kind = (λ e. tt, λ h. refl)
 negation true kind = (

@@ -97,6 +97,7 @@ pub record GoesOn (code : List ℕ) (now place : ℕ) (after : List Value) (time
   pub halts : run_from code now most state steps ≡ Halted after timers steps_after
   pub covers : CoversAt pending state.place (held now state)
 
+-- the run has halted, or goes on below what is pending
 abbrev pub Follows : List ℕ → ℕ → List Value → List TimerState → ℕ → List (Option Known) → Type 0
 Follows code now after timers place pending =
     HasHalted code now after timers pending ⊎ GoesOn code now place after timers pending

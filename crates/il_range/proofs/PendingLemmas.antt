@@ -82,6 +82,7 @@ covers-elsewhere old place q w h ne c = record {
   covers = c.covers;
 }
 
+-- what is joined at a place covers what comes there
 pub arrived : (old : List (Option Known)) (place : ℕ) (o w : Option Known) (come known : Known)
     → place < length old → slice_get old place ≡ Some o → IsUnder (plain known) (plain come)
     → ((s : Known) → o ≡ Some s → IsUnder (plain s) (plain come))

@@ -46,6 +46,7 @@ enough make [] h = absurd cc
 enough make (x ∷ []) h = absurd cc
 enough make (x ∷ y ∷ octets) h = omega arith
 
+-- an instruction with a number of two octets is read as its number
 pub numbered : (make : ℕ → Instr) (code : List ℕ) (at n : ℕ) → at ≤ length code
     → IsOk (with_number make (drop at code)) → n ≡ from_be_bytes w16 (drop at code)
     → Numbered make code at n

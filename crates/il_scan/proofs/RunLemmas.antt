@@ -130,6 +130,7 @@ start-standing image slots timers safe held =
       typed = held-typed image slots timers held;
     }
 
+-- a run begins with the words of its slots
 pub starts : (image : Image) (now : ℕ) (slots : List ℤ) (timers : List TimerState)
     → AreOctets image.code → IsSafe image → IsHeld image slots timers
     → Comes image now (first_state image slots timers) 0 0 (words [] slots timers)

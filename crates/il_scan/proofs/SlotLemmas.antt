@@ -253,6 +253,7 @@ tested-case false p points (i ∷ inputs) rest = (
       rw (first, more) refl),
 )
 
+-- inputs pass the test exactly where they fit the points
 pub tested : (points : List ImagePoint) (inputs : List Value)
     → (are_inputs points inputs ≡ true → AreInputs points inputs)
     × (AreInputs points inputs → are_inputs points inputs ≡ true)

@@ -13,6 +13,7 @@ use Rattle.il_text.specs.declared.program.Literal.TheVariants.{Lint}
 use Rattle.bay_base.proofs.NameLemmas.{same-upper}
 use Rattle.il_text.specs.Literals.{is_underscore, is_hash, is_integer, number, halves, base_of, decimal, based_integer, integer, Signed, number_value, truth_of, number_or_truth, bool_or_truth, typed_number, bool_literal, int_literal, dint_literal, time_literal, typed_bool, typed_int, typed_dint, typed_lint, typed_time, Duration, number_len, unit_len, number_of_part, with_part, part, parts, total_of, milliseconds, prefixed_literal}
 
+-- a character in upper case
 abbrev pub up : ℕ → ℕ
 up = to_ascii_uppercase
 

@@ -350,6 +350,7 @@ program-up text =
     ∙ ap (reading (last_line text) none_yet 1) (lines-up (pieces_of false text))
     ∙ reading-up (last_line text) none_yet 1 (lines (pieces_of false text))
 
+-- the case of letters means nothing
 pub letters : LettersMayBeRespelled
 letters text read x =
     let e = one_reading text read (program_of text) x (text-reads text) in

@@ -18,7 +18,7 @@ use Rattle.il_text.specs.declared.program.Scope.{Scope}
 use Rattle.il_text.specs.declared.program.Scope.TheVariants.{Local, External}
 use Rattle.il_text.proofs.GrammarLemmas.{run}
 
--- what is reached, by its parts
+-- what is reached, with all that was read till then
 abbrev pub state : Stage → List ℕ → List Declared → List Entry → List Opened → Reached
 state p name ds es fs =
     record { place = p; name = name; declarations = ds; items = es; parentheses = fs }

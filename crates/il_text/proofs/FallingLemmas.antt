@@ -496,5 +496,6 @@ has-milliseconds w ms i =
     ∙ total-at-end (0 + sum_by value (i.first ∷ i.more))
     ∙ ap Some (zero-add (sum_by value (i.first ∷ i.more)) ∙ sym i.summed)
 
+-- what is read as a duration is one as the standard writes it
 pub durations : DurationsFall
 durations w ms = (is-duration w ms, has-milliseconds w ms)

@@ -152,6 +152,7 @@ same-program p q e =
     ≡ state place.Finished q.name q.declarations q.items [] = cc in
     ap program_made s
 
+-- a text that is stopped can't go on
 pub stops : (ps : List Numbered) → run nothing_read ps ≡ None → CanGoOn ps → ⊥
 stops ps e g =
     let a : run nothing_read (ps ++ g.more) ≡ None =

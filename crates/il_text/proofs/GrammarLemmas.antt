@@ -86,6 +86,7 @@ pub record Between (ps : List Numbered) (r : Reached) : Type 0 where
   pub none : r.items ≡ []
   pub outside : r.parentheses ≡ []
 
+-- what has been read at a stage
 abbrev pub ReachesAt : List Numbered → Reached → Stage → Type 0
 ReachesAt ps r place.Start = AtStart ps r
 ReachesAt ps r place.Declarations = Between ps r

@@ -369,6 +369,7 @@ moved a b read e x =
     subst (λ (r : Result PlainProgram TextFault). ReadsAs b r)
     (sym (one_reading a read (program_of a) x (text-reads a) ∙ e)) (text-reads b)
 
+-- blanks are read alike in each of their spellings
 pub respelled : BlanksMayBeRespelled
 respelled before blanks others after read h b o x =
     moved _ _ read (same-reading before blanks others after h b o) x

@@ -40,6 +40,7 @@ join-all-least-reversed xs ys top h g =
     subst (AreWithin (reverse (join_all xs ys))) (reverse-reverse top)
     (within-reverse (join_all xs ys) (reverse top) (join-all-least xs ys (reverse top) h2 g2))
 
+-- a frame as the definition has it, with the top of the stack first
 abbrev pub plain : List CellKind → ℕ → PlainFrame
 plain kinds longest = record { kinds = reverse kinds; longest = longest }
 

@@ -310,6 +310,7 @@ faultless-fine slots timers i kinds e =
 
 -- ---- which faults an instruction has by itself
 
+-- a fault of the image, not of memory
 abbrev pub IsOwn : VerifyFault → Type 0
 IsOwn StackEmpty = Unit {0}
 IsOwn StackFull = Unit {0}

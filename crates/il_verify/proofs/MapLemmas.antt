@@ -68,6 +68,7 @@ slot_at m place o less e =
     sym (ap (option_and_then (λ x. x))
     (slice_get-get_or m place o less ∙ ap (λ (x : Option Frame). Some x) (sym e)))
 
+-- a frame that is written at a place is pending there
 pub pended : (old grown : List (Option Frame)) (place : ℕ) (o w : Option Frame) (frame : Frame)
     (come : PlainFrame) → ((q : ℕ) → plain_frames grown q ≡ plain_frames old q)
     → place < length grown → o ≡ frame_at grown place

@@ -187,6 +187,7 @@ never-true zero q e = cc
 never-true (suc n) zero e = cc
 never-true (suc n) (suc q) e = never-true n q e
 
+-- the places below this one are marked where an instruction begins
 abbrev pub MarksBelow : List ℕ → ℕ → List Bool → Type 0
 MarksBelow code place starts =
     (q : ℕ) → (slice_get starts q ≡ Some true) ↔ ((q < place) × IsPlace code q)

@@ -129,6 +129,7 @@ here-short image place budget depth frames come p was = (
 
 -- ---- all places are done
 
+-- a pass that is over has measured the image
 pub measured : (image : Image) (done budget depth : ℕ) (frames : PlainFrames)
     → Passing image done budget depth frames → length image.code ≤ done → 0 < length image.code
     → IsMeasured image budget depth
@@ -393,6 +394,7 @@ fails-over image place instr next come old budget depth fault here less f p =
     (beside-here place place (Some come) old refl) p fault less
     (fails-beside image place instr next come (Some come) old fault here f)
 
+-- a pass begins with the first frame alone
 pub begins : (image : Image) (come : PlainFrame) (old : PlainFrames) → 0 < length image.code
     → come.kinds ≡ [] → come.longest ≡ 1 → ((q : ℕ) → old q ≡ None)
     → Passing image 0 0 0 (beside 0 (Some come) old)

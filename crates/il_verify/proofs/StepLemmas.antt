@@ -71,6 +71,7 @@ comes-both P Q L come old mid new split join h g = elim h [
 abbrev pub onward : PlainFrame → List CellKind → PlainFrame
 onward come gives = record { kinds = gives; longest = come.longest + 1 }
 
+-- an instruction brings its frame to each place that it leads to
 pub spreads : (image : Image) (instr : Instr) (next : ℕ) (come : PlainFrame) (old new : PlainFrames)
     (v : Visits image instr next come old new) (to : ℕ)
     → ComesWhere (LeadsTo instr next to) (onward come v.gives) (old to) (new to)
