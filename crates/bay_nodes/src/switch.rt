@@ -39,3 +39,10 @@ pub enum Control {
     /// the control.
     SboEnhanced,
 }
+
+/// What a switch is told to do (IEC 61850-7-3, DPC: ctlVal; FALSE opens, TRUE closes).
+#[derive(Clone, Copy, Debug, PartialEq, Eq)]
+pub enum Operation {
+    Open,
+    Close,
+}
