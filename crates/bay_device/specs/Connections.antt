@@ -3,6 +3,7 @@ use Rattle.std.specs.Prelude.{ℕ, ◌≡◌, List, length, map, slice_get, Opti
 use Rattle.bay_transport.specs.Feeding.{IsGoing}
 use Rattle.bay_connection.specs.Feeding.{Client}
 use Rattle.bay_connection.specs.Talk.{Talk}
+use Rattle.bay_device.specs.Outcomes.{associations}
 
 -- what the octets of a connection have left, without the PDU that was heard last
 abbrev pub talk_in : Option Client → Option Talk
@@ -20,5 +21,5 @@ AreGoing connections =
 
 -- There is a place for each of the eight.
 pub record AreEight (connections : List (Option Talk)) : Type 0 where
-  pub sized : length connections ≡ 8
+  pub sized : length connections ≡ associations
   pub going : AreGoing connections

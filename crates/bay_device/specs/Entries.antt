@@ -8,7 +8,7 @@ use Rattle.bay_connection.specs.Talk.{Indication, Talk, answers, tells, releases
 use Rattle.bay_services.specs.Entries.{entries_in}
 use Rattle.bay_device.specs.Device.{State, device_at, bay_of}
 use Rattle.bay_device.specs.Hearing.{Done, client_at, after_indications, after_pdu, with_sent}
-use Rattle.bay_device.specs.Outcomes.{connection_at, last_moment, nothing_done, place_of}
+use Rattle.bay_device.specs.Outcomes.{associations, connection_at, last_moment, nothing_done, place_of}
 use Rattle.bay_device.specs.Steps.{Steps}
 use Rattle.bay_device.specs.declared.event.Event.{Event}
 use Rattle.bay_device.specs.declared.event.Event.TheVariants.{Open, Recv, Close, Contact, Input, Measure, Scan}
@@ -23,7 +23,7 @@ opens s a = is_some (connection_at (place_of a) s)
 -- A device as load made it: nothing is selected, and none of the eight associations is open.
 pub record IsIdle (s : State) : Type 0 where
   pub unselected : s.controls.selection ≡ None
-  pub closed : s.connections ≡ replicate 8 None
+  pub closed : s.connections ≡ replicate associations None
 
 -- an association was opened, or closed
 abbrev pub entries_of_act : ℕ → Act → List Entry

@@ -22,6 +22,7 @@ use Rattle.il_verify.specs.Verdicts.{IsVerified}
 use Rattle.il_verify.specs.declared.fault.VerifyFault.{VerifyFault}
 use Rattle.il_scan.specs.Scans.{held_first}
 use Rattle.bay_device.specs.Device.{State}
+use Rattle.bay_device.specs.Outcomes.{associations}
 use Rattle.bay_device.specs.declared.fault.LoadFault.{LoadFault}
 use Rattle.bay_device.specs.declared.fault.LoadFault.TheVariants.{Refused, OutOfMemory}
 use Rattle.bay_control.specs.Decisions.{controls_of, initial}
@@ -50,7 +51,7 @@ initial_device bay image = record {
   is_stale = false;
   controls = initial (controls_of bay.switches);
   due = None;
-  connections = replicate 8 None;
+  connections = replicate associations None;
 }
 
 -- a refusal has a number and a line; want of memory has no number

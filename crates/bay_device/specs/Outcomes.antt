@@ -75,9 +75,13 @@ scan_outcome now s = record {
 
 -- ---- the associations
 
--- where an association stands among the eight, which have the numbers 1 to 8
+-- how many associations may be open at the same time
+abbrev pub associations : ℕ
+associations = 8
+
+-- where an association stands among all; their numbers begin at 1
 abbrev pub place_of : ℕ → Option ℕ
-place_of a = if nat_lt 0 a && nat_lt a 9 then Some (a - 1) else None
+place_of a = if nat_lt 0 a && nat_lt a (associations + 1) then Some (a - 1) else None
 
 -- what the octets of an association have left, if it is open
 abbrev pub connection_at : Option ℕ → State → Option Talk

@@ -15,7 +15,7 @@ ghost use Rattle.bay_device.specs.Fresh.{FreshAt};
 ghost use Rattle.bay_device.specs.LookUps.{switch_place, input_place, meter_place, enabled_of, position_of};
 ghost use Rattle.bay_device.specs.Meaning.{HaltsAt, MeansAt, Runs};
 ghost use Rattle.bay_device.specs.Operates.{AllOperate, AreOperates};
-ghost use Rattle.bay_device.specs.Outcomes.{without_connection, connection_at, event_outcome, outcome, recv_after};
+ghost use Rattle.bay_device.specs.Outcomes.{associations, connection_at, event_outcome, outcome, recv_after, without_connection};
 ghost use Rattle.bay_device.specs.Outcomes as spec;
 ghost use Rattle.bay_device.specs.Report.{IsReport};
 ghost use Rattle.bay_device.specs.StateView.{state_view};
@@ -78,7 +78,8 @@ fn closed_by(association: u16, why: Option<Why>) -> Option<(u16, Why)>
 impl Device {
     /// Makes the device of a state, without clients.
     pub(crate) fn of_state(alloc: Global, state: Box<DeviceState>) -> Result<Self, AllocError>
-        ensures { IfOk result (λ device. device ≡ state_view (replicate 8 None) state.value) }
+        ensures { IfOk result (λ device. device
+            ≡ state_view (replicate associations None) state.value) }
     {
         let connections = Box::new(alloc, Connections::new())?;
         Ok(Device {
@@ -283,7 +284,7 @@ impl Device {
     // There is a place for each association's connection, and each switch that can be operated
     // takes some time. It does nothing: its callers learn this.
     fn is_sound(&self)
-        ensures places { length self.now.connections ≡ 8 }
+        ensures places { length self.now.connections ≡ associations }
         ensures timed { AreTimed self.now.controls.controls }
     {
         self.connections.are_eight();
@@ -427,7 +428,7 @@ impl Device {
     pub fn free_association(&self) -> Option<u16>
         ensures lowest { result
             ≡ option_map (λ place. place + 1) (position is_none self.now.connections) }
-        ensures within { IfSome result (λ a. (0 < a) × (a ≤ 8)) }
+        ensures within { IfSome result (λ a. (0 < a) × (a ≤ associations)) }
     {
         let place = self.connections.free_place()?;
         Some(place as u16 + 1)

@@ -1,6 +1,7 @@
 // What happens to a device, and what is answered.
 ghost use Rattle.std.specs.Prelude.{◌≡◌, ◌<◌, IfSome};
 ghost use Rattle.bay_device.specs.Outcomes as spec;
+ghost use Rattle.bay_device.specs.Outcomes.{associations};
 
 use bay_base::listing::Listing;
 use bay_ber::outgoing::Outgoing;
@@ -51,12 +52,12 @@ pub enum Event<'a> {
     Scan,
 }
 
-/// Returns the place of an association among the eight; `None` for a number outside 1 to 8.
+/// Returns the place of an association among all; `None` for a number that none has.
 pub fn place_of(association: u16) -> Option<usize>
     ensures value { result ≡ spec.place_of association }
-    ensures within { IfSome result (λ place. place < 8) }
+    ensures within { IfSome result (λ place. place < associations) }
 {
-    if 0 < association && association < 9 {
+    if 0 < association && usize::from(association) < ASSOCIATIONS + 1 {
         Some(usize::from(association - 1))
     } else {
         None

@@ -22,6 +22,7 @@ ghost use Rattle.bay_device.specs.Entries.{IsIdle};
 ghost use Rattle.bay_device.specs.Load.{IsCompiled, IsLoaded, initial_device, checked_in, of_compiled, of_checked, of_program, of_bay, verify_refusal, Loads, LoadsImage, LoadsRead};
 ghost use Rattle.bay_device.specs.BoundBay.{IsBoundBay, IsTimedBay};
 ghost use Rattle.bay_device.specs.Meaning.{Runs};
+ghost use Rattle.bay_device.specs.Outcomes.{associations};
 ghost use Rattle.bay_device.specs.StateView.{state_view};
 ghost use Rattle.bay_device.specs.declared.fault.LoadFault.TheVariants.{OutOfMemory, Refused};
 
@@ -141,7 +142,7 @@ fn state_of(
 ) -> Result<Box<DeviceState>, AllocError>
     requires bay { IsTimedBay bay.value }
     requires verified { IsVerified bay.value.points verified }
-    ensures { IfOk result (λ state. state_view (replicate 8 None) state.value
+    ensures { IfOk result (λ state. state_view (replicate associations None) state.value
         ≡ initial_device bay.value verified) }
 {
     let wired = wired_machine(alloc, bay.points.as_slice(), verified)?;

@@ -3,6 +3,7 @@ ghost use Rattle.std.specs.Prelude.{◌≡◌, ◌+◌, ◌-◌, ◌<◌, min};
 ghost use Rattle.std.specs.Io.{ReadsAtMost, WritesAtMost};
 
 use crate::readiness::{Bell, Readiness, add_stream};
+use bay_device::event::ASSOCIATIONS;
 use bay_serve::link::{Arrival, Link, LinkFault};
 use mio::Registry;
 use std::alloc::Global;
@@ -29,7 +30,7 @@ pub struct TcpLink<'a, C> {
     registry: Registry,
     listener: TcpListener,
     bell: Rc<Bell, Global>,
-    peers: [Option<Peer>; 8],
+    peers: [Option<Peer>; ASSOCIATIONS],
     failures: u64,
 }
 

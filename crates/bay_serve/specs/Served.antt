@@ -4,7 +4,7 @@ use Rattle.std.specs.Borrow.{Bor}
 use Rattle.std.specs.declared.net.socket_addr.SocketAddrV4.{SocketAddrV4}
 use Rattle.bay_device.specs.Device.{State}
 use Rattle.bay_device.specs.LookUps.{input_place, meter_place, switch_place}
-use Rattle.bay_device.specs.Outcomes.{last_moment}
+use Rattle.bay_device.specs.Outcomes.{associations, last_moment}
 use Rattle.bay_trace.specs.Trace.{NamedData, connects, receives, disconnects, contact, input, measure, scan, process_of, trace_line_of}
 use Rattle.bay_serve.specs.Calls.{Call, Talks}
 use Rattle.bay_serve.specs.Offers.{offering_of, after_calls}
@@ -124,8 +124,8 @@ module _ {L : Type 0} (step : L → Call → L → Type 0) where
   pub record Serves (old new : L) (now : ℕ) (line : Option ProcessEvent) (before after : Held)
       (turn : Turn) : Type 0 where
     pub script : Script
-    pub all_read : length script.readings ≡ 8
-    pub all_offered : length script.offers ≡ 8
+    pub all_read : length script.readings ≡ associations
+    pub all_offered : length script.offers ≡ associations
     pub talks : Talks step old (turn_calls now line script before) new
     pub server : after ≡ (after_turn now line script before).server
     pub opened : turn.opened ≡ opening_of script.accepted before

@@ -6,7 +6,7 @@ use Rattle.bay_services.specs.declared.answer.Command.{Command}
 use Rattle.bay_services.specs.declared.answer.Decision.{Decision}
 use Rattle.bay_device.specs.Code.{step_code_of}
 use Rattle.bay_device.specs.Device.{State}
-use Rattle.bay_device.specs.Outcomes.{Outcome, connection_at, outcome, place_of}
+use Rattle.bay_device.specs.Outcomes.{associations, connection_at, outcome, place_of, Outcome}
 use Rattle.bay_device.specs.declared.event.Event.{Event}
 use Rattle.bay_device.specs.declared.event.Event.TheVariants.{Open, Recv, Close, Contact, Input, Measure, Scan}
 use Rattle.bay_device.specs.declared.event.Sent.{Sent}
@@ -194,11 +194,11 @@ settling_in now (suc count) s = settling_next now (first_full s.noted) s (settli
 
 -- none is left after eight
 unfoldable pub after_settling : ℕ → Turning → Turning
-after_settling now s = settled_in now 8 s
+after_settling now s = settled_in now associations s
 
 -- the calls of all eight
 unfoldable pub settling : ℕ → Turning → List Call
-settling now s = settling_in now 8 s
+settling now s = settling_in now associations s
 
 -- ---- a connection that waits
 
@@ -266,8 +266,8 @@ abbrev pub decides : ℕ → List Decision → Noted → Noted
 decides place decisions n =
     record n { decisions = slice_set n.decisions place (Some decisions) }
 
--- the device's answer to octets: whether it closed the association, what it sends, its commands, and
--- what was decided
+-- the device's answer to octets: whether it closed the association, what it sends, its commands,
+-- and what was decided
 abbrev pub put_answer : ℕ → Result Step StepFault → Turning → Turning
 put_answer place (Err fault) s = s
 put_answer place (Ok step) s =
@@ -415,10 +415,10 @@ moment_at clock h = max clock h.device.moment
 abbrev pub nothing_noted : Noted
 nothing_noted =
     record {
-      standings = replicate 8 Steady;
+      standings = replicate associations Steady;
       refused = None;
       commands = [];
-      decisions = replicate 8 None;
+      decisions = replicate associations None;
       closed = [];
       memory = [];
     }

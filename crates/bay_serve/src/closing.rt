@@ -3,6 +3,7 @@ ghost use Rattle.std.specs.Prelude.{◌≡◌, ◌+◌, ◌<◌};
 ghost use Rattle.bay_serve.specs.Calls.{Called, Closes, Talks};
 ghost use Rattle.bay_serve.specs.Turns.{after_settling, settled_in, settling, settling_in, turning};
 ghost use Rattle.bay_serve.specs.Turns as spec;
+ghost use Rattle.bay_device.specs.Outcomes.{associations};
 
 use crate::link::Link;
 use crate::notes::Notes;
@@ -20,7 +21,7 @@ pub fn cut_off<L: Link>(
     place: usize,
     closing: Closing,
 )
-    requires { place < 8 }
+    requires { place < associations }
     ensures call { Called L.does L.failures link.old (Closes (place + 1)) link.new }
     ensures after { turning server.new notes.new
         ≡ spec.cut_off now closing place (turning server.old notes.old) }

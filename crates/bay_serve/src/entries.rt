@@ -1,5 +1,6 @@
 // What a turn tells, at most eight of each kind.
 ghost use Rattle.std.specs.Prelude.{◌≡◌, ◌<◌, ◌++◌, ◌∷◌, [], length};
+ghost use Rattle.bay_device.specs.Outcomes.{associations};
 
 use bay_device::event::ASSOCIATIONS;
 use std::fmt;
@@ -20,7 +21,7 @@ impl<T> Model for Entries<T> {
 
     ghost view = { λ e. take e.count e.items };
 
-    ghost invariant = { λ e. (e.count ≤ 8) × (length e.items ≡ 8) };
+    ghost invariant = { λ e. (e.count ≤ associations) × (length e.items ≡ associations) };
 }
 
 impl<T: Copy> Entries<T> {
@@ -36,7 +37,7 @@ impl<T: Copy> Entries<T> {
 
     /// Appends an item.
     pub(crate) fn push(&mut self, item: T)
-        requires { length self.old < 8 }
+        requires { length self.old < associations }
         ensures { self.new ≡ self.old ++ item ∷ [] }
     {
         self.items[self.count] = item;

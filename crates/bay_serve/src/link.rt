@@ -2,6 +2,7 @@
 ghost use Rattle.std.specs.Prelude.{◌≡◌, ℕ, ◌<◌, ◌≤◌, length, IfOk};
 ghost use Rattle.std.specs.Result.{result_ok};
 ghost use Rattle.bay_serve.specs.Calls.{Call, Accepts, Reads, Writes, Closes, Called, heard_of, FitsIn};
+ghost use Rattle.bay_device.specs.Outcomes.{associations};
 
 use std::net::SocketAddrV4;
 use thiserror::Error;
@@ -38,14 +39,14 @@ pub trait Link {
     /// client.
     fn accept(&mut self, association: u16) -> Result<Option<SocketAddrV4>, LinkFault>
         requires low { 0 < association }
-        requires high { association ≤ 8 }
+        requires high { association ≤ associations }
         ensures call { Called does failures self.old (Accepts association (result_ok result))
             self.new };
 
     /// Reads octets from a client, at most as many as fit in `room`.
     fn read(&mut self, association: u16, room: &mut [u8]) -> Result<Arrival, LinkFault>
         requires low { 0 < association }
-        requires high { association ≤ 8 }
+        requires high { association ≤ associations }
         ensures call { Called does failures self.old
             (Reads association (length room.old) (heard_of result room.new)) self.new }
         ensures within { FitsIn room.new result };
@@ -53,7 +54,7 @@ pub trait Link {
     /// Sends the first of the octets to a client and returns how many; 0 if none can be sent now.
     fn write(&mut self, association: u16, octets: &[u8]) -> Result<usize, LinkFault>
         requires low { 0 < association }
-        requires high { association ≤ 8 }
+        requires high { association ≤ associations }
         ensures call { Called does failures self.old
             (Writes association octets.now (result_ok result)) self.new }
         ensures within { IfOk result (λ n. n ≤ length octets.now) };
@@ -61,6 +62,6 @@ pub trait Link {
     /// Closes the connection of a client.
     fn close(&mut self, association: u16)
         requires low { 0 < association }
-        requires high { association ≤ 8 }
+        requires high { association ≤ associations }
         ensures { Called does failures self.old (Closes association) self.new };
 }

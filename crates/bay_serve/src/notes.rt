@@ -4,6 +4,7 @@ ghost use Rattle.bay_serve.specs.Standings.{after_full, is_leaving};
 ghost use Rattle.bay_serve.specs.Turns.{decides, goes, leaves, left_noted, nothing_noted, standing_in, stands};
 ghost use Rattle.bay_serve.specs.Turns as spec;
 ghost use Rattle.bay_serve.specs.declared.standing.Standing.TheVariants.{Gone};
+ghost use Rattle.bay_device.specs.Outcomes.{associations};
 
 use crate::entries::Entries;
 use crate::standing::Standing;
@@ -64,7 +65,7 @@ impl Notes {
 
     /// Returns the standing of the association at an index.
     pub fn standing(&self, place: usize) -> Standing
-        requires { place < 8 }
+        requires { place < associations }
         ensures { result ≡ standing_in place self.now }
     {
         self.standings[place]
@@ -73,7 +74,7 @@ impl Notes {
     /// Returns the index of the lowest association to which a reply did not fit.
     pub fn first_full(&self) -> Option<usize>
         ensures lowest { result ≡ spec.first_full self.now }
-        ensures within { IfSome result (λ place. place < 8) }
+        ensures within { IfSome result (λ place. place < associations) }
     {
         self.standings
             .iter()
@@ -82,7 +83,7 @@ impl Notes {
 
     /// Notes that a reply to the association at an index did not fit its queue.
     pub fn fill(&mut self, place: usize)
-        requires { place < 8 }
+        requires { place < associations }
         ensures { self.new ≡ stands place (after_full (standing_in place self.old)) self.old }
     {
         self.standings[place] = self.standings[place].filled();
@@ -91,7 +92,7 @@ impl Notes {
     /// Notes that the device or the client closed the association at an index. Its queue is offered
     /// once more.
     pub fn leave(&mut self, place: usize, why: Why)
-        requires { place < 8 }
+        requires { place < associations }
         ensures { self.new ≡ leaves place why self.old }
     {
         if !self.standings[place].is_told() {
@@ -106,7 +107,7 @@ impl Notes {
 
     /// Notes that the device closed the association at an index, if it closed one.
     pub fn leave_if_closed(&mut self, place: usize, closed: Option<(u16, Why)>)
-        requires { place < 8 }
+        requires { place < associations }
         ensures { self.new ≡ left_noted place closed self.old }
     {
         if let Some((_, why)) = closed {
@@ -116,7 +117,7 @@ impl Notes {
 
     /// Notes that the association at an index was closed with nothing left to send.
     pub fn go(&mut self, place: usize, closing: Closing)
-        requires { place < 8 }
+        requires { place < associations }
         ensures { self.new ≡ goes place closing self.old }
     {
         if !self.standings[place].is_told() {
@@ -127,7 +128,7 @@ impl Notes {
 
     /// Notes that the rest of the queue of a closed association has been offered.
     pub fn part(&mut self, place: usize)
-        requires place { place < 8 }
+        requires place { place < associations }
         requires leaving { is_leaving (standing_in place self.old) ≡ true }
         ensures { self.new ≡ stands place Gone self.old }
     {
@@ -143,7 +144,7 @@ impl Notes {
 
     /// Reports a command to operate a switch.
     pub fn command(&mut self, command: Command)
-        requires { length self.old.commands < 8 }
+        requires { length self.old.commands < associations }
         ensures { self.new ≡ record self.old { commands = self.old.commands ++ command ∷ [] } }
     {
         self.commands.push(command);
@@ -152,7 +153,7 @@ impl Notes {
     /// Reports what was decided of controls that the client of the association at an index asked
     /// for.
     pub fn decide(&mut self, place: usize, decisions: Listing<Decision>)
-        requires { place < 8 }
+        requires { place < associations }
         ensures { self.new ≡ decides place decisions self.old }
     {
         self.decisions[place] = Some(decisions);

@@ -4,6 +4,7 @@ ghost use Rattle.bay_serve.specs.Calls.{Called};
 ghost use Rattle.bay_serve.specs.Served.{Goes, GoesEach, Offers};
 ghost use Rattle.bay_serve.specs.Turns.{offer_calls, turning};
 ghost use Rattle.bay_serve.specs.Turns as spec;
+ghost use Rattle.bay_device.specs.Outcomes.{associations};
 
 use crate::closing::{cut_off, settle};
 use crate::link::Link;
@@ -22,7 +23,7 @@ struct Offered {
 // Offers octets to a client until none are left, a write takes none, or a write fails.
 fn offer<L: Link>(octets: &[u8], link: &mut L, association: u16) -> Offered
     requires low { 0 < association }
-    requires high { association ≤ 8 }
+    requires high { association ≤ associations }
     ensures within { result.done ≤ length octets.now }
     ensures offers { Offers (Called L.does L.failures) link.old link.new association octets.now
         result.done result.failed }
@@ -48,7 +49,7 @@ fn offer<L: Link>(octets: &[u8], link: &mut L, association: u16) -> Offered
 
 // Offers the queue of an association, if it is open or leaving.
 fn offer_one<L: Link>(server: &mut Server, notes: &mut Notes, link: &mut L, now: u64, place: usize)
-    requires { place < 8 }
+    requires { place < associations }
     ensures { Goes (Called L.does L.failures) (spec.offer_one now place) (offer_calls now place)
         link.old link.new (turning server.old notes.old) (turning server.new notes.new) }
 {
@@ -75,7 +76,7 @@ fn offer_one<L: Link>(server: &mut Server, notes: &mut Notes, link: &mut L, now:
 /// Offers all queues, in the order of the associations' numbers.
 pub fn offer_each<L: Link>(server: &mut Server, notes: &mut Notes, link: &mut L, now: u64)
     ensures { GoesEach (Called L.does L.failures) (spec.offer_one now) (offer_calls now) link.old
-        link.new 8 (turning server.old notes.old) (turning server.new notes.new) }
+        link.new associations (turning server.old notes.old) (turning server.new notes.new) }
 {
     for place in 0..ASSOCIATIONS {
         offer_one(server, notes, link, now, place);

@@ -4,6 +4,7 @@ ghost use Rattle.bay_serve.specs.Calls.{Called};
 ghost use Rattle.bay_serve.specs.Served.{Goes, GoesEach, Opens, TakesIn};
 ghost use Rattle.bay_serve.specs.Turns.{read_calls, turning};
 ghost use Rattle.bay_serve.specs.Turns as spec;
+ghost use Rattle.bay_device.specs.Outcomes.{associations};
 
 use crate::closing::{cut_off, settle};
 use crate::link::{Arrival, Link};
@@ -46,8 +47,8 @@ pub fn accept_one<L: Link>(
 
 // Passes a client's octets to the device, and queues what the device sends.
 fn take_in(server: &mut Server, notes: &mut Notes, now: u64, place: usize, octets: &[u8])
-    requires place { place < 8 }
-    requires room { length notes.old.commands < 8 }
+    requires place { place < associations }
+    requires room { length notes.old.commands < associations }
     ensures takes { TakesIn now place octets.now (turning server.old notes.old)
         (turning server.new notes.new) }
     ensures grows { length notes.new.commands ≤ length notes.old.commands + 1 }
@@ -71,8 +72,8 @@ fn take_in(server: &mut Server, notes: &mut Notes, now: u64, place: usize, octet
 
 // Reads a client once, if its association is open.
 fn read_one<L: Link>(server: &mut Server, notes: &mut Notes, link: &mut L, now: u64, place: usize)
-    requires place { place < 8 }
-    requires room { length notes.old.commands < 8 }
+    requires place { place < associations }
+    requires room { length notes.old.commands < associations }
     ensures goes { Goes (Called L.does L.failures) (spec.read_one now place) (read_calls now place)
         link.old link.new (turning server.old notes.old) (turning server.new notes.new) }
     ensures grows { length notes.new.commands ≤ length notes.old.commands + 1 }
@@ -104,7 +105,7 @@ fn read_one<L: Link>(server: &mut Server, notes: &mut Notes, link: &mut L, now: 
 pub fn read_each<L: Link>(server: &mut Server, notes: &mut Notes, link: &mut L, now: u64)
     requires { length notes.old.commands ≤ 0 }
     ensures { GoesEach (Called L.does L.failures) (spec.read_one now) (read_calls now) link.old
-        link.new 8 (turning server.old notes.old) (turning server.new notes.new) }
+        link.new associations (turning server.old notes.old) (turning server.new notes.new) }
 {
     for place in 0..ASSOCIATIONS {
         read_one(server, notes, link, now, place);

@@ -1,6 +1,6 @@
 // What a step of the device sends goes into the queues.
 ghost use Rattle.std.specs.Prelude.{◌≡◌, ◌+◌, ◌≤◌, ◌<◌, length};
-ghost use Rattle.bay_device.specs.Outcomes.{outcome};
+ghost use Rattle.bay_device.specs.Outcomes.{associations, outcome};
 ghost use Rattle.bay_device.specs.Steps.{IsWithoutOctets};
 ghost use Rattle.bay_serve.specs.Turns.{put_at, after_event, turning, with_commands};
 ghost use Rattle.bay_serve.specs.Turns as spec;
@@ -12,7 +12,7 @@ use bay_services::answer::Command;
 
 // Puts a whole reply into the queue of an association, or notes that it did not fit.
 fn put_whole(server: &mut Server, notes: &mut Notes, place: usize, octets: &[u8])
-    requires { place < 8 }
+    requires { place < associations }
     ensures after { turning server.new notes.new
         ≡ spec.put_whole place octets.now (turning server.old notes.old) }
     ensures commands { notes.new.commands ≡ notes.old.commands }
@@ -73,7 +73,7 @@ pub fn step_quietly(server: &mut Server, notes: &mut Notes, now: u64, event: Eve
 /// Reports the command of a step, which has at most one.
 pub fn tell_commands(server: &Server, notes: &mut Notes, commands: &[Command])
     requires single { length commands.now ≤ 1 }
-    requires room { length notes.old.commands < 8 }
+    requires room { length notes.old.commands < associations }
     ensures after { turning server.now notes.new
         ≡ with_commands commands.now (turning server.now notes.old) }
     ensures grows { length notes.new.commands ≤ length notes.old.commands + 1 }

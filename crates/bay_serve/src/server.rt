@@ -1,7 +1,7 @@
 // A device with what is still to be sent to each of its clients.
 ghost use Rattle.std.specs.Prelude.{◌≡◌, ℕ, ◌+◌, ◌<◌, ◌≤◌, ◌++◌, [], None, length, drop, replicate, IfSome, IfOk, IfErr, if◌then◌else◌};
 ghost use Rattle.bay_device.specs.Commands.{IsSingle};
-ghost use Rattle.bay_device.specs.Outcomes.{outcome};
+ghost use Rattle.bay_device.specs.Outcomes.{associations, outcome};
 ghost use Rattle.bay_device.specs.Steps.{IsOutcome, IsWithoutOctets, Steps};
 ghost use Rattle.bay_serve.specs.Turns.{has_room, is_up_in, put_queue, queue_at};
 ghost use Rattle.bay_serve.specs.Turns as spec;
@@ -47,12 +47,12 @@ impl Model for Server {
       queues = s.parts.value.queues.items;
     } };
 
-    ghost invariant = { λ s. length s.parts.value.queues.items ≡ 8 };
+    ghost invariant = { λ s. length s.parts.value.queues.items ≡ associations };
 }
 
 // Creates eight empty queues.
 fn make_queues(alloc: Global) -> Result<Vec<Queue>, AllocError>
-    ensures { IfOk result (λ queues. queues.items ≡ replicate 8 []) }
+    ensures { IfOk result (λ queues. queues.items ≡ replicate associations []) }
 {
     let mut queues = Vec::with_capacity(alloc, ASSOCIATIONS)?;
     for i in 0..ASSOCIATIONS {
@@ -65,9 +65,9 @@ impl Server {
     /// Creates a server of a device with no open association. Allocates the room of eight queues;
     /// if that fails, gives the device back.
     pub fn new(alloc: Global, device: Device) -> Result<Self, AllocFailed<Device>>
-        requires closed { device.connections ≡ replicate 8 None }
+        requires closed { device.connections ≡ replicate associations None }
         ensures ok { IfOk result
-            (λ server. server ≡ record { device = device; queues = replicate 8 [] }) }
+            (λ server. server ≡ record { device = device; queues = replicate associations [] }) }
         ensures err { IfErr result (λ refused. refused.value ≡ device) }
     {
         let queues = match make_queues(alloc) {
@@ -91,7 +91,7 @@ impl Server {
 
     /// Whether the association at an index is open.
     pub(crate) fn is_open(&self, place: usize) -> bool
-        requires { place < 8 }
+        requires { place < associations }
         ensures { result ≡ is_up_in place self.now }
     {
         self.parts.device.is_open(place as u16 + 1)
@@ -100,7 +100,7 @@ impl Server {
     /// Returns the index of the lowest free association.
     pub(crate) fn free_place(&self) -> Option<usize>
         ensures lowest { result ≡ spec.free_place self.now }
-        ensures within { IfSome result (λ place. place < 8) }
+        ensures within { IfSome result (λ place. place < associations) }
     {
         let association = self.parts.device.free_association()?;
         Some(usize::from(association - 1))
@@ -119,7 +119,7 @@ impl Server {
 
     /// Returns what is still to be sent to the association at an index.
     pub(crate) fn queue(&self, place: usize) -> &[u8]
-        requires { place < 8 }
+        requires { place < associations }
         ensures { result.now ≡ queue_at place self.now }
     {
         self.parts.queues[place].as_slice()
@@ -127,7 +127,7 @@ impl Server {
 
     /// Appends octets if there is room for all of them. Returns false if there is not.
     pub(crate) fn put(&mut self, place: usize, octets: &[u8]) -> bool
-        requires { place < 8 }
+        requires { place < associations }
         ensures fits { result ≡ has_room (queue_at place self.old) octets.now }
         ensures after { self.new
             ≡ (if result then put_queue place (queue_at place self.old ++ octets.now) self.old
@@ -138,7 +138,7 @@ impl Server {
 
     /// Removes the first octets of what is still to be sent.
     pub(crate) fn drop_front(&mut self, place: usize, count: usize)
-        requires place { place < 8 }
+        requires place { place < associations }
         requires count { count ≤ length (queue_at place self.old) }
         ensures { self.new ≡ put_queue place (drop count (queue_at place self.old)) self.old }
     {
@@ -147,7 +147,7 @@ impl Server {
 
     /// Removes all of what is still to be sent.
     pub(crate) fn clear(&mut self, place: usize)
-        requires { place < 8 }
+        requires { place < associations }
         ensures { self.new ≡ put_queue place [] self.old }
     {
         self.parts.queues[place].clear();

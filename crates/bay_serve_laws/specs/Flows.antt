@@ -1,6 +1,6 @@
 -- The octets of one association through a turn.
 use Rattle.std.specs.Prelude.{◌≡◌, ℕ, ◌+◌, ◌<◌, ◌≤◌, ◌==◌, Bool, true, false, if◌then◌else◌, List, [], ◌∷◌, ◌++◌, length, take, Option, Some, None, Result, Ok, Err, ◌⊎◌}
-use Rattle.bay_device.specs.Outcomes.{last_moment}
+use Rattle.bay_device.specs.Outcomes.{associations, last_moment}
 use Rattle.bay_device.specs.declared.event.Event.{Event}
 use Rattle.bay_device.specs.declared.event.Event.TheVariants.{Open, Recv, Close, Contact, Input, Measure, Scan}
 use Rattle.bay_device.specs.declared.event.Sent.{Sent}
@@ -92,8 +92,8 @@ sent_to a (answer ∷ answers) = answer_to a answer ++ sent_to a answers
 
 -- There is a queue for each association, and that of one that is not open is empty.
 pub record IsTidy (h : Held) : Type 0 where
-  pub sized : length h.queues ≡ 8
-  pub empty : (place : ℕ) → place < 8 → is_up_in place h ≡ false → queue_at place h ≡ []
+  pub sized : length h.queues ≡ associations
+  pub empty : (place : ℕ) → place < associations → is_up_in place h ≡ false → queue_at place h ≡ []
 
 -- the moment is one that the device does not refuse
 pub record IsInTime (now : ℕ) (h : Held) : Type 0 where
@@ -118,8 +118,8 @@ FlowsAt now line script h place =
 -- full, the link left more of its octets than there is room for.
 pub record LosesNothing (now : ℕ) (line : Option ProcessEvent) (script : Script) (h : Held)
     : Type 0 where
-  pub flows : (place : ℕ) → place < 8 → FlowsAt now line script h place
-  pub full : (place : ℕ) (low : place < 8)
+  pub flows : (place : ℕ) → place < associations → FlowsAt now line script h place
+  pub full : (place : ℕ) (low : place < associations)
       → tells is_queue_full (place + 1) (after_turn now line script h).noted.closed ≡ true
       → 262144 < length (flows place low).rest
   pub tidy : IsTidy (after_turn now line script h).server

@@ -1,6 +1,7 @@
 // Laws of a turn. Each function does nothing, and its contract is the law.
 ghost use Rattle.std.specs.Prelude.{◌≡◌, ℕ, ◌+◌, ◌-◌, ◌^◌, ◌<◌, ◌≤◌, [], true, List, Option, length, replicate};
 ghost use Rattle.bay_device.specs.Device.{State};
+ghost use Rattle.bay_device.specs.Outcomes.{associations};
 ghost use Rattle.bay_serve.specs.Calls.{Called};
 ghost use Rattle.bay_serve.specs.Served.{Serves};
 ghost use Rattle.bay_serve.specs.Turns.{Held, Script, after_turn, turn_calls};
@@ -20,7 +21,8 @@ use bay_serve::link::Link;
 /// A failed connection of an association is reported only if a call of the link failed: the link's
 /// count of failures rises in such a turn.
 pub fn a_told_failure_is_counted<L: Link>(_link: &L)
-    ensures { (old new : L) (now : ℕ) (line : Option ProcessEvent) (before after : Held) (turn : Turn)
+    ensures { (old new : L) (now : ℕ) (line : Option ProcessEvent) (before after : Held)
+        (turn : Turn)
         →
         Serves (Called L.does L.failures) old new now line before after turn
         → tells_failure turn.closed ≡ true →
@@ -30,7 +32,8 @@ pub fn a_told_failure_is_counted<L: Link>(_link: &L)
 /// The closing of an association is reported at most once in a turn: with its reason, or as out of
 /// memory.
 pub fn an_association_is_told_once<L: Link>(_link: &L)
-    ensures { (old new : L) (now : ℕ) (line : Option ProcessEvent) (before after : Held) (turn : Turn)
+    ensures { (old new : L) (now : ℕ) (line : Option ProcessEvent) (before after : Held)
+        (turn : Turn)
         (place : ℕ) →
         Serves (Called L.does L.failures) old new now line before after turn
         → times_told (place + 1) turn.closed turn.memory ≤ 1 }
@@ -39,13 +42,14 @@ pub fn an_association_is_told_once<L: Link>(_link: &L)
 /// The reason for which an association was closed in a turn follows from the calls on its link and
 /// the device's answers. An end is reported exactly if a read brought the end of its client or the
 /// device closed it as ended; a fault, exactly if the device closed it with that number; a lack of
-/// memory, exactly if the device closed it for that; and a failed link, exactly if a read or a write
-/// of it failed and neither its client nor the device had closed it. A full queue is reported only
-/// if nothing else closed it.
+/// memory, exactly if the device closed it for that; and a failed link, exactly if a read or a
+/// write of it failed and neither its client nor the device had closed it. A full queue is reported
+/// only if nothing else closed it.
 pub fn each_closing_has_its_cause()
     ensures { (now : ℕ) (line : Option ProcessEvent) (script : Script) (h : Held) → IsTidy h
-        → IsInTime now h → length script.readings ≡ 8 → length script.offers ≡ 8 → (place : ℕ)
-        → place < 8 → HasItsCause now line script h (place + 1) }
+        → IsInTime now h → length script.readings ≡ associations
+        → length script.offers ≡ associations → (place : ℕ)
+        → place < associations → HasItsCause now line script h (place + 1) }
 {}
 
 /// The device after a turn is the device before it with the turn's events applied, each at the
@@ -59,31 +63,33 @@ pub fn a_turn_is_its_events()
     ensures events { (now : ℕ) (line : Option ProcessEvent) (script : Script) (h : Held)
         → IsItsEvents now line script h }
     ensures order { (now : ℕ) (line : Option ProcessEvent) (script : Script) (h : Held)
-        → length script.readings ≡ 8 → length script.offers ≡ 8 → IsInOrder now line script h }
+        → length script.readings ≡ associations → length script.offers ≡ associations
+        → IsInOrder now line script h }
 {}
 
 /// What the link takes for an association in a turn, followed by what its queue then holds, is what
 /// the queue held before, followed by what the device sent to it in the turn. For an association
 /// that is closed after the turn, the link took a first part of that, and its queue is empty. If a
-/// full queue is reported, more than 262,144 octets were left. What the link gives of an association
-/// in a turn is what the device receives from it in the turn.
+/// full queue is reported, more than 262,144 octets were left. What the link gives of an
+/// association in a turn is what the device receives from it in the turn.
 pub fn octets_are_neither_lost_nor_repeated()
     ensures octets { (now : ℕ) (line : Option ProcessEvent) (script : Script) (h : Held) → IsTidy h
-        → IsInTime now h → length script.offers ≡ 8 → LosesNothing now line script h }
+        → IsInTime now h → length script.offers ≡ associations → LosesNothing now line script h }
     ensures received { (now : ℕ) (line : Option ProcessEvent) (script : Script) (h : Held)
         → (a : ℕ) → given_of a (turn_calls now line script h)
         ≡ received_of a (turn_events now line script h) }
     // A server is tidy as it is made, and so after each turn.
     ensures begins { (device : State)
-        → IsTidy (record { device = device; queues = replicate 8 [] }) }
+        → IsTidy (record { device = device; queues = replicate associations [] }) }
 {}
 
 /// No queue ever holds more than 262,144 octets: none does when a server is created, and none does
 /// after a turn if none did before it.
 pub fn queues_stay_in_their_room()
     ensures begins { (device : State)
-        → AreInRoom (record { device = device; queues = replicate 8 [] }) }
-    ensures stays { (now : ℕ) (line : Option ProcessEvent) (script : Script) (h : Held) → AreInRoom h
+        → AreInRoom (record { device = device; queues = replicate associations [] }) }
+    ensures stays { (now : ℕ) (line : Option ProcessEvent) (script : Script) (h : Held)
+        → AreInRoom h
         → AreInRoom (after_turn now line script h).server }
 {}
 
@@ -93,7 +99,8 @@ pub fn queues_stay_in_their_room()
 /// sent to it, no call for it failed, its client did not end, and the device did not close it.
 pub fn a_full_queue_is_told()
     ensures { (now : ℕ) (line : Option ProcessEvent) (script : Script) (h : Held) → IsTidy h
-        → IsInTime now h → AreInRoom h → length script.readings ≡ 8
-        → length script.offers ≡ 8 → (place : ℕ) → place < 8 → IsOpenIn place script h
+        → IsInTime now h → AreInRoom h → length script.readings ≡ associations
+        → length script.offers ≡ associations → (place : ℕ) → place < associations
+        → IsOpenIn place script h
         → IsToldWhereFull now line script h place }
 {}

@@ -5,6 +5,7 @@ use Rattle.std.specs.Prelude.{◌≡◌, ℕ, List, replicate, codes, MatchBool,
 use Rattle.bay_device.specs.Device.{State}
 use Rattle.bay_device.specs.Load.{IsCompiled, IsLoaded}
 use Rattle.bay_device.specs.Meaning.{Runs}
+use Rattle.bay_device.specs.Outcomes.{associations}
 use Rattle.bay_device.specs.Report.{IsReport as IsReportOf}
 use Rattle.bay_device.specs.declared.report.Report.{Report}
 use Rattle.bay_files.specs.Files.{FileReads, FilesData, ReadsBoth, ReadsNamed, unread_view}
@@ -89,7 +90,7 @@ LoadsFiles reads files named (Err _) = ⊥
 
 -- a server as it is made of a device: nothing is to be sent
 abbrev pub made_of : State → Held
-made_of s = record { device = s; queues = replicate 8 [] }
+made_of s = record { device = s; queues = replicate associations [] }
 
 -- a server of a device is made, with the link of its clients and the process; or there is no memory
 abbrev pub IsBound : {L : Type 0} → State → L → Option (Hearing L) → Result (Bound L) Unserved

@@ -1,6 +1,7 @@
 // Files are read, loaded and served.
 ghost use Rattle.std.specs.Prelude.{◌≡◌, None, Ok, Err, replicate, IfErr, IfOk};
 ghost use Rattle.bay_device.specs.Entries.{IsIdle};
+ghost use Rattle.bay_device.specs.Outcomes.{associations};
 ghost use Rattle.bay_report.specs.LogLines.{PrintsLogs};
 ghost use Rattle.bay_serving_files.specs.Serve.{BindsPorts, BindsProcess, IsBound, LoadsFiles, LogsPorts, ServesBound, ServesFiles, ServesLoaded, UnservedReport, made_of, names_of};
 ghost use Rattle.bay_serving_files.specs.declared.serve.Unserved.TheVariants as unserved;
@@ -158,7 +159,7 @@ fn bound_to<'a, L: Drop>(
     link: L,
     process: Option<Process<L>>,
 ) -> Result<Bound<L>, Unserved<'a>>
-    requires closed { device.connections ≡ replicate 8 None }
+    requires closed { device.connections ≡ replicate associations None }
     ensures bound { IsBound device link process result }
     ensures server { IfOk result (λ bound. bound.server ≡ made_of device) }
 {
@@ -180,7 +181,7 @@ fn bind_process<'a, L: Link + Drop, H: Host<L>>(
     host: &mut H,
     numbers: Numbers,
 ) -> Result<Bound<L>, Unserved<'a>>
-    requires closed { device.connections ≡ replicate 8 None }
+    requires closed { device.connections ≡ replicate associations None }
     ensures binds { BindsProcess H.does numbers.tells_releases device link numbers.process host.old
         host.new result }
     ensures server { IfOk result (λ bound. bound.server ≡ made_of device) }
@@ -204,7 +205,7 @@ fn bind_ports<'a, L: Link + Drop, H: Host<L>>(
     host: &mut H,
     numbers: Numbers,
 ) -> Result<Bound<L>, Unserved<'a>>
-    requires closed { device.connections ≡ replicate 8 None }
+    requires closed { device.connections ≡ replicate associations None }
     ensures binds { BindsPorts H.does numbers device host.old host.new result }
     ensures server { IfOk result (λ bound. bound.server ≡ made_of device) }
 {
@@ -255,7 +256,7 @@ fn serve_loaded<L: Link + Drop, H: Host<L>, W: Sink>(
     numbers: Numbers,
     writer: &mut WatchedWriter<W>,
 ) -> Result<u8, WriteFault>
-    requires closed { loaded.device.connections ≡ replicate 8 None }
+    requires closed { loaded.device.connections ≡ replicate associations None }
     requires begun { IsBegun (made_of loaded.device) }
     requires named { HaveIds loaded.device.switches }
     ensures { ServesLoaded (Called L.does L.failures) H.does W.contents W.does numbers loaded
@@ -274,9 +275,9 @@ fn serve_loaded<L: Link + Drop, H: Host<L>, W: Sink>(
 /// if there is one; and serves the given number of turns. Logs the ports, or why no turn is served.
 ///
 /// All turns are one run of the device, from load on. Behind each command that a turn tells, and so
-/// behind each line that is printed, or told the process, and reads as one, stand the octets of a client that ask for it,
-/// the success that is sent to this client, and a scan of an earlier turn that left the switch's
-/// interlocking value TRUE, since which the process has not changed.
+/// behind each line that is printed, or told the process, and reads as one, stand the octets of a
+/// client that ask for it, the success that is sent to this client, and a scan of an earlier turn
+/// that left the switch's interlocking value TRUE, since which the process has not changed.
 pub fn serve<F: FileSystem, L: Link + Drop, H: Host<L>, W: Sink>(
     alloc: Global,
     named: Named<'_>,

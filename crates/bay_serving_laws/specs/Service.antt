@@ -8,7 +8,7 @@ use Rattle.bay_device.specs.Device.{State, bay_of}
 use Rattle.bay_device.specs.Fresh.{Came, Past}
 use Rattle.bay_device.specs.Meaning.{HaltsAt, MeansAt, Runs}
 use Rattle.bay_device.specs.Operates.{AllOperate}
-use Rattle.bay_device.specs.Outcomes.{outcome}
+use Rattle.bay_device.specs.Outcomes.{associations, outcome}
 use Rattle.bay_device.specs.Told.{told_all}
 use Rattle.bay_io.specs.Calls.{WriteCall}
 use Rattle.bay_io.specs.Watched.{Writing}
@@ -30,7 +30,7 @@ use Rattle.bay_serving.specs.declared.process.Next.{Next}
 -- The device is as it was loaded, and nothing is to be sent to any of the eight associations.
 pub record IsBegun (h : Held) : Type 0 where
   pub loaded : Came [] h.device
-  pub empty : h.queues ≡ replicate 8 []
+  pub empty : h.queues ≡ replicate associations []
 
 -- ---- turns
 
@@ -54,8 +54,8 @@ held_after (t ∷ ts) h = held_after ts (held_behind t h)
 -- A turn was done on a server: the link answered to eight reads and eight offers, the moment is not
 -- before the last nor too large, and the turn told the commands that it noted.
 pub record IsTurn (h : Held) (t : DoneTurn) : Type 0 where
-  pub all_read : length t.script.readings ≡ 8
-  pub all_offered : length t.script.offers ≡ 8
+  pub all_read : length t.script.readings ≡ associations
+  pub all_offered : length t.script.offers ≡ associations
   pub in_time : IsInTime t.now h
   pub commands : t.told.commands ≡ (after_turn t.now t.line t.script h).noted.commands
 

@@ -6,6 +6,7 @@ ghost use Rattle.bay_io.specs.Watched.{Writing};
 ghost use Rattle.bay_io.specs.declared.outbox.WriteFault.{WriteFault};
 ghost use Rattle.bay_device.specs.Load.{IsCompiled, IsLoaded};
 ghost use Rattle.bay_device.specs.Meaning.{Runs};
+ghost use Rattle.bay_device.specs.Outcomes.{associations};
 ghost use Rattle.bay_report.specs.Load.{LoadsTo, file_of, text_of};
 ghost use Rattle.bay_report.specs.declared.load.Form.{Form};
 ghost use Rattle.bay_report.specs.declared.load.Form.TheVariants.{Logic};
@@ -37,7 +38,7 @@ pub fn all_turns_are_one_run<L: Link, H: Host<L>, W: Sink>(_link: &L, _host: &H,
     // A server is served as it is made, of a device that was just loaded.
     ensures begins { (bay : List ℕ) (form : Form) (program : List ℕ) (device : State)
         → LoadsTo bay form program (Ok device)
-        → IsBegun (record { device = device; queues = replicate 8 [] }) }
+        → IsBegun (record { device = device; queues = replicate associations [] }) }
     // A device that was loaded from a program's text runs it.
     ensures runs { (bay program : List ℕ) (device : State) → LoadsTo bay Logic program (Ok device)
         → (loaded : IsLoaded (file_of bay) (IsCompiled (text_of program)) device)
@@ -63,8 +64,8 @@ pub fn each_command_is_asked_for<L: Link, H: Host<L>, W: Sink>(_link: &L, _host:
 
 /// Each line that a server prints for its turns, or tells its process, and that reads as a command,
 /// `ms command id on` (or `off`), is of a command of that turn, at the turn's moment, to the switch
-/// with this id, behind which the client's octets, the success sent to it and the scan of an earlier
-/// turn stand.
+/// with this id, behind which the client's octets, the success sent to it and the scan of an
+/// earlier turn stand.
 pub fn printed_commands_are_asked_for<L: Link, H: Host<L>, W: Sink>(_link: &L, _host: &H, _sink: &W)
     ensures lines { (turns : ℕ) (lines : List (ℕ × List ℕ)) (before : Serving L H)
         (old new : Writing W) (host : H) (answer : Result ℕ WriteFault)

@@ -1,6 +1,7 @@
 // A link over the sockets of the system, call by call, with clients on 127.0.0.1, and the system's
 // clock.
 ghost use Rattle.std.specs.Prelude.{◌<◌, ◌≤◌};
+ghost use Rattle.bay_device.specs.Outcomes.{associations};
 
 use crate::sockets::{client_of, link_at, read_some};
 use bay_main::host::{Host, SystemHost};
@@ -23,7 +24,7 @@ fn take<C: Clock>(
     association: u16,
 ) -> Result<bool, Fail>
     requires low { 0 < association }
-    requires high { association ≤ 8 }
+    requires high { association ≤ associations }
 {
     for _ in 0..2000 {
         if let Ok(Some(_)) = link.accept(association) {

@@ -1,6 +1,7 @@
 // What a client sends, and what it is answered: a request for a transport connection, one for an
 // association, and an identify.
 ghost use Rattle.std.specs.Prelude.{◌≡◌, None, replicate};
+ghost use Rattle.bay_device.specs.Outcomes.{associations};
 
 use bay_device::device::Device;
 use bay_device::load::load;
@@ -47,7 +48,7 @@ pub fn has_octets(alloc: Global, octets: &[u8], texts: &[&str]) -> Result<bool, 
 
 // Creates a server of a device.
 fn server_of(alloc: Global, device: Device) -> Result<Server, Fail>
-    requires closed { device.connections ≡ replicate 8 None }
+    requires closed { device.connections ≡ replicate associations None }
 {
     match Server::new(alloc, device) {
         Ok(server) => Ok(server),
