@@ -22,11 +22,11 @@ fn digit(truth: bool) -> u8
     b'0' + u8::from(truth)
 }
 
-// Returns the two digits that say whether a switch may be opened and closed.
-fn digits(opens: bool, closes: bool) -> [u8; 2]
-    ensures { result ≡ digit_of opens ++ digit_of closes }
+// Returns what says behind a switch's id whether it may be opened and closed.
+fn enabled(opens: bool, closes: bool) -> [u8; 3]
+    ensures { result ≡ codes "=" ++ (digit_of opens ++ digit_of closes) }
 {
-    [digit(opens), digit(closes)]
+    [b'=', digit(opens), digit(closes)]
 }
 
 // Writes a switch's part of a scan's line: its id, and whether it may be opened and closed.
@@ -35,8 +35,7 @@ fn put_switch<W: Sink>(writer: &mut WatchedWriter<W>, id: &str, opens: bool, clo
 {
     writer.put(b" ");
     writer.put_short(id.as_bytes());
-    writer.put(b"=");
-    writer.put(digits(opens, closes).as_slice());
+    writer.put(enabled(opens, closes).as_slice());
 }
 
 // Writes the part of a scan's line for the switch at an index, if there is one.

@@ -18,6 +18,7 @@ pub mod TurnFlows
 pub mod ClosingLemmas
 pub mod RoomLemmas
 pub mod CauseLemmas
+pub mod PlainLemmas
 pub mod CauseFlows
 pub mod OpenFlows
 pub mod FullFlows

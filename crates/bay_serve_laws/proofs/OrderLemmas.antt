@@ -19,11 +19,11 @@ use Rattle.bay_serve.specs.declared.told.Closing.TheVariants as closing
 use Rattle.bay_serve_laws.specs.Causes.{fails_for, has_some, is_queue_full, tells}
 use Rattle.bay_serve_laws.specs.Events.{ChosenEvent, accept_events, accept_events_at, closing_of, events_of_each, failed_events, heard_events, line_events, offer_events, read_events, scan_events, settled_events, settled_in_events, settled_next_events, surely}
 use Rattle.bay_serve_laws.specs.Order.{AreClosings, AreInOrder, IsClosing, IsInOrder, Then, ThenReads, brought, opened_at, read_at, told_at}
-use Rattle.bay_serve_laws.proofs.CauseFlows.{offer-fails}
 use Rattle.bay_serve_laws.proofs.ClosingLemmas.{Grown, Grown-refl, Grown-trans, grown-kept}
 use Rattle.bay_serve_laws.proofs.CutLemmas.{closing-puts}
 use Rattle.bay_serve_laws.proofs.KeepLemmas.{Each, keep-cut, keep-each, keep-hung, keep-line, keep-offer, keep-on-accept, keep-read, keep-scan, keep-settled-in, keep-stepped, keep-taken, keep-told}
 use Rattle.bay_serve_laws.proofs.PartLemmas.{Part, Part-heard, Part-line, Part-on_accept, Part-scan}
+use Rattle.bay_serve_laws.proofs.PlainLemmas.{offer-fails}
 use Rattle.bay_serve_laws.proofs.PutLemmas.{Puts}
 use Rattle.bay_serve_laws.proofs.StandingLemmas.{full-is}
 use Rattle.bay_serve_laws.proofs.TellsLemmas.{some-append, tells-now}
