@@ -62,7 +62,8 @@ plain-settling a now s = all 8 s
     all zero s = plain-nil a
     all (suc count) s = next (first_full s.noted) s (settling_in now count) (all count)
 
-pub plain-accept : (a now : ℕ) (place : Option ℕ) (taken : Option (Option SocketAddrV4)) (s : Turning)
+pub plain-accept : (a now : ℕ) (place : Option ℕ) (taken : Option (Option SocketAddrV4))
+    (s : Turning)
     → IsPlain a (accept_calls_at now place taken s)
 plain-accept a now None taken s = plain-nil a
 plain-accept a now (Some place) None s = record { fails = refl; ends = refl }
@@ -70,7 +71,8 @@ plain-accept a now (Some place) (Some None) s = record { fails = refl; ends = re
 plain-accept a now (Some place) (Some (Some from)) s =
     plain-call a _ _ refl refl (plain-settling a now (after_opening now place s))
 
-pub plain-line : (a now : ℕ) (line : Option ProcessEvent) (s : Turning) → IsPlain a (line_calls now line s)
+pub plain-line : (a now : ℕ) (line : Option ProcessEvent) (s : Turning)
+    → IsPlain a (line_calls now line s)
 plain-line a now None s = plain-nil a
 plain-line a now (Some event) s = plain-settling a now (told_of now event s)
 
@@ -156,7 +158,8 @@ other-named p place None ne own = refl
 other-named p place (Some c) ne own =
     ap (λ b. cond b (c.1 ∷ []) []) (ap (λ a. a == p + 1) own ∙ other-number place p ne)
 
-pub other-closes : (p now place : ℕ) (choice : Option ℕ) (heard : ReadOutcome) (s : Turning) → place ≢ p
+pub other-closes : (p now place : ℕ) (choice : Option ℕ) (heard : ReadOutcome) (s : Turning)
+    → place ≢ p
     → reasons_of (p + 1)
     (done_at now (heard_events now place choice heard s) s.server.device).answers ≡ []
 other-closes p now place choice (Octets octets) s ne =
