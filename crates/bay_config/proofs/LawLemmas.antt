@@ -15,12 +15,13 @@ use Rattle.bay_config.specs.declared.fault.BayFault.TheVariants.{MissingKey, Bad
 use Rattle.bay_config.specs.declared.names.NameSection.{NameSection}
 use Rattle.bay_config.specs.declared.names.NameSection.TheVariants.{Input, Meter}
 use Rattle.bay_config.specs.Bay.{bay_section, switch_section, name_section, most_names, name_in, name_keys, sections, switches_in, names_in, bay_table, nameplate_in, bay_in, bay_of_table, file_refusal}
-use Rattle.bay_config.specs.Key.{Key, first_of, is_among, unknown_refusal, refused_if}
+use Rattle.bay_config.specs.Key.{Key, is_among, unknown_refusal, refused_if}
 use Rattle.bay_config.specs.Laws.{IsOwned, IsBay}
 use Rattle.bay_config.specs.Point.{points_of, points_from, inputs_from, meter_points, meters_from, points_of_all, has_twin, names_refusal}
 use Rattle.bay_config.specs.Section.{are_tables, count_of, tables_of, items_at, items_refusal, list_refusal, section_refusal, section_tables}
 use Rattle.bay_config.specs.Switch.{switch_keys, switch_in}
 use Rattle.bay_config.proofs.KeyLemmas.{judged-Ok}
+use Rattle.bay_config.proofs.PassedLemmas.{none-first}
 use Rattle.bay_nodes.proofs.NumberLemmas.{rows-make-tree}
 use Rattle.bay_nodes.proofs.PathLemmas.{AllDiffer}
 
@@ -157,11 +158,6 @@ all-owned ss is ms =
     (All-from_recursion (IsOwned ss is ms) (meters_from 0 ms) (own-meters ss is ms 0 ms refl)))
 
 -- what checks without a refusal say
-first_of-None : (check : Option BayFault) (rest : List (Option BayFault))
-    → first_of (check ∷ rest) ≡ None → (check ≡ None) × (first_of rest ≡ None)
-first_of-None None rest h = (refl, h)
-first_of-None (Some e) rest h = cc
-
 refused_if-None : (b : Bool) (e : BayFault) → refused_if b e ≡ None → b ≡ false
 refused_if-None true e h = cc
 refused_if-None false e h = refl
@@ -185,9 +181,9 @@ record AreCounted (least most : ℕ) (tables : List Members) : Type 0 where
 items-counts : (least most : ℕ) (keys : Members → List Key) (items : Items)
     → items_refusal least most keys items ≡ None → AreCounted least most (tables_of items)
 items-counts least most keys items h =
-    let one = first_of-None (refused_if (nat_lt (count_of items) least) MissingKey) _ h in
-    let two = first_of-None (refused_if (not (are_tables items)) BadValue) _ one.1 in
-    let three = first_of-None (refused_if (nat_lt most (count_of items)) TooMany) _ two.1 in
+    let one = none-first (refused_if (nat_lt (count_of items) least) MissingKey) _ h in
+    let two = none-first (refused_if (not (are_tables items)) BadValue) _ one.1 in
+    let three = none-first (refused_if (nat_lt most (count_of items)) TooMany) _ two.1 in
     let enough = ltb-false (count_of items) least (refused_if-None _ MissingKey one.0) in
     let few = ltb-false most (count_of items) (refused_if-None _ TooMany three.0) in
     let same = count-tables items (not-false _ (refused_if-None _ BadValue two.0)) in
@@ -225,13 +221,13 @@ sound-bay f h =
     let inputs = section_refusal f (name_section Input) in
     let meters = section_refusal f (name_section Meter) in
     let one =
-    first_of-None (unknown_refusal (map (λ section. section.name) sections) f)
+    none-first (unknown_refusal (map (λ section. section.name) sections) f)
     (bay ∷ switches ∷ inputs ∷ meters ∷ names ∷ []) h in
-    let two = first_of-None bay (switches ∷ inputs ∷ meters ∷ names ∷ []) one.1 in
-    let three = first_of-None switches (inputs ∷ meters ∷ names ∷ []) two.1 in
-    let four = first_of-None inputs (meters ∷ names ∷ []) three.1 in
-    let five = first_of-None meters (names ∷ []) four.1 in
-    let six = first_of-None names [] five.1 in
+    let two = none-first bay (switches ∷ inputs ∷ meters ∷ names ∷ []) one.1 in
+    let three = none-first switches (inputs ∷ meters ∷ names ∷ []) two.1 in
+    let four = none-first inputs (meters ∷ names ∷ []) three.1 in
+    let five = none-first meters (names ∷ []) four.1 in
+    let six = none-first names [] five.1 in
     let counts = list-counts 1 32 switch_keys (items_at (get_member (codes "switch") f)) three.0 in
     let long : length ss ≡ length (section_tables f switch_section) =
     length-map (section_tables f switch_section) switch_in in
@@ -240,7 +236,7 @@ sound-bay f h =
     let few_inputs : length is ≤ 64 = names-counts f Input four.0 in
     let few_meters : length ms ≤ 8 = names-counts f Meter five.0 in
     let twin =
-    first_of-None (refused_if (has_twin (names_of (points_of_all ss is ms))) DuplicateName) _
+    none-first (refused_if (has_twin (names_of (points_of_all ss is ms))) DuplicateName) _
     six.0 in
     let differ =
     AllDiffer-from_twin (names_of (points_of_all ss is ms))

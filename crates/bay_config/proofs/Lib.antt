@@ -5,5 +5,6 @@ pub mod ListLemmas
 pub mod NameLemmas
 pub mod NamedLemmas
 pub mod NameplateLemmas
+pub mod PassedLemmas
 pub mod PointLemmas
 pub mod SwitchLemmas

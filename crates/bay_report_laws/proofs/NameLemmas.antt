@@ -1,19 +1,16 @@
 -- The ids of a bay's switches have no space, no `=` and no LF.
-use Rattle.std.proofs.Common.{◌≡◌, ℕ, ◌==◌, Bool, true, false, not, ◌&&◌, cond, nat_le, List, [], ◌∷◌, ◌++◌, length, map, codes, Option, Some, None, Result, Ok, Err, option_and_then, unwrap_or, refl, ap, ap₂, sym, subst}
+use Rattle.std.proofs.Common.{◌≡◌, ℕ, ◌==◌, Bool, true, false, not, ◌&&◌, cond, nat_le, List, [], ◌∷◌, ◌++◌, length, map, codes, Option, Some, None, Result, Ok, Err, option_and_then, unwrap_or, refl, ap, ap₂, subst}
 use Rattle.std.proofs.lemmas.Bool.{and_parts, eqb-true}
 use Rattle.std.specs.List.{list_all}
 use Rattle.std.specs.Str.{is_utf8}
-use Rattle.toml.specs.Data.{Data, Items, Members, as_str, get_member, no_items}
-use Rattle.bay_config.specs.Bay.{bay_in, bay_of, bay_of_document, bay_section, document_of, file_refusal, name_section, names_in, sections, switch_section, switches_in}
-use Rattle.bay_config.specs.Key.{Key, begins_with_letter, entry_refusal, first_of, held_refusal, identifier, is_identifier, is_name_character, key_refusal, passes, unknown_refusal}
-use Rattle.bay_config.specs.Point.{names_refusal, points_of_all}
-use Rattle.bay_config.specs.Section.{items_at, list_checks, list_refusal, section_refusal, tables_of}
+use Rattle.toml.specs.Data.{Data, Members, as_str, get_member}
+use Rattle.bay_config.specs.Bay.{bay_of}
+use Rattle.bay_config.specs.Key.{Key, begins_with_letter, entry_refusal, held_refusal, identifier, is_identifier, is_name_character, key_refusal, passes, unknown_refusal}
 use Rattle.bay_config.specs.Switch.{control_key, control_of, id_key, kind_key, switch_in, switch_keys, time_keys}
 use Rattle.bay_config.specs.declared.bay.Bay.{Bay}
 use Rattle.bay_config.specs.declared.fault.BayFault.{BayFault}
-use Rattle.bay_config.specs.declared.fault.BayFault.TheVariants.{BadToml, BadValue}
-use Rattle.bay_config.specs.declared.names.NameSection.TheVariants.{Input, Meter}
-use Rattle.bay_config.proofs.KeyLemmas.{judged-Ok}
+use Rattle.bay_config.specs.declared.fault.BayFault.TheVariants.{BadToml}
+use Rattle.bay_config.proofs.PassedLemmas.{accepted-is, none-first, switches-pass}
 use Rattle.bay_report_laws.specs.ReadBack.{HaveIds}
 use Rattle.bay_report_laws.proofs.LineLemmas.{free}
 use Rattle.bay_report_laws.proofs.ReadLemmas.{IsPlain}
@@ -46,27 +43,10 @@ name-plain most s is =
 
 -- ---- a table
 
--- no check of some refuses
-none-first : (check : Option BayFault) (rest : List (Option BayFault))
-    → first_of (check ∷ rest) ≡ None → (check ≡ None) × (first_of rest ≡ None)
-none-first None rest none = (refl, none)
-none-first (Some fault) rest none = absurd cc
-
-none-behind : (checks rest : List (Option BayFault)) → first_of (checks ++ rest) ≡ None
-    → first_of rest ≡ None
-none-behind [] rest none = none
-none-behind (None ∷ checks) rest none = none-behind checks rest none
-none-behind (Some fault ∷ checks) rest none = absurd cc
-
 text-named : (o : Option (List ℕ)) → passes (is_identifier 16) o ≡ true
     → is_identifier 16 (unwrap_or o []) ≡ true
 text-named None passed = absurd cc
 text-named (Some s) passed = passed
-
-accepted-is : (accepted : Bool)
-    → (let o : Option BayFault = cond accepted None (Some BadValue) in o) ≡ None → accepted ≡ true
-accepted-is true none = refl
-accepted-is false none = absurd cc
 
 held-named : (o : Option Data) → held_refusal (identifier 16) o ≡ None
     → is_identifier 16 (unwrap_or (option_and_then as_str o) []) ≡ true
@@ -86,50 +66,11 @@ table-named t none =
 
 -- ---- a file
 
-abbrev switch_refusal : Members → Option BayFault
-switch_refusal t = entry_refusal (switch_keys t) t
-
-tables-named : (ts : List Members) → first_of (map switch_refusal ts) ≡ None
-    → HaveIds (map switch_in ts)
-tables-named [] none = tt
-tables-named (t ∷ ts) none =
-    let parts = none-first (switch_refusal t) (map switch_refusal ts) none in
-    (table-named t parts.0, tables-named ts parts.1)
-
-list-named : (o : Option Items) → list_refusal 1 32 switch_keys o ≡ None
-    → HaveIds (map switch_in (tables_of (unwrap_or o no_items)))
-list-named None none = absurd cc
-list-named (Some items) none =
-    tables-named (tables_of items)
-    (none-behind (list_checks 1 32 items) (map switch_refusal (tables_of items)) none)
-
-file-named : (file : Members) → file_refusal file ≡ None → HaveIds (switches_in file)
-file-named file none =
-    let names =
-    names_refusal (points_of_all (switches_in file) (names_in file Input) (names_in file Meter))
-    in
-    let bay = section_refusal file bay_section in
-    let switches = section_refusal file switch_section in
-    let inputs = section_refusal file (name_section Input) in
-    let meters = section_refusal file (name_section Meter) in
-    let one =
-    none-first (unknown_refusal (map (λ section. section.name) sections) file)
-    (bay ∷ switches ∷ inputs ∷ meters ∷ names ∷ []) none in
-    let two = none-first bay (switches ∷ inputs ∷ meters ∷ names ∷ []) one.1 in
-    let three = none-first switches (inputs ∷ meters ∷ names ∷ []) two.1 in
-    list-named (items_at (get_member (codes "switch") file)) three.0
-
-document-named : (o : Option Members) (bay : Bay) → bay_of_document o ≡ Ok bay
-    → HaveIds bay.switches
-document-named None bay is = absurd cc
-document-named (Some file) bay is =
-    let parts = judged-Ok (file_refusal file) (bay_in file) bay (sym is) in
-    subst (λ (b : Bay). HaveIds b.switches) (sym parts.1) (file-named file parts.0)
-
 utf8-named : (u : Bool) (text : List ℕ) (bay : Bay)
     → (let r : Result Bay BayFault = cond u (bay_of text) (Err BadToml) in r) ≡ Ok bay
     → HaveIds bay.switches
-utf8-named true text bay is = document-named (document_of text) bay is
+utf8-named true text bay is =
+    switches-pass HaveIds tt (λ t ss none rest. (table-named t none, rest)) text bay is
 utf8-named false text bay is = absurd cc
 
 pub bay-named : (text : List ℕ) (bay : Bay)
