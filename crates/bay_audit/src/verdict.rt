@@ -13,6 +13,7 @@ use crate::demand::{Demand, Goal};
 use crate::outlook::{Outlook, asked_of};
 use crate::split::undecided;
 use bay_config::bay::{Source, SwitchPoint};
+use bay_process::bind::output_place;
 use bay_rules::rule::RuleKind;
 use il_image::image::ImagePoint;
 use il_range::range::Range;
@@ -49,27 +50,11 @@ fn way(close: bool) -> SwitchPoint
     }
 }
 
-// Returns whether a source is this point of the switch at an index.
-fn is_point(source: Source, switch: usize, point: SwitchPoint) -> bool
-    ensures { result ≡ spec_values.is_point switch point source }
-{
-    match source {
-        Source::Switch {
-            switch: at,
-            point: which,
-        } => at == switch && which == point,
-        Source::Input { .. } | Source::Meter { .. } => false,
-    }
-}
-
 /// Returns the place of a release among the writable points, if the program names it.
 pub(crate) fn release_place(writes: &[Source], switch: usize, close: bool) -> Option<usize>
     ensures { result ≡ position (spec_values.is_point switch (spec.way close)) writes.now }
 {
-    let point = way(close);
-    writes
-        .iter()
-        .position(|source| is_point(*source, switch, point))
+    output_place(writes, switch, way(close))
 }
 
 // Returns the ranges of the writable points.

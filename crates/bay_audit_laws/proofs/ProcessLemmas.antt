@@ -1,18 +1,16 @@
 -- What the process reports, and what goes by it.
-use Rattle.std.proofs.Common.{◌≡◌, ℕ, Bool, false, List, [], ◌∷◌, ◌++◌, map, get_or, slice_get, unwrap_or, Option, Some, None, refl, ap, ap₂, ◌∙◌, arith}
+use Rattle.std.proofs.Common.{◌≡◌, ℕ, Bool, false, List, [], ◌∷◌, map, slice_get, unwrap_or, Option, Some, None, refl, ap, ap₂, ◌∙◌}
 use Rattle.bay_config.specs.declared.bay.MeterField.{MeterField}
 use Rattle.bay_config.specs.declared.bay.Source.{Source}
 use Rattle.bay_config.specs.declared.bay.Source.TheVariants as source
 use Rattle.bay_config.specs.declared.bay.SwitchPoint.{SwitchPoint}
 use Rattle.bay_config.specs.declared.bay.SwitchPoint.TheVariants.{Position, Open, Closed, EnableOpen, EnableClose}
 use Rattle.bay_nodes.specs.Names.{meter_names}
-use Rattle.bay_nodes.specs.Node.{class_of, node_name, node_number}
+use Rattle.bay_nodes.specs.Node.{node_number}
 use Rattle.bay_nodes.specs.declared.switch.Switch.{Switch}
-use Rattle.bay_nodes.specs.declared.switch.SwitchKind.{SwitchKind}
-use Rattle.bay_nodes.specs.declared.switch.SwitchKind.TheVariants.{Breaker, Disconnector, Earthing}
 use Rattle.bay_process.specs.Names.{field_names}
 use Rattle.bay_process.specs.Values.{measure_leaf, number_of_leaf, position_leaf, position_value, with_outputs}
-use Rattle.bay_process.proofs.ToldLemmas.{IsAway, field-away}
+use Rattle.bay_process.proofs.ToldLemmas.{IsAway, away-position, field-away}
 use Rattle.bay_rules.specs.Process.{Process, after_item, after_items, holds, same_position, stands, top}
 use Rattle.bay_rules.specs.declared.rule.Item.{Item}
 use Rattle.bay_rules.specs.declared.rule.Item.TheVariants as items
@@ -113,14 +111,6 @@ pub inputs-read : (s : State) (reads : List Source) → s.reads ≡ reads
 inputs-read s reads is = points-read s s.reads ∙ ap (map (process_value (process_of s))) is
 
 -- ---- what a scan leaves
-
-away-position : (kind : SwitchKind) (n : ℕ) (t : List ℕ) → IsAway (node_name (class_of kind) n ++ t)
-away-position Breaker n t k s e = let first : 67 ≡ 88 =
-    ap (λ l. get_or l 0 0) e in omega (arith, first)
-away-position Disconnector n t k s e = let first : 67 ≡ 88 =
-    ap (λ l. get_or l 0 0) e in omega (arith, first)
-away-position Earthing n t k s e = let first : 67 ≡ 88 =
-    ap (λ l. get_or l 0 0) e in omega (arith, first)
 
 module _ (s t : State) (writes : List Source) (outputs : List Value) (now : ℕ)
     (rows : t.rows ≡ with_outputs s.switches writes outputs now 0 s.switches s.rows)

@@ -1,21 +1,17 @@
 -- The terms on which a PDU of a client is answered: a size of TPDUs is agreed, and one of PDUs, of
 -- at most 65,000 octets.
-use Rattle.std.proofs.Common.{◌≡◌, ◌≤◌, ℕ, ℤ, pos, negsuc, Bool, true, false, cond, nat_lt, min, List, [], ◌∷◌, ◌++◌, drop, Option, Some, None, Result, Ok, Err, IsSome, refl, arith, ◌==◌}
+use Rattle.std.proofs.Common.{◌≡◌, ◌≤◌, ℕ, ℤ, pos, negsuc, Bool, true, false, cond, nat_lt, min, List, [], ◌∷◌, ◌++◌, drop, Option, Some, None, Result, Ok, Err, IsSome, refl, arith}
 use Rattle.bay_base.specs.Options.{◌>>=◌}
 use Rattle.bay_mms.specs.declared.request.Proposal.{Proposal}
 use Rattle.bay_mms.specs.declared.response.Agreed.{Agreed}
 use Rattle.bay_mms.specs.Grammar.{initiate_in}
 use Rattle.bay_base.specs.Results.{◌>>=◌ as ◌>>◌}
-use Rattle.bay_transport.specs.declared.fault.TransportFault.{TransportFault}
-use Rattle.bay_transport.specs.declared.fault.TransportFault.TheVariants.{BadCotp}
 use Rattle.bay_transport.specs.declared.frame.Front.{Front}
 use Rattle.bay_transport.specs.declared.frame.Front.TheVariants.{Begun, NoFrame, Whole}
-use Rattle.bay_transport.specs.declared.frame.Tpdu.{Tpdu}
-use Rattle.bay_transport.specs.declared.frame.Tpdu.TheVariants.{Request, Data, Release, Unknown}
-use Rattle.bay_transport.specs.Frame.{front_of, tpdu_of, cut_of}
-use Rattle.bay_transport.specs.Connect.{Confirmation}
-use Rattle.bay_transport.specs.Doings.{Doing, Answers, Delivers, Ends, Fails, TransportConnection, Left, Going, Over, Broken, Run, TpduEffect, Joins, Finishes, Agrees, Closes, Refuses, connect_effect as connected_effect, data_effect, kind_effect, tpdu_effect, effect_of, connection_after, on_effect, at_rest, frames_run, run_of, Stream, doings, after}
+use Rattle.bay_transport.specs.Frame.{front_of, cut_of}
+use Rattle.bay_transport.specs.Doings.{Doing, Answers, Delivers, Ends, Fails, TransportConnection, Left, Going, Over, Broken, Run, TpduEffect, Joins, Finishes, Agrees, Closes, Refuses, effect_of, connection_after, on_effect, at_rest, frames_run, run_of, Stream, doings, after}
 use Rattle.bay_transport.specs.Feeding.{agreed_from, size_agreed}
+use Rattle.bay_transport.proofs.SizeLemmas.{Gathers, tpdu-sized}
 use Rattle.bay_assoc.specs.declared.fault.AssocFault.{AssocFault}
 use Rattle.bay_assoc.specs.declared.fault.AssocFault.TheVariants as fault
 use Rattle.bay_assoc.specs.declared.hearing.Accepted.{Accepted}
@@ -33,43 +29,6 @@ use Rattle.bay_assoc.specs.Sized.{IsSized}
 use Rattle.bay_connection.specs.Talk.{Indication, Talk, Told, answers, tells, releases, ends, fails, comes_to, indications, left_by, on_heard, on_hearing, talk_after}
 
 -- ---- a TSDU comes where a size is agreed
-
--- its data join a group or complete it
-abbrev Gathers : TpduEffect → Type 0
-Gathers (Joins group) = Unit {0}
-Gathers (Finishes group) = Unit {0}
-Gathers (Agrees size reply) = ⊥
-Gathers Closes = ⊥
-Gathers (Refuses fault) = ⊥
-
-connected-not : (c : Result Confirmation TransportFault) → Gathers (connected_effect c) → ⊥
-connected-not (Ok c) h = h
-connected-not (Err fault) h = h
-
-data-sized : (size : Option ℕ) (group : List ℕ) (indicator : ℕ) (octets : List ℕ)
-    → Gathers (data_effect (record { size = size; group = group }) indicator octets) → IsSome size
-data-sized size group indicator [] h = absurd h
-data-sized (Some size) group indicator (mark ∷ octets) h = refl
-data-sized None group indicator (mark ∷ octets) h =
-    absurd (elim (indicator == 2) as
-    (λ b. Gathers (cond b (Refuses BadCotp) (Refuses BadCotp)) → ⊥)
-    [ true ↦ λ k. k | false ↦ λ k. k ] h)
-
-kind-sized : (number : ℕ) (connection : TransportConnection) (kind : Tpdu) (indicator : ℕ)
-    (octets : List ℕ) → Gathers (kind_effect number connection kind indicator octets)
-    → IsSome connection.size
-kind-sized number connection Request indicator octets h = absurd (connected-not _ h)
-kind-sized number connection Data indicator octets h =
-    data-sized connection.size connection.group indicator octets h
-kind-sized number connection Release indicator octets h = absurd h
-kind-sized number connection Unknown indicator octets h = absurd h
-
-tpdu-sized : (number : ℕ) (connection : TransportConnection) (tpdu : List ℕ)
-    → Gathers (tpdu_effect number connection tpdu) → IsSome connection.size
-tpdu-sized number connection [] h = absurd h
-tpdu-sized number connection (indicator ∷ []) h = absurd h
-tpdu-sized number connection (indicator ∷ code ∷ octets) h =
-    kind-sized number connection (tpdu_of code) indicator octets h
 
 -- each TSDU of these doings comes where a size is agreed, before them or among them
 abbrev AreSized : Option ℕ → List Doing → Type 0

@@ -120,7 +120,7 @@ same-node k i s t few less e =
 abbrev pub IsAway : List ℕ → Type 0
 IsAway other = (k : ℕ) (s : List ℕ) → interlocking_of k ++ s ≢ other
 
-away-position : (kind : SwitchKind) (n : ℕ) (t : List ℕ) → IsAway (node_name (class_of kind) n ++ t)
+pub away-position : (kind : SwitchKind) (n : ℕ) (t : List ℕ) → IsAway (node_name (class_of kind) n ++ t)
 away-position Breaker n t k s e = let first : 67 ≡ 88 =
     ap (λ l. get_or l 0 0) e in omega (arith, first)
 away-position Disconnector n t k s e = let first : 67 ≡ 88 =

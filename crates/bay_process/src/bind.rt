@@ -67,8 +67,9 @@ fn is_point(source: Source, switch: usize, point: SwitchPoint) -> bool
     }
 }
 
-// Returns the place of a point of a switch among the sources, if it is there.
-fn output_place(writes: &[Source], switch: usize, point: SwitchPoint) -> Option<usize>
+/// Returns the place of a point of a switch among the sources of the writable points, if it is
+/// there.
+pub fn output_place(writes: &[Source], switch: usize, point: SwitchPoint) -> Option<usize>
     ensures { result ≡ position (spec.is_point switch point) writes.now }
 {
     writes

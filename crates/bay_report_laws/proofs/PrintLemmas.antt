@@ -113,7 +113,7 @@ order-free : (on : Bool) → free 10 (order_word on) ≡ true
 order-free true = refl
 order-free false = refl
 
-command-free : (now : ℕ) (id : List ℕ) (on : Bool) → IsPlain id
+pub command-free : (now : ℕ) (id : List ℕ) (on : Bool) → IsPlain id
     → free 10 (order_line now id on) ≡ true
 command-free now id on plain =
     free-append 10 (decimal now) (32 ∷ (codes "command" ++ 32 ∷ (id ++ 32 ∷ order_word on)))

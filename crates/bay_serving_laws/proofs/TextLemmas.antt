@@ -1,5 +1,5 @@
 -- What a turn prints is lines: of its commands, and others.
-use Rattle.std.proofs.Common.{◌≡◌, ◌⊎◌, ◌<◌, ◌≤◌, ◌^◌, ℕ, Bool, true, false, suc, List, [], ◌∷◌, ◌++◌, codes, slice_get, Option, Some, None, Result, Ok, Err, inl, inr, refl, ap, sym, subst, ◌∙◌, arith}
+use Rattle.std.proofs.Common.{◌≡◌, ◌⊎◌, ◌<◌, ◌≤◌, ◌^◌, ℕ, suc, List, [], ◌∷◌, ◌++◌, codes, slice_get, Option, Some, None, Result, Ok, Err, inl, inr, refl, ap, sym, subst, ◌∙◌, arith}
 use Rattle.std.specs.Fmt.{decimal}
 use Rattle.std.specs.List.{Contains}
 use Rattle.bay_config.specs.declared.bay.Bay.{Bay}
@@ -27,10 +27,10 @@ use Rattle.bay_report.specs.declared.load.Form.TheVariants.{Logic, Image}
 use Rattle.bay_replay.proofs.HistoryLemmas.{past-fixed}
 use Rattle.bay_report_laws.specs.Printed.{PrintedCommand, printed_command}
 use Rattle.bay_report_laws.specs.ReadBack.{HaveIds}
-use Rattle.bay_report_laws.proofs.LineLemmas.{AreLines, decimal-free, each-line, free, free-append, map-lines, more-lines, no-lines, one-line}
+use Rattle.bay_report_laws.proofs.LineLemmas.{AreLines, decimal-free, each-line, free-append, map-lines, more-lines, no-lines, one-line}
 use Rattle.bay_report_laws.proofs.NameLemmas.{bay-named, name-plain}
-use Rattle.bay_report_laws.proofs.PrintLemmas.{IsLineOf, closed-lines, command-is, id-at}
-use Rattle.bay_report_laws.proofs.ReadLemmas.{IsOther, IsPlain, command-read, no-end, no-space, order_line, order_word, other-line}
+use Rattle.bay_report_laws.proofs.PrintLemmas.{IsLineOf, closed-lines, command-free, command-is, id-at}
+use Rattle.bay_report_laws.proofs.ReadLemmas.{IsOther, command-read, no-end, no-space, order_line, other-line}
 use Rattle.bay_report_laws.proofs.WholeLemmas.{refused-whole}
 use Rattle.bay_serve.specs.Code.{code_of}
 use Rattle.bay_serve.specs.Turns.{Held}
@@ -56,17 +56,6 @@ record IsCommandLine (now : ℕ) (commands : List Command) (s : State) (line : L
   switch : Switch
   here : slice_get s.switches command.switch ≡ Some switch
   is : line ≡ order_line now switch.id command.on
-
-order-free : (on : Bool) → free 10 (order_word on) ≡ true
-order-free true = refl
-order-free false = refl
-
-command-free : (now : ℕ) (id : List ℕ) (on : Bool) → IsPlain id
-    → free 10 (order_line now id on) ≡ true
-command-free now id on plain =
-    free-append 10 (decimal now) (32 ∷ (codes "command" ++ 32 ∷ (id ++ 32 ∷ order_word on)))
-    (decimal-free 10 now no-end)
-    (free-append 10 id (32 ∷ order_word on) plain.no_end (order-free on))
 
 module _ (now : ℕ) (commands : List Command) (s : State) (ids : HaveIds s.switches) where
   abbrev Is : List ℕ → Type 0

@@ -13,8 +13,8 @@ use Rattle.bay_transport.specs.Feeding.{IsGoing, agreed_from, size_agreed, size_
 
 -- ---- one TPDU
 
--- Its data join a group or complete it.
-abbrev Gathers : TpduEffect → Type 0
+-- its data join a group or complete it
+abbrev pub Gathers : TpduEffect → Type 0
 Gathers (Joins group) = Unit {0}
 Gathers (Finishes group) = Unit {0}
 Gathers (Agrees size reply) = ⊥
@@ -44,7 +44,7 @@ kind-sized number connection Data indicator octets h =
 kind-sized number connection Release indicator octets h = absurd h
 kind-sized number connection Unknown indicator octets h = absurd h
 
-tpdu-sized : (number : ℕ) (connection : TransportConnection) (tpdu : List ℕ)
+pub tpdu-sized : (number : ℕ) (connection : TransportConnection) (tpdu : List ℕ)
     → Gathers (tpdu_effect number connection tpdu) → IsSome connection.size
 tpdu-sized number connection [] h = absurd h
 tpdu-sized number connection (indicator ∷ []) h = absurd h
