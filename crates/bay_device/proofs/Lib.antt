@@ -13,6 +13,7 @@ pub mod OperateLemmas
 pub mod ProcessLemmas
 pub mod RecvLemmas
 pub mod RunLemmas
+pub mod SameLemmas
 pub mod ScanLemmas
 pub mod SentLemmas
 pub mod TableLemmas

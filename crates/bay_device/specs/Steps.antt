@@ -56,6 +56,16 @@ abbrev pub Hears : ℕ → ℕ → List ℕ → Option Sent → State → Step �
 Hears now a octets ended s step new = (talk : Talk) → connection_at (place_of a) s ≡ Some talk
     → HearsFrom now a octets ended s talk step new
 
+-- an event of an association
+abbrev pub OfAssociation : Event → Type 0
+OfAssociation (Open a) = Unit {0}
+OfAssociation (Recv a octets) = Unit {0}
+OfAssociation (Close a) = Unit {0}
+OfAssociation (Contact k position) = ⊥
+OfAssociation (Input k value) = ⊥
+OfAssociation (Measure k field value) = ⊥
+OfAssociation Scan = ⊥
+
 -- an event that brings no octets takes no memory
 abbrev pub IsWithoutOctets : Event → Type 0
 IsWithoutOctets (Open a) = Unit {0}

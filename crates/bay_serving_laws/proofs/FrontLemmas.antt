@@ -5,8 +5,10 @@ use Rattle.std.specs.declared.net.socket_addr.SocketAddrV4.{SocketAddrV4}
 use Rattle.std.proofs.lemmas.List.Elements.{All-append, All-cons, All-head, All-nil, All-tail}
 use Rattle.bay_device.specs.Device.{State}
 use Rattle.bay_device.specs.Outcomes.{connection_at, outcome}
+use Rattle.bay_device.specs.Steps.{OfAssociation}
 use Rattle.bay_device.specs.declared.event.Event.{Event}
 use Rattle.bay_device.specs.declared.event.Event.TheVariants.{Open, Recv, Close, Contact, Input, Measure, Scan}
+use Rattle.bay_device.proofs.SameLemmas.{Same, same-outcome}
 use Rattle.bay_serve.specs.Calls.{ReadOutcome, Octets, Silence, Over, Broken}
 use Rattle.bay_serve.specs.Turns.{Held, Reading, Script, turn_calls, after_turn, event_of}
 use Rattle.bay_serve.specs.declared.process.ProcessEvent.{ProcessEvent}
@@ -16,8 +18,6 @@ use Rattle.bay_serve_laws.specs.Causes.{fails_for, has_some, is_queue_full, tell
 use Rattle.bay_serve_laws.specs.Events.{ChosenEvent, done_at, surely, turn_events}
 use Rattle.bay_serve_laws.specs.Order.{AreClosings, IsClosing, Then, ThenReads, brought, opened, opened_at, read_at, told_at}
 use Rattle.bay_serve_laws.proofs.OrderLemmas.{in-order}
-use Rattle.bay_serving_laws.specs.Orders.{OfAssociation}
-use Rattle.bay_serving_laws.proofs.SameLemmas.{Same, same-outcome}
 
 abbrev IsOf : ChosenEvent → Type 0
 IsOf e = OfAssociation e.1

@@ -12,6 +12,7 @@ use Rattle.bay_device.specs.Steps.{Steps}
 use Rattle.bay_device.specs.Told.{AreTalks}
 use Rattle.bay_device.proofs.CommandLemmas.{step-commanded}
 use Rattle.bay_device.proofs.EntryLemmas.{eight-places, leading}
+use Rattle.bay_device.proofs.FreshLemmas.{Tracks, tracks-event, tracks-first}
 use Rattle.bay_device.proofs.MeaningLemmas.{means-step}
 use Rattle.bay_device.proofs.RunLemmas.{Tells, tells-backed}
 use Rattle.bay_device.proofs.ToldLemmas.{idle-talks, telling}
@@ -20,7 +21,6 @@ use Rattle.bay_replay.proofs.BudgetLemmas.{step-halts}
 use Rattle.bay_replay.proofs.HistoryLemmas.{past-came, past-does, past-fixed, past-fresh, past-so, past-tells}
 use Rattle.bay_serve_laws.specs.Events.{ChosenEvent, done_at}
 use Rattle.bay_serving_laws.specs.Service.{IsOneRun, past_behind}
-use Rattle.bay_serving_laws.proofs.ScanLemmas.{Tracks, tracks-event, tracks-first}
 
 -- ---- a device, and all that has happened to it since it was the first
 

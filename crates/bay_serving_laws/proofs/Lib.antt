@@ -3,7 +3,6 @@ pub mod FrontLemmas
 pub mod HistoryLemmas
 pub mod OnceLemmas
 pub mod OrderLemmas
-pub mod SameLemmas
 pub mod ScanLemmas
 pub mod SentLemmas
 pub mod TextLemmas

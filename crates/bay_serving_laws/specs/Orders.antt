@@ -14,9 +14,9 @@ use Rattle.bay_device.specs.Commands.{IsReleasedAt}
 use Rattle.bay_device.specs.Device.{State, bay_of}
 use Rattle.bay_device.specs.Fresh.{HasScan, IsSameProcess, Past}
 use Rattle.bay_device.specs.Outcomes.{outcome, place_of}
+use Rattle.bay_device.specs.Steps.{OfAssociation}
 use Rattle.bay_device.specs.Told.{pdu_in, talk_at}
-use Rattle.bay_device.specs.declared.event.Event.{Event}
-use Rattle.bay_device.specs.declared.event.Event.TheVariants.{Open, Recv, Close, Contact, Input, Measure, Scan}
+use Rattle.bay_device.specs.declared.event.Event.TheVariants.{Recv}
 use Rattle.bay_device.specs.declared.event.Sent.{Sent}
 use Rattle.bay_device.specs.declared.event.Step.{Step}
 use Rattle.bay_serve.specs.Turns.{Held, turn_calls}
@@ -32,16 +32,6 @@ pub record IsReleasedBy (now age : ℕ) (past : List Past) (s : State) (command 
   pub enabled : is_truth true
       (leaf_of (releasing command.switch command.on) scan.scan.after.rows) ≡ true
   pub unchanged : IsSameProcess scan.scan.after s
-
--- an event of an association
-abbrev pub OfAssociation : Event → Type 0
-OfAssociation (Open a) = Unit {0}
-OfAssociation (Recv a octets) = Unit {0}
-OfAssociation (Close a) = Unit {0}
-OfAssociation (Contact k position) = ⊥
-OfAssociation (Input k value) = ⊥
-OfAssociation (Measure k field value) = ⊥
-OfAssociation Scan = ⊥
 
 -- Some octets stand among others.
 abbrev pub StandIn : List ℕ → List ℕ → Type 0

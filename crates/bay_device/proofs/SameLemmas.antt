@@ -5,12 +5,12 @@ use Rattle.bay_connection.specs.Talk.{Indication, Talk, indications, left_by}
 use Rattle.bay_device.specs.Device.{State, device_at}
 use Rattle.bay_device.specs.Hearing.{AllHeard, after_indications}
 use Rattle.bay_device.specs.Outcomes.{Outcome, close_outcome, connection_at, event_outcome, first_talk, last_moment, nothing_done, octets_outcome, open_outcome, outcome, place_of, recv_after, recv_outcome, refusal_of, with_connection, without_owner}
+use Rattle.bay_device.specs.Steps.{OfAssociation}
 use Rattle.bay_device.specs.declared.event.Event.{Event}
 use Rattle.bay_device.specs.declared.event.Event.TheVariants.{Open, Recv, Close, Contact, Input, Measure, Scan}
 use Rattle.bay_device.specs.declared.event.Why.{Why}
 use Rattle.bay_device.specs.declared.fault.StepFault.TheVariants.{MomentTooLarge, TimeWentBack}
 use Rattle.bay_device.proofs.CommandLemmas.{Makes, begins, makes-heard, notes_of}
-use Rattle.bay_serving_laws.specs.Orders.{OfAssociation}
 
 -- the values in the tree, the inputs and what is noted of scans are the same
 pub record Same (s t : State) : Type 0 where
