@@ -14,27 +14,29 @@ use Rattle.bay_audit.specs.declared.answer.Verdict.TheVariants as verdict
 use Rattle.bay_audit.specs.declared.case.Literal.{Literal}
 use Rattle.bay_audit.specs.declared.case.Test.{Test}
 use Rattle.bay_audit.proofs.SearchLemmas.{count-last, count-two, one_if, part, parts-count}
+use Rattle.bay_nodes.specs.declared.switch.Operation.{Operation}
+use Rattle.bay_nodes.specs.declared.switch.Operation.TheVariants as operations
 
 -- ---- what is told
 
-module _ (g : Program) (k : ℕ) (close : Bool) where
+module _ (g : Program) (k : ℕ) (operation : Operation) where
   pub verdict-told : (case : List Literal) (v : Verdict) (told : Told)
-      → IsVerdict g (demand k close) case v
-      → IsTurn v (let r : Result Told Test = Ok told in r) → IsToldOf g k close case told
+      → IsVerdict g (demand k operation) case v
+      → IsTurn v (let r : Result Told Test = Ok told in r) → IsToldOf g k operation case told
   verdict-told case verdict.Obeyed told is turn =
-      let same : told ≡ Released = cc in subst (IsToldOf g k close case) (sym same)
+      let same : told ≡ Released = cc in subst (IsToldOf g k operation case) (sym same)
       (λ p ip inside machine now slots timers image kept leaves.
       is p ip inside machine now slots timers image kept tt leaves)
   verdict-told case verdict.Broken told is turn =
-      let same : told ≡ Refused = cc in subst (IsToldOf g k close case) (sym same)
+      let same : told ≡ Refused = cc in subst (IsToldOf g k operation case) (sym same)
       (λ p ip inside machine now slots timers image kept leaves.
       is p ip inside machine now slots timers image kept tt leaves)
   verdict-told case (verdict.Open kept) told is turn =
-      let same : told ≡ Hangs kept = cc in subst (IsToldOf g k close case) (sym same) tt
+      let same : told ≡ Hangs kept = cc in subst (IsToldOf g k operation case) (sym same) tt
   verdict-told case (verdict.Split test) told is turn = absurd cc
 
-  pub told-more : (cases : List ToldCase) (c : ToldCase) → AreTold g k close cases
-      → IsToldOf g k close c.case c.told → AreTold g k close (cases ++ c ∷ [])
+  pub told-more : (cases : List ToldCase) (c : ToldCase) → AreTold g k operation cases
+      → IsToldOf g k operation c.case c.told → AreTold g k operation (cases ++ c ∷ [])
   told-more [] c all one = (one, tt)
   told-more (d ∷ cases) c all one = (all.0, told-more cases c all.1 one)
 
@@ -70,7 +72,8 @@ releases-more g [] r all one = (one, tt)
 releases-more g (q ∷ releases) r all one = (all.0, releases-more g releases r all.1 one)
 
 pub ways-more : (releases : List Release) (a b : Release) (k : ℕ)
-    → map way_of releases ≡ ways k → way_of a ≡ (k, false) → way_of b ≡ (k, true)
+    → map way_of releases ≡ ways k → way_of a ≡ (k, operations.Open)
+    → way_of b ≡ (k, operations.Close)
     → map way_of ((releases ++ a ∷ []) ++ b ∷ []) ≡ ways (k + 1)
 ways-more releases a b k all opens closes =
     rw add-one
@@ -78,5 +81,5 @@ ways-more releases a b k all opens closes =
     ∙ ap (λ ws. ws ++ way_of b ∷ []) (map-append way_of releases (a ∷ []))
     ∙ append_assoc (map way_of releases) (way_of a ∷ []) (way_of b ∷ [])
     ∙ ap (λ ws. ws ++ way_of a ∷ way_of b ∷ []) all
-    ∙ ap (λ (w : ℕ × Bool). ways k ++ w ∷ way_of b ∷ []) opens
-    ∙ ap (λ (w : ℕ × Bool). ways k ++ (k, false) ∷ w ∷ []) closes)
+    ∙ ap (λ (w : ℕ × Operation). ways k ++ w ∷ way_of b ∷ []) opens
+    ∙ ap (λ (w : ℕ × Operation). ways k ++ (k, operations.Open) ∷ w ∷ []) closes)

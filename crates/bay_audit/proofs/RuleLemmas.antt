@@ -21,13 +21,12 @@ use Rattle.il_scan.specs.Scans as scans
 use Rattle.bay_audit.specs.Cases.{is_in, range_of}
 use Rattle.bay_audit.specs.Conditions.{asked_of, includes, opposite, outlook_of}
 use Rattle.bay_audit.specs.Process.{IsProcess, process_value}
-use Rattle.bay_audit.specs.Rules.{Comes, IsMissed, Program, decide, goal_range, idle_range, is_asked, is_kept, is_lost, is_obeyed, range_at, range_there, reaches, way}
+use Rattle.bay_audit.specs.Rules.{Comes, IsMissed, Program, decide, goal_range, idle_range, is_asked, is_kept, is_lost, is_obeyed, range_at, range_there, reaches, releasing_point}
 use Rattle.bay_audit.specs.declared.demand.Demand.{Demand}
 use Rattle.bay_audit.specs.declared.demand.Goal.{Goal}
 use Rattle.bay_audit.specs.declared.demand.Goal.TheVariants as goals
 use Rattle.bay_audit.specs.declared.case.Literal.{Literal}
 use Rattle.bay_audit.specs.declared.outlook.Outlook.{Outlook}
-use Rattle.bay_audit.specs.declared.answer.Decision.{Decision}
 use Rattle.bay_audit.specs.declared.answer.Decision.TheVariants.{Obeyed, Lost, Unknown}
 use Rattle.bay_audit.proofs.CaseLemmas.{ranges-have}
 use Rattle.bay_audit.proofs.OutlookLemmas.{condition-included, of-both, of-opposite}
@@ -183,9 +182,9 @@ pub goal-told : (g : Program) (goal : Goal) (now : ℕ) (slots : List Value)
     (timers : List TimerState) (ranges : List Range) (limits : List (Option ℕ))
     → AreIn slots ranges → AreYoung now timers limits
     → Told (goal_range g.image.points g.writes ranges limits goal) (reaches g goal slots timers)
-goal-told g (goals.Release k close) now slots timers ranges limits h y =
+goal-told g (goals.Release k operation) now slots timers ranges limits h y =
     place-told (outputs_of g.image.points slots) (outputs_of g.image.points ranges)
-    (position (is_point k (way close)) g.writes)
+    (position (is_point k (releasing_point operation)) g.writes)
     (outputs-in g.image.points slots ranges h)
 goal-told g (goals.Idle n) now slots timers ranges limits h y = idle-told now timers limits n y
 

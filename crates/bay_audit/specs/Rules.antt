@@ -14,6 +14,8 @@ use Rattle.bay_rules.specs.declared.rule.Rule.{Rule}
 use Rattle.bay_rules.specs.declared.rule.RuleKind.{RuleKind}
 use Rattle.bay_rules.specs.declared.rule.RuleKind.TheVariants.{Never, Always}
 use Rattle.bay_rules.specs.declared.rule.Timing.{Timing}
+use Rattle.bay_nodes.specs.declared.switch.Operation.{Operation}
+use Rattle.bay_nodes.specs.declared.switch.Operation.TheVariants as operations
 use Rattle.il_image.specs.declared.image.ImagePoint.{ImagePoint}
 use Rattle.il_image.specs.declared.timer.TimerState.{TimerState}
 use Rattle.il_image.specs.declared.value.Value.{Value}
@@ -58,15 +60,16 @@ program_of bay image =
     program image (sources_of false bay.points image.points)
     (sources_of true bay.points image.points)
 
--- the point by which a direction is released
-abbrev pub way : Bool → SwitchPoint
-way true = EnableClose
-way false = EnableOpen
+-- the point by which an operation is released
+abbrev pub releasing_point : Operation → SwitchPoint
+releasing_point operations.Open = EnableOpen
+releasing_point operations.Close = EnableClose
 
 -- whether slots release the switch in this direction; they do not where the program does not name
 -- its point
-abbrev pub releases : Program → ℕ → Bool → List Value → Bool
-releases g k close slots = output_of k (way close) g.writes (outputs_of g.image.points slots)
+abbrev pub releases : Program → ℕ → Operation → List Value → Bool
+releases g k operation slots =
+    output_of k (releasing_point operation) g.writes (outputs_of g.image.points slots)
 
 -- ---- rules
 
@@ -78,7 +81,7 @@ is_obeyed Always true release = release
 
 -- slots and timers come to the goal: the switch is released, or no delay of the timer runs
 abbrev pub reaches : Program → Goal → List Value → List TimerState → Bool
-reaches g (goals.Release k close) slots timers = releases g k close slots
+reaches g (goals.Release k operation) slots timers = releases g k operation slots
 reaches g (goals.Idle n) slots timers = is_none (began_at n timers)
 
 -- something is demanded, while the process reports this
@@ -110,7 +113,7 @@ IsMissed g d case = (p : Process) → IsProcess p → is_in case p ≡ true → 
 abbrev pub plain_demand : Rule → Demand
 plain_demand rule = record {
   kind = rule.kind;
-  goal = goals.Release rule.switch rule.close;
+  goal = goals.Release rule.switch rule.operation;
   when = rule.when;
   unless = [];
   limits = [];
@@ -134,7 +137,7 @@ limit_of n time = replicate n None ++ Some time ∷ []
 abbrev pub late : Rule → ℕ → ℕ → Demand
 late rule time n = record {
   kind = Never;
-  goal = goals.Release rule.switch rule.close;
+  goal = goals.Release rule.switch rule.operation;
   when = rule.when;
   unless = [];
   limits = limit_of n time;
@@ -144,7 +147,7 @@ late rule time n = record {
 abbrev pub there : Rule → List Item → Demand
 there rule condition = record {
   kind = Never;
-  goal = goals.Release rule.switch rule.close;
+  goal = goals.Release rule.switch rule.operation;
   when = rule.when;
   unless = condition;
   limits = [];
@@ -208,23 +211,25 @@ AreRight g (r ∷ rules) [] = ⊥
 
 -- Each scan from what the process reports, in each state, releases the switch in this direction, or
 -- does not.
-abbrev pub Gives : Bool → Program → ℕ → Bool → Process → Type 0
-Gives b g k close p =
+abbrev pub Gives : Bool → Program → ℕ → Operation → Process → Type 0
+Gives b g k operation p =
     (machine : Held) (now : ℕ) (slots : List Value) (timers : List TimerState)
     → machine.image ≡ g.image → IsKept machine
-    → Leaves machine (map (process_value p) g.reads) now slots timers → releases g k close slots ≡ b
+    → Leaves machine (map (process_value p) g.reads) now slots timers
+    → releases g k operation slots ≡ b
 
 -- What is told of a case of a release is so.
-abbrev pub IsToldOf : Program → ℕ → Bool → List Literal → Told → Type 0
-IsToldOf g k close case Released =
-    (p : Process) → IsProcess p → is_in case p ≡ true → Gives true g k close p
-IsToldOf g k close case Refused =
-    (p : Process) → IsProcess p → is_in case p ≡ true → Gives false g k close p
-IsToldOf g k close case (Hangs kept) = Unit {0}
+abbrev pub IsToldOf : Program → ℕ → Operation → List Literal → Told → Type 0
+IsToldOf g k operation case Released =
+    (p : Process) → IsProcess p → is_in case p ≡ true → Gives true g k operation p
+IsToldOf g k operation case Refused =
+    (p : Process) → IsProcess p → is_in case p ≡ true → Gives false g k operation p
+IsToldOf g k operation case (Hangs kept) = Unit {0}
 
-abbrev pub AreTold : Program → ℕ → Bool → List ToldCase → Type 0
-AreTold g k close [] = Unit {0}
-AreTold g k close (c ∷ cases) = IsToldOf g k close c.case c.told × AreTold g k close cases
+abbrev pub AreTold : Program → ℕ → Operation → List ToldCase → Type 0
+AreTold g k operation [] = Unit {0}
+AreTold g k operation (c ∷ cases) =
+    IsToldOf g k operation c.case c.told × AreTold g k operation cases
 
 -- how many of the cases have a process
 abbrev pub told_count : List ToldCase → Process → ℕ
@@ -236,7 +241,7 @@ case_count cases p = count_by (λ case. is_in case p) cases
 -- The cases of a release are right, and each process is in just one of them, or in one of those
 -- that are left.
 pub record IsRelease (g : Program) (r : Release) : Type 0 where
-  pub told : AreTold g r.switch r.close r.cases.items
+  pub told : AreTold g r.switch r.operation r.cases.items
   pub one : (p : Process) → told_count r.cases.items p + case_count r.left.items p ≡ 1
 
 -- Each is so.
@@ -245,18 +250,18 @@ AreReleases g [] = Unit {0}
 AreReleases g (r ∷ releases) = IsRelease g r × AreReleases g releases
 
 -- what is released of so many switches: opening and closing of each
-abbrev pub ways : ℕ → List (ℕ × Bool)
+abbrev pub ways : ℕ → List (ℕ × Operation)
 ways zero = []
-ways (suc k) = ways k ++ (k, false) ∷ (k, true) ∷ []
+ways (suc k) = ways k ++ (k, operations.Open) ∷ (k, operations.Close) ∷ []
 
-abbrev pub way_of : Release → ℕ × Bool
-way_of r = (r.switch, r.close)
+abbrev pub way_of : Release → ℕ × Operation
+way_of r = (r.switch, r.operation)
 
 -- that a switch is always released in a direction
-abbrev pub demand : ℕ → Bool → Demand
-demand k close = record {
+abbrev pub demand : ℕ → Operation → Demand
+demand k operation = record {
   kind = Always;
-  goal = goals.Release k close;
+  goal = goals.Release k operation;
   when = items.True ∷ [];
   unless = [];
   limits = [];
@@ -307,9 +312,9 @@ range_at outputs None = range.No
 range_at outputs (Some place) = range_there (slice_get outputs place)
 
 -- the range of a release
-abbrev pub release_range : List ImagePoint → List Source → List Range → ℕ → Bool → Range
-release_range points writes ranges k close =
-    range_at (outputs_of points ranges) (position (is_point k (way close)) writes)
+abbrev pub release_range : List ImagePoint → List Source → List Range → ℕ → Operation → Range
+release_range points writes ranges k operation =
+    range_at (outputs_of points ranges) (position (is_point k (releasing_point operation)) writes)
 
 -- whether no delay runs, by the limit: none runs that began less than 0 ago
 abbrev pub idle_range : Option (Option ℕ) → Range
@@ -320,8 +325,8 @@ idle_range (Some (Some (suc n))) = range.Either
 
 -- what is known of whether a scan comes to a goal
 abbrev pub goal_range : List ImagePoint → List Source → List Range → List (Option ℕ) → Goal → Range
-goal_range points writes ranges limits (goals.Release k close) =
-    release_range points writes ranges k close
+goal_range points writes ranges limits (goals.Release k operation) =
+    release_range points writes ranges k operation
 goal_range points writes ranges limits (goals.Idle n) = idle_range (slice_get limits n)
 
 -- A demand is met by each process that none of these cases has.

@@ -1,5 +1,6 @@
 // The answers to rules, and what one pass tells of a rule.
 use crate::case::{Case, Test};
+use bay_nodes::switch::Operation;
 
 /// What holds of a rule.
 #[derive(Drop)]
@@ -43,8 +44,8 @@ pub struct ToldCase {
 pub struct Release {
     /// The index of the switch in the bay.
     pub switch: usize,
-    /// Whether closing is meant, and not opening.
-    pub close: bool,
+    /// The operation that is meant.
+    pub operation: Operation,
     pub cases: Vec<ToldCase>,
     /// The cases that were not decided in the passes that are allowed.
     pub left: Vec<Case>,

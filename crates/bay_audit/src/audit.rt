@@ -92,7 +92,7 @@ fn plain_demand(alloc: Global, rule: &Rule) -> Result<Demand, AllocError>
         kind: rule.kind,
         goal: Goal::Release {
             switch: rule.switch,
-            close: rule.close,
+            operation: rule.operation,
         },
         when: Listing::new(when),
         unless: Listing::new(Vec::new(alloc)),

@@ -1,12 +1,13 @@
 // What is demanded of each scan.
 use bay_base::listing::Listing;
+use bay_nodes::switch::Operation;
 use bay_rules::rule::{Item, RuleKind};
 
 /// What a scan may come to.
 #[derive(Clone, Copy, Debug, PartialEq, Eq)]
 pub enum Goal {
     /// The switch at this index of the bay is released, for closing or else for opening.
-    Release { switch: usize, close: bool },
+    Release { switch: usize, operation: Operation },
     /// No delay of the timer at this place of the image runs.
     Idle { timer: usize },
 }
@@ -19,9 +20,10 @@ pub struct Demand {
     pub goal: Goal,
     /// The condition, in postfix order: nothing is demanded while it does not hold.
     pub when: Listing<Item>,
-    /// The exception, in postfix order: nothing is demanded while it holds. No item is no exception.
+    /// The exception, in postfix order: nothing is demanded while it holds. No item is no
+    /// exception.
     pub unless: Listing<Item>,
-    /// Scans are meant whose timers have delays that began less than so many milliseconds ago, where
-    /// there is a number; the first one for the first timer.
+    /// Scans are meant whose timers have delays that began less than so many milliseconds ago,
+    /// where there is a number; the first one for the first timer.
     pub limits: Listing<Option<u32>>,
 }

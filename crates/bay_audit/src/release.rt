@@ -9,18 +9,19 @@ use crate::case::{Case, Test};
 use crate::demand::{Demand, Goal};
 use crate::verdict::{Wires, verdict};
 use bay_base::listing::Listing;
+use bay_nodes::switch::Operation;
 use bay_rules::rule::{Item, RuleKind};
 use il_verify::verify::Verified;
 use std::alloc::{AllocError, Global};
 
 // Returns the demand that a switch is always released in a direction.
-fn demand(alloc: Global, switch: usize, close: bool) -> Result<Demand, AllocError>
-    ensures { IfOk result (λ demand. demand ≡ spec.demand switch close) }
+fn demand(alloc: Global, switch: usize, operation: Operation) -> Result<Demand, AllocError>
+    ensures { IfOk result (λ demand. demand ≡ spec.demand switch operation) }
 {
     let when = vec![in alloc; Item::True]?;
     Ok(Demand {
         kind: RuleKind::Always,
-        goal: Goal::Release { switch, close },
+        goal: Goal::Release { switch, operation },
         when: Listing::new(when),
         unless: Listing::new(Vec::new(alloc)),
         limits: Listing::new(Vec::new(alloc)),
@@ -45,14 +46,14 @@ fn release(
     verified: &Verified,
     wires: &Wires,
     switch: usize,
-    close: bool,
+    operation: Operation,
     most: u32,
 ) -> Result<Release, AllocError>
     ensures right { IfOk result (IsRelease (program verified.now wires.now.reads.items
         wires.now.writes.items)) }
-    ensures way { IfOk result (λ r. way_of r ≡ record { 0 = switch; 1 = close }) }
+    ensures way { IfOk result (λ r. way_of r ≡ record { 0 = switch; 1 = operation }) }
 {
-    let demand = demand(alloc, switch, close)?;
+    let demand = demand(alloc, switch, operation)?;
     let mut left = Vec::new(alloc);
     left.push(Case::new(alloc))?;
     let mut cases = Vec::new(alloc);
@@ -67,7 +68,7 @@ fn release(
     }
     Ok(Release {
         switch,
-        close,
+        operation,
         cases,
         left,
     })
@@ -88,8 +89,8 @@ pub fn releases(
 {
     let mut releases = Vec::new(alloc);
     for switch in 0..count {
-        releases.push(release(alloc, verified, wires, switch, false, most)?)?;
-        releases.push(release(alloc, verified, wires, switch, true, most)?)?;
+        releases.push(release(alloc, verified, wires, switch, Operation::Open, most)?)?;
+        releases.push(release(alloc, verified, wires, switch, Operation::Close, most)?)?;
     }
     Ok(releases)
 }

@@ -185,7 +185,7 @@ fn program_split(
 // The slot of a goal: that of a release, or the one that a timer counts as.
 fn goal_slot(verified: &Verified, writes: &[Source], goal: Goal, forecast: &Forecast) -> usize {
     match goal {
-        Goal::Release { switch, close } => release_place(writes, switch, close)
+        Goal::Release { switch, operation } => release_place(writes, switch, operation)
             .and_then(|place| slot_of(verified.image().points(), place))
             .unwrap_or(0),
         Goal::Idle { timer } => forecast.ranges.len().saturating_add(timer),

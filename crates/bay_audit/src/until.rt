@@ -39,7 +39,7 @@ fn late(alloc: Global, rule: &Rule, time: u32, timer: usize) -> Result<Demand, A
         kind: RuleKind::Never,
         goal: Goal::Release {
             switch: rule.switch,
-            close: rule.close,
+            operation: rule.operation,
         },
         when,
         unless: Listing::new(Vec::new(alloc)),
@@ -57,7 +57,7 @@ fn there(alloc: Global, rule: &Rule, condition: &[Item]) -> Result<Demand, Alloc
         kind: RuleKind::Never,
         goal: Goal::Release {
             switch: rule.switch,
-            close: rule.close,
+            operation: rule.operation,
         },
         when,
         unless,

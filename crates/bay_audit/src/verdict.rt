@@ -13,6 +13,7 @@ use crate::demand::{Demand, Goal};
 use crate::outlook::{Outlook, asked_of};
 use crate::split::undecided;
 use bay_config::bay::{Source, SwitchPoint};
+use bay_nodes::switch::Operation;
 use bay_process::bind::output_place;
 use bay_rules::rule::RuleKind;
 use il_image::image::ImagePoint;
@@ -39,22 +40,22 @@ fn given(alloc: Global, case: &Case, reads: &[Source]) -> Result<Vec<Range>, All
         .collect(alloc)
 }
 
-// Returns the point by which a direction is released.
-fn way(close: bool) -> SwitchPoint
-    ensures { result ≡ spec.way close }
+// Returns the point by which an operation is released.
+fn releasing_point(operation: Operation) -> SwitchPoint
+    ensures { result ≡ spec.releasing_point operation }
 {
-    if close {
-        SwitchPoint::EnableClose
-    } else {
-        SwitchPoint::EnableOpen
+    match operation {
+        Operation::Open => SwitchPoint::EnableOpen,
+        Operation::Close => SwitchPoint::EnableClose,
     }
 }
 
 /// Returns the place of a release among the writable points, if the program names it.
-pub(crate) fn release_place(writes: &[Source], switch: usize, close: bool) -> Option<usize>
-    ensures { result ≡ position (spec_values.is_point switch (spec.way close)) writes.now }
+pub(crate) fn release_place(writes: &[Source], switch: usize, operation: Operation) -> Option<usize>
+    ensures { result ≡ position (spec_values.is_point switch (spec.releasing_point operation))
+        writes.now }
 {
-    output_place(writes, switch, way(close))
+    output_place(writes, switch, releasing_point(operation))
 }
 
 // Returns the ranges of the writable points.
@@ -124,15 +125,15 @@ fn release_range(
     verified: &Verified,
     writes: &[Source],
     switch: usize,
-    close: bool,
+    operation: Operation,
     ranges: &[Range],
 ) -> Result<Range, AllocError>
     requires { length verified.now.points ≤ length ranges.now }
     ensures { IfOk result (λ r. r
-        ≡ spec.release_range verified.now.points writes.now ranges.now switch close) }
+        ≡ spec.release_range verified.now.points writes.now ranges.now switch operation) }
 {
     let outputs = outputs_of(alloc, verified.image().points(), ranges)?;
-    Ok(range_at(outputs.as_slice(), release_place(writes, switch, close)))
+    Ok(range_at(outputs.as_slice(), release_place(writes, switch, operation)))
 }
 
 // Returns whether no delay of a timer runs, by the limits of all: TRUE where that is known.
@@ -158,13 +159,13 @@ fn range_of_goal(
         forecast.now.ranges.items forecast.now.limits.items goal) }
 {
     match goal {
-        Goal::Release { switch, close } => {
+        Goal::Release { switch, operation } => {
             release_range(
                 alloc,
                 verified,
                 writes,
                 switch,
-                close,
+                operation,
                 forecast.ranges.as_slice(),
             )
         }

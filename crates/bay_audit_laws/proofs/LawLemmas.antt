@@ -6,7 +6,10 @@ use Rattle.std.proofs.Math.Bool.{and-true}
 use Rattle.bay_config.specs.Laws.{IsBay}
 use Rattle.bay_config.specs.declared.bay.Bay.{Bay}
 use Rattle.bay_config.specs.declared.bay.Source.{Source}
+use Rattle.bay_config.specs.declared.bay.SwitchPoint.TheVariants.{EnableOpen, EnableClose}
 use Rattle.bay_nodes.specs.Names.{meter_names}
+use Rattle.bay_nodes.specs.declared.switch.Operation.{Operation}
+use Rattle.bay_nodes.specs.declared.switch.Operation.TheVariants as operations
 use Rattle.bay_nodes.specs.declared.switch.Switch.{Switch}
 use Rattle.bay_process.specs.Told.{IsTold}
 use Rattle.bay_process.specs.Values.{is_truth, measure_leaf, number_of_leaf, output_of, position_leaf}
@@ -40,7 +43,7 @@ use Rattle.bay_device.specs.declared.fault.StepFault.{StepFault}
 use Rattle.bay_device.specs.declared.fault.StepFault.TheVariants.{MomentTooLarge, TimeWentBack}
 use Rattle.bay_device.proofs.CommandLemmas.{step-commanded}
 use Rattle.bay_audit.specs.Process.{IsProcess, process_value}
-use Rattle.bay_audit.specs.Rules.{IsRule, is_obeyed, program_of, releases, way}
+use Rattle.bay_audit.specs.Rules.{IsRule, is_obeyed, program_of, releases, releasing_point}
 use Rattle.bay_audit_laws.specs.Laws.{AreOfTypes, CommandsObey, IsOfType, CommandsObeyAt, IsAllowed, RowsObey, ScanObeysAt, ScansObey, is_released, process_of}
 use Rattle.bay_audit_laws.proofs.DeviceLemmas.{Quiet, quiet-event}
 use Rattle.bay_audit_laws.proofs.LoadLemmas.{first-both, first-fits}
@@ -55,13 +58,13 @@ own-truth true = refl
 own-truth false = refl
 
 -- the value that a row tells of a direction, where both are told
-pub released-told : (s : State) (writes : List Source) (outputs : List Value) (k : ℕ) (close : Bool)
-    → IsTold s.rows k (told_by writes outputs k)
-    → is_released s k close ≡ output_of k (way close) writes outputs
-released-told s writes outputs k true told =
-    ap (is_truth true) told.closing.value_is ∙ own-truth (output_of k (way true) writes outputs)
-released-told s writes outputs k false told =
-    ap (is_truth true) told.opening.value_is ∙ own-truth (output_of k (way false) writes outputs)
+pub released-told : (s : State) (writes : List Source) (outputs : List Value) (k : ℕ)
+    (operation : Operation) → IsTold s.rows k (told_by writes outputs k)
+    → is_released s k operation ≡ output_of k (releasing_point operation) writes outputs
+released-told s writes outputs k operations.Close told =
+    ap (is_truth true) told.closing.value_is ∙ own-truth (output_of k EnableClose writes outputs)
+released-told s writes outputs k operations.Open told =
+    ap (is_truth true) told.opening.value_is ∙ own-truth (output_of k EnableOpen writes outputs)
 
 -- ---- what an event comes to
 
@@ -226,7 +229,7 @@ module _ (bay : Bay) (image : Image) (rule : Rule) (is_bay : IsBay bay)
           let before : RowsObey rule s =
           o.obeyed m (sym q.scans ∙ scans) (q.stale fresh) in
           ap₂ (is_obeyed rule.kind) (ap (holds rule.when) same)
-          (ap (λ rows. is_truth true (leaf_of (releasing rule.switch rule.close) rows))
+          (ap (λ rows. is_truth true (leaf_of (releasing rule.switch rule.operation) rows))
           (q.rows fresh))
           ∙ before;
     }
@@ -264,12 +267,12 @@ module _ (bay : Bay) (image : Image) (rule : Rule) (is_bay : IsBay bay)
           (inputs-read s (program_of bay image).reads o.reads) leaves
 
       -- the interlocking values tell what the slots release
-      pub scanned-releases : is_released scanned rule.switch rule.close
-          ≡ releases (program_of bay image) rule.switch rule.close scanned.machine.slots
+      pub scanned-releases : is_released scanned rule.switch rule.operation
+          ≡ releases (program_of bay image) rule.switch rule.operation scanned.machine.slots
       scanned-releases =
-          released-told scanned s.writes outputs rule.switch rule.close
+          released-told scanned s.writes outputs rule.switch rule.operation
           (scanned-told rule.switch there)
-          ∙ ap₂ (λ w i. output_of rule.switch (way rule.close) w
+          ∙ ap₂ (λ w i. output_of rule.switch (releasing_point rule.operation) w
           (outputs_of i.points scanned.machine.slots)) o.writes o.image_is
 
       -- the condition holds after the scan where it did before
@@ -356,7 +359,8 @@ module _ (bay : Bay) (image : Image) (rule : Rule) (is_bay : IsBay bay)
 
     -- ---- commands
 
-    pub recent-at : (now age : ℕ) (o : Option ℕ) → is_recent now age o ≡ true → (m : ℕ) × (o ≡ Some m)
+    pub recent-at : (now age : ℕ) (o : Option ℕ) → is_recent now age o ≡ true
+        → (m : ℕ) × (o ≡ Some m)
     recent-at now age None h = absurd cc
     recent-at now age (Some m) h = (m, refl)
 
@@ -375,7 +379,7 @@ module _ (bay : Bay) (image : Image) (rule : Rule) (is_bay : IsBay bay)
         and_parts (is_recent now s.scan_max_age_ms s.last_scan) (not s.is_stale) released.fresh in
         let scan = recent-at now s.scan_max_age_ms s.last_scan parts.0 in
         let rows : RowsObey rule s = o.obeyed scan.0 scan.1 (not-true s.is_stale parts.1) in
-        let way_open : is_released s rule.switch rule.close ≡ true =
+        let way_open : is_released s rule.switch rule.operation ≡ true =
         ap₂ (is_released s) (sym at) (sym on) ∙ released.enabled in
         not-while (holds rule.when (process_of s))
         (sym (ap₂ (λ kind r. is_obeyed kind (holds rule.when (process_of s)) r) never way_open)

@@ -1,5 +1,5 @@
 -- A rule with a time that a timer bears, along the events of a device.
-use Rattle.std.proofs.Common.{◌≡◌, ◌⊎◌, inl, inr, ℕ, zero, suc, ◌-◌, ◌<◌, ◌≤◌, Bool, true, false, not, ◌&&◌, nat_lt, List, [], ◌∷◌, map, length, slice_get, Option, None, Some, Result, Ok, Err, IfOk, OnOk, refl, ap, ap₂, sym, subst, ◌∙◌, arith}
+use Rattle.std.proofs.Common.{◌≡◌, ◌⊎◌, inl, inr, ℕ, zero, suc, ◌-◌, ◌<◌, ◌≤◌, Bool, true, false, not, ◌&&◌, nat_lt, List, [], ◌∷◌, map, length, Option, None, Some, Result, Ok, Err, IfOk, refl, ap, ap₂, sym, subst, ◌∙◌, arith}
 use Rattle.std.specs.Prelude.{IsOkAnd, IsSomeAnd, is_none}
 use Rattle.std.proofs.lemmas.Bool.{and_parts}
 use Rattle.bay_config.specs.Laws.{IsBay}
@@ -25,14 +25,14 @@ use Rattle.bay_device.specs.Commands.{AreCommanded, IsReleasedAt}
 use Rattle.bay_device.specs.Device.{State, after_scan, device_at, inputs_of, is_recent}
 use Rattle.bay_device.specs.Load.{initial_device}
 use Rattle.bay_device.specs.Meaning.{Halts, HaltsAt}
-use Rattle.bay_device.specs.Steps.{EachStep, Steps}
+use Rattle.bay_device.specs.Steps.{EachStep}
 use Rattle.bay_device.specs.declared.event.Event.{Event}
 use Rattle.bay_device.specs.declared.event.Event.TheVariants.{Open, Recv, Close, Contact, Input, Measure, Scan}
 use Rattle.bay_device.specs.declared.event.Step.{Step}
 use Rattle.bay_device.specs.declared.fault.StepFault.{StepFault}
 use Rattle.bay_device.proofs.CommandLemmas.{step-commanded}
 use Rattle.bay_audit.specs.Rules.{IsByTimer, IsRule, is_obeyed, limit_of, program_of, releases}
-use Rattle.bay_audit_laws.specs.Laws.{AreOfTypes, CommandsWait, CommandsWaitAt, EachAfter, HasHeld, HasWaited, IsOfType, ScanWaitsAt, ScansWait, is_released, process_of, scans_after}
+use Rattle.bay_audit_laws.specs.Laws.{AreOfTypes, CommandsWait, CommandsWaitAt, EachAfter, HasHeld, HasWaited, ScanWaitsAt, ScansWait, is_released, process_of, scans_after}
 use Rattle.bay_audit_laws.proofs.DeviceLemmas.{Quiet}
 use Rattle.bay_audit_laws.proofs.LawLemmas.{Obeying, Turned, halts-of, leaves, led-step, not-true, obeying-first, process-same, process-so, read, recent-at, scanned-holds, scanned-releases, turned}
 
@@ -107,7 +107,7 @@ module _ (bay : Bay) (image : Image) (rule : Rule) (timing : Timing) (n : ℕ) (
     line = 0;
     kind = Never;
     switch = rule.switch;
-    close = rule.close;
+    operation = rule.operation;
     when = [];
     timed = None;
   }
@@ -118,13 +118,13 @@ module _ (bay : Bay) (image : Image) (rule : Rule) (timing : Timing) (n : ℕ) (
   abbrev Stands : State → Type 0
   Stands s = Obeying bay image no_rule s
 
-  -- A delay that runs began at a scan since which the condition has held; where the last scan is not
-  -- stale and releases the switch, the condition has held for the time.
+  -- A delay that runs began at a scan since which the condition has held; where the last scan is
+  -- not stale and releases the switch, the condition has held for the time.
   record Waiting (scans : List (ℕ × Bool)) (s : State) : Type 0 where
     runs : (start : ℕ) → began_at n s.machine.timers ≡ Some start → RunsFrom start scans
     waits : (m : ℕ) → s.last_scan ≡ Some m → s.is_stale ≡ false
         → holds rule.when (process_of s) ≡ true
-        → is_released s rule.switch rule.close ≡ true → HasHeld timing.time m scans
+        → is_released s rule.switch rule.operation ≡ true → HasHeld timing.time m scans
 
   -- ---- no scan
 
@@ -138,7 +138,7 @@ module _ (bay : Bay) (image : Image) (rule : Rule) (timing : Timing) (n : ℕ) (
         (q.inputs fresh) q.meters in
         w.waits m (sym q.scans ∙ last) (q.stale fresh)
         (ap (holds rule.when) (sym same) ∙ asked)
-        (ap (λ rows. is_truth true (leaf_of (releasing rule.switch rule.close) rows))
+        (ap (λ rows. is_truth true (leaf_of (releasing rule.switch rule.operation) rows))
         (sym (q.rows fresh)) ∙ released);
   }
 
@@ -182,7 +182,7 @@ module _ (bay : Bay) (image : Image) (rule : Rule) (timing : Timing) (n : ℕ) (
 
     abbrev g_releases : Bool
     g_releases =
-        releases (program_of bay image) rule.switch rule.close scanned.machine.slots
+        releases (program_of bay image) rule.switch rule.operation scanned.machine.slots
 
     held-at : holds rule.when (process_of s) ≡ true → g_releases ≡ true → held ≡ true
     held-at asked released = go held refl
@@ -232,7 +232,7 @@ module _ (bay : Bay) (image : Image) (rule : Rule) (timing : Timing) (n : ℕ) (
 
     -- what is told after the scan is what its slots release
     scan-waits : holds rule.when (process_of scanned) ≡ true
-        → is_released scanned rule.switch rule.close ≡ true
+        → is_released scanned rule.switch rule.operation ≡ true
         → HasHeld timing.time now ((now, held) ∷ scans)
     scan-waits asked released =
         waits-on
@@ -368,7 +368,8 @@ module _ (bay : Bay) (image : Image) (rule : Rule) (timing : Timing) (n : ℕ) (
   each-wait (e ∷ es) scans s (answer ∷ answers) last typed o w each =
       let t = turned e.0 e.1 s answer each.0 typed.0 each.1 each.2 in
       let led = led-step-wait scans e.0 e.1 s answer each.0 o w t in
-      let on = led-step bay image no_rule is_bay there no-rule-holds e.0 e.1 s answer each.0 o t in (
+      let on =
+      led-step bay image no_rule is_bay there no-rule-holds e.0 e.1 s answer each.0 o t in (
         each.0,
         each.1,
         led.scan_waits,
@@ -386,7 +387,8 @@ module _ (bay : Bay) (image : Image) (rule : Rule) (timing : Timing) (n : ℕ) (
   each-command-wait (e ∷ es) scans s (answer ∷ answers) last typed o w each =
       let t = turned e.0 e.1 s answer each.0 typed.0 each.1 each.2 in
       let led = led-step-wait scans e.0 e.1 s answer each.0 o w t in
-      let on = led-step bay image no_rule is_bay there no-rule-holds e.0 e.1 s answer each.0 o t in (
+      let on =
+      led-step bay image no_rule is_bay there no-rule-holds e.0 e.1 s answer each.0 o t in (
         each.0,
         each.1,
         commands-wait scans e.0 e.1 s answer each.0 w

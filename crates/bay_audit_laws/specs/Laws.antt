@@ -4,6 +4,7 @@ use Rattle.bay_config.specs.Laws.{IsBay}
 use Rattle.bay_config.specs.declared.bay.Bay.{Bay}
 use Rattle.bay_tree.specs.Rows.{leaf_of}
 use Rattle.bay_process.specs.Values.{is_truth, measure_leaf, number_of_leaf, position_leaf}
+use Rattle.bay_nodes.specs.declared.switch.Operation.{Operation}
 use Rattle.bay_rules.specs.Process.{Process, holds}
 use Rattle.bay_rules.specs.declared.rule.Item.{Item}
 use Rattle.bay_rules.specs.declared.rule.Rule.{Rule}
@@ -34,15 +35,15 @@ process_of s = record {
   measure = λ k field. number_of_leaf (measure_leaf s.rows k field (slice_get s.meters k));
 }
 
--- whether the switch is released in this direction: EnaCls of its CILO for closing, EnaOpn for
+-- whether the operation of the switch is released: EnaCls of its CILO for closing, EnaOpn for
 -- opening
-abbrev pub is_released : State → ℕ → Bool → Bool
-is_released s k close = is_truth true (leaf_of (releasing k close) s.rows)
+abbrev pub is_released : State → ℕ → Operation → Bool
+is_released s k operation = is_truth true (leaf_of (releasing k operation) s.rows)
 
 -- The interlocking values obey a rule, while the process reports what the device has of it.
 abbrev pub RowsObey : Rule → State → Type 0
 RowsObey rule s =
-    is_obeyed rule.kind (holds rule.when (process_of s)) (is_released s rule.switch rule.close)
+    is_obeyed rule.kind (holds rule.when (process_of s)) (is_released s rule.switch rule.operation)
     ≡ true
 
 -- ---- events
@@ -75,7 +76,7 @@ ScanObeysAt rule now event old answer new =
 -- process last reported.
 abbrev pub IsAllowed : Rule → State → Command → Type 0
 IsAllowed rule s command =
-    rule.kind ≡ Never → command.switch ≡ rule.switch → command.on ≡ rule.close
+    rule.kind ≡ Never → command.switch ≡ rule.switch → command.operation ≡ rule.operation
     → holds rule.when (process_of s) ≡ false
 
 abbrev pub CommandsObeyAt : Rule → ℕ → Event → State → Result Step StepFault → State → Type 0
@@ -132,14 +133,14 @@ abbrev pub ScanWaitsAt : Rule → Timing → List (ℕ × Bool) → ℕ → Even
     → Result Step StepFault → State → Type 0
 ScanWaitsAt rule timing scans now event old answer new =
     event ≡ Scan → OnOk answer (holds rule.when (process_of new) ≡ true
-    → is_released new rule.switch rule.close ≡ true
+    → is_released new rule.switch rule.operation ≡ true
     → HasHeld timing.time now (scans_after timing.condition now event old answer scans))
 
--- A command to move it so is issued, while the rule is asked of what the process last reported, only
--- where at the last scan the condition had held for the time.
+-- A command to move it so is issued, while the rule is asked of what the process last reported,
+-- only where at the last scan the condition had held for the time.
 abbrev pub HasWaited : Rule → Timing → List (ℕ × Bool) → State → Command → Type 0
 HasWaited rule timing scans s command =
-    command.switch ≡ rule.switch → command.on ≡ rule.close
+    command.switch ≡ rule.switch → command.operation ≡ rule.operation
     → holds rule.when (process_of s) ≡ true
     → IsSomeAnd s.last_scan (λ m. HasHeld timing.time m scans)
 
@@ -149,7 +150,8 @@ CommandsWaitAt rule timing scans now event old answer new =
     IfOk answer (λ step. All (HasWaited rule timing scans old) step.commands)
 
 -- Each event is a step of which this is so, by the scans before it.
-abbrev pub EachAfter : (List (ℕ × Bool) → ℕ → Event → State → Result Step StepFault → State → Type 0)
+abbrev pub EachAfter : (List (ℕ × Bool) → ℕ → Event → State → Result Step StepFault → State
+    → Type 0)
     → List Item → List (ℕ × Event) → List (ℕ × Bool) → State → List (Result Step StepFault)
     → State → Type 0
 EachAfter Does condition [] scans s [] last = last ≡ s

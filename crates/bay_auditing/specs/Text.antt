@@ -18,6 +18,8 @@ use Rattle.bay_config.specs.declared.bay.Source.{Source}
 use Rattle.bay_config.specs.declared.bay.Source.TheVariants as source
 use Rattle.bay_config.specs.declared.bay.SwitchPoint.{SwitchPoint}
 use Rattle.bay_config.specs.declared.bay.SwitchPoint.TheVariants.{Position, Open, Closed, EnableOpen, EnableClose}
+use Rattle.bay_nodes.specs.declared.switch.Operation.{Operation}
+use Rattle.bay_nodes.specs.declared.switch.Operation.TheVariants as operations
 use Rattle.bay_nodes.specs.declared.switch.Switch.{Switch}
 use Rattle.bay_rules.specs.Code.{code_of, line_of}
 use Rattle.bay_rules.specs.declared.fault.RuleFault.{RuleFault}
@@ -125,7 +127,8 @@ timer_text names k = named_text (codes "timer") k (slice_get names.timers k)
 
 abbrev pub kept_text : Known → Kept → List ℕ
 kept_text names kept =
-    codes " by" ++ (flat_map (slot_text names) kept.slots.items ++ flat_map (timer_text names) kept.timers.items)
+    codes " by" ++ (flat_map (slot_text names) kept.slots.items
+    ++ flat_map (timer_text names) kept.timers.items)
 
 -- ---- answers
 
@@ -133,12 +136,15 @@ abbrev pub front_text : ℕ → List ℕ → List ℕ
 front_text line word = codes "rule " ++ (decimal line ++ word)
 
 abbrev pub said_text : Bay → Known → ℕ → Answer → List ℕ
-said_text bay names line (answer.Holds cases) = front_text line (codes " holds cases=") ++ decimal cases
-said_text bay names line (answer.Broken case) = front_text line (codes " broken") ++ case_text bay case
+said_text bay names line (answer.Holds cases) =
+    front_text line (codes " holds cases=") ++ decimal cases
+said_text bay names line (answer.Broken case) =
+    front_text line (codes " broken") ++ case_text bay case
 said_text bay names line (answer.Open case kept) =
     front_text line (codes " open") ++ (case_text bay case ++ kept_text names kept)
 said_text bay names line (answer.Since n cases) =
-    front_text line (codes " holds cases=") ++ (decimal cases ++ (codes " by" ++ timer_text names n))
+    front_text line (codes " holds cases=")
+    ++ (decimal cases ++ (codes " by" ++ timer_text names n))
 said_text bay names line answer.TooMany = front_text line (codes " many")
 said_text bay names line answer.Timed = front_text line (codes " timed")
 
@@ -177,10 +183,13 @@ abbrev pub found_text : Bay → Known → Release → List ℕ
 found_text bay names r =
     if length r.left.items == 0 then cases_text bay names r.cases.items else codes " many\n"
 
+abbrev pub operation_text : Operation → List ℕ
+operation_text operations.Open = codes " open"
+operation_text operations.Close = codes " close"
+
 abbrev pub release_of : Bay → Known → List ℕ → Release → List ℕ
 release_of bay names id r =
-    codes "release " ++ id ++ (if r.close then codes " close" else codes " open")
-    ++ found_text bay names r
+    codes "release " ++ id ++ operation_text r.operation ++ found_text bay names r
 
 -- the lines of a release of a switch that the bay has
 abbrev pub switch_release : Bay → Known → Release → Option Switch → List ℕ

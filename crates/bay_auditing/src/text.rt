@@ -8,6 +8,7 @@ use crate::kept::Names;
 use bay_audit::answer::{Answer, Kept, Release, Told, ToldCase};
 use bay_audit::case::Case;
 use bay_config::bay::{Bay, MeterField, Point, Source, SwitchPoint};
+use bay_nodes::switch::Operation;
 use bay_rules::fault::RuleFault;
 use bay_rules::rule::Rule;
 use bay_tree::leaf::Dbpos;
@@ -386,10 +387,13 @@ fn put_release(
     ensures { OnOk result (text.new.items ≡ text.old.items
         ++ spec.release_of bay.now names.now id.now release.now) }
 {
-    let way: &[u8] = if release.close { b" close" } else { b" open" };
+    let operation: &[u8] = match release.operation {
+        Operation::Open => b" open",
+        Operation::Close => b" close",
+    };
     text.extend_from_slice(b"release ")?;
     text.extend_from_slice(id.as_bytes())?;
-    text.extend_from_slice(way)?;
+    text.extend_from_slice(operation)?;
     if release.left.as_slice().is_empty() {
         put_cases(text, bay, names, release.cases.as_slice())
     } else {

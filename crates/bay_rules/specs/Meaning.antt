@@ -22,6 +22,8 @@ use Rattle.bay_rules.specs.declared.token.Token.TheVariants as token
 use Rattle.bay_rules.specs.Grammar.{Says}
 use Rattle.bay_rules.specs.Pieces.{pieces}
 use Rattle.bay_rules.specs.Words.{token_of}
+use Rattle.bay_nodes.specs.declared.switch.Operation.{Operation}
+use Rattle.bay_nodes.specs.declared.switch.Operation.TheVariants as operations
 
 -- a space, a tab or a carriage return
 abbrev pub is_blank : ℕ → Bool
@@ -62,11 +64,11 @@ is_deep depth (token.Link End ∷ ts) = is_deep (depth - 1) ts
 is_deep depth (other ∷ ts) = is_deep depth ts
 
 -- the directions, each with whether it is to be closed
-abbrev pub closes_of : Ways → List Bool
-closes_of Opening = false ∷ []
-closes_of Closing = true ∷ []
-closes_of OpeningAndClosing = false ∷ true ∷ []
-closes_of ClosingAndOpening = true ∷ false ∷ []
+abbrev pub operations_of : Ways → List Operation
+operations_of Opening = operations.Open ∷ []
+operations_of Closing = operations.Close ∷ []
+operations_of OpeningAndClosing = operations.Open ∷ operations.Close ∷ []
+operations_of ClosingAndOpening = operations.Close ∷ operations.Open ∷ []
 
 -- the time of a rule; none where a name or a timer can't have what is said
 abbrev pub timing_of : Option Since → Option (Option Timing)
@@ -82,29 +84,29 @@ template_of line said =
       line = line;
       kind = said.kind;
       switch = switch;
-      close = false;
+      operation = operations.Open;
       when = when;
       timed = timed;
     }) said.when
 
--- the same rule for one direction
-abbrev pub rule_of : Rule → Bool → Rule
-rule_of rule close =
+-- the same rule for one operation
+abbrev pub rule_of : Rule → Operation → Rule
+rule_of rule operation =
     record {
       line = rule.line;
       kind = rule.kind;
       switch = rule.switch;
-      close = close;
+      operation = operation;
       when = rule.when;
       timed = rule.timed;
     }
 
--- the rules of what a line says, one for each direction
+-- the rules of what a line says, one for each operation
 abbrev pub rules_of : ℕ → Statement → Option (List Rule)
 rules_of line statement.Silence = Some []
 rules_of line (statement.Looks c) = option_map (λ is. []) c
 rules_of line (statement.Rule said) =
-    option_map (λ rule. map (rule_of rule) (closes_of said.ways)) (template_of line said)
+    option_map (λ rule. map (rule_of rule) (operations_of said.ways)) (template_of line said)
 
 -- what the tokens of a line are read as
 pub data TokensRead (line : ℕ) (ts : List Token) : Result (List Rule) RuleFault → Type 0 where

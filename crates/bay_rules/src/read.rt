@@ -14,6 +14,7 @@ use crate::token::{Link, Token};
 use crate::words::tokens_of;
 use bay_base::listing::Listing;
 use bay_config::bay::Bay;
+use bay_nodes::switch::Operation;
 use std::alloc::{AllocError, Global};
 
 // The most rules of a text.
@@ -83,7 +84,7 @@ fn template(line: usize, said: Said) -> Option<Rule>
         line,
         kind: said.kind,
         switch,
-        close: false,
+        operation: Operation::Open,
         when,
         timed,
     })
@@ -109,14 +110,15 @@ fn copied_timing(alloc: Global, timed: &Option<Timing>) -> Result<Option<Timing>
     }
 }
 
-// Appends a rule for one direction.
+// Appends a rule for one operation.
 fn push_rule(
     alloc: Global,
     rules: &mut Vec<Rule>,
     rule: &Rule,
-    close: bool,
+    operation: Operation,
 ) -> Result<(), AllocError>
-    ensures { OnOk result (rules.new.items ≡ rules.old.items ++ spec.rule_of rule.now close ∷ []) }
+    ensures { OnOk result (rules.new.items
+        ≡ rules.old.items ++ spec.rule_of rule.now operation ∷ []) }
 {
     let when = copied(alloc, &rule.when)?;
     let timed = copied_timing(alloc, &rule.timed)?;
@@ -124,14 +126,14 @@ fn push_rule(
         line: rule.line,
         kind: rule.kind,
         switch: rule.switch,
-        close,
+        operation,
         when,
         timed,
     })?;
     Ok(())
 }
 
-// Appends a rule for each of its directions.
+// Appends a rule for each of its operations.
 fn push_ways(
     alloc: Global,
     rules: &mut Vec<Rule>,
@@ -139,18 +141,18 @@ fn push_ways(
     ways: Ways,
 ) -> Result<(), AllocError>
     ensures { OnOk result
-        (rules.new.items ≡ rules.old.items ++ map (spec.rule_of rule.now) (spec.closes_of ways)) }
+        (rules.new.items ≡ rules.old.items ++ map (spec.rule_of rule.now) (spec.operations_of ways)) }
 {
     match ways {
-        Ways::Opening => push_rule(alloc, rules, rule, false),
-        Ways::Closing => push_rule(alloc, rules, rule, true),
+        Ways::Opening => push_rule(alloc, rules, rule, Operation::Open),
+        Ways::Closing => push_rule(alloc, rules, rule, Operation::Close),
         Ways::OpeningAndClosing => {
-            push_rule(alloc, rules, rule, false)?;
-            push_rule(alloc, rules, rule, true)
+            push_rule(alloc, rules, rule, Operation::Open)?;
+            push_rule(alloc, rules, rule, Operation::Close)
         }
         Ways::ClosingAndOpening => {
-            push_rule(alloc, rules, rule, true)?;
-            push_rule(alloc, rules, rule, false)
+            push_rule(alloc, rules, rule, Operation::Close)?;
+            push_rule(alloc, rules, rule, Operation::Open)
         }
     }
 }

@@ -1,6 +1,7 @@
 // What a rule is.
 use bay_base::listing::Listing;
 use bay_config::bay::MeterField;
+use bay_nodes::switch::Operation;
 use bay_tree::leaf::Dbpos;
 
 /// Whether a rule forbids a release or demands it.
@@ -68,8 +69,8 @@ pub struct Rule {
     pub kind: RuleKind,
     /// The index of the switch in the bay.
     pub switch: usize,
-    /// Whether closing is meant, and not opening.
-    pub close: bool,
+    /// The operation that is meant.
+    pub operation: Operation,
     /// In which states the rule is asked, in postfix order.
     pub when: Listing<Item>,
     /// The time of the rule, if it has one.

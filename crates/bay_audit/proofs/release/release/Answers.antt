@@ -14,7 +14,7 @@ loop-preserved c =
     let g = program c.args.verified.now c.args.wires.now.reads.items c.args.wires.now.writes.items
     in
     let k = c.args.switch in
-    let close = c.args.close in
+    let operation = c.args.operation in
     let case = c.in-Some.case in
     let before : (p : Process) → told_count c.loop.cases.items p
     + case_count (c.pop.new.self.items ++ case ∷ []) p ≡ 1 =
@@ -24,11 +24,11 @@ loop-preserved c =
       | in-Ok+in_ok-push-in-Ok w ↦
           let cases = ap (λ v. v.items) w.cases-is ∙ w.in_ok-push-in-Ok.ensures.items in
           record {
-            told = subst (AreTold g k close) (sym cases)
-                (told-more g k close c.loop.cases.items
+            told = subst (AreTold g k operation) (sym cases)
+                (told-more g k operation c.loop.cases.items
                 (record { case = case; told = w.in-Ok.told })
                 c.loop.invariant.told
-                (verdict-told g k close case c.in_ok-verdict.field-0 w.in-Ok.told
+                (verdict-told g k operation case c.in_ok-verdict.field-0 w.in-Ok.told
                 (subst (λ (d : Demand). IsVerdict g d case c.in_ok-verdict.field-0)
                 c.in_ok-demand.ensures c.in_ok-verdict.ensures) w.in-Ok.ensures));
             one = λ p. subst (λ (ds : List ToldCase). told_count ds p
@@ -43,7 +43,7 @@ loop-preserved c =
       | in-Err+in_ok-split-in-Err w ↦
           let cases = ap (λ v. v.items) w.cases-is in
           record {
-            told = subst (AreTold g k close) (sym cases) c.loop.invariant.told;
+            told = subst (AreTold g k operation) (sym cases) c.loop.invariant.told;
             one = λ p. subst (λ (ds : List ToldCase). told_count ds p
                 + case_count c.match-told_by.left.items p ≡ 1) (sym cases)
                 (subst (λ (cs : List (List Literal)). told_count c.loop.cases.items p
