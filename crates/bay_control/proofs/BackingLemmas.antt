@@ -1,16 +1,17 @@
 -- Each accepted operate of an SBO switch is backed.
 use Rattle.std.proofs.Common.{◌≡◌, ℕ, ◌<◌, ◌+◌, Bool, true, false, not, ◌&&◌, ◌||◌, List, [], ◌∷◌, ◌++◌, Option, None, Some, Result, Err, refl, ap, sym, ◌∙◌, subst, append_assoc, append-nil}
-use Rattle.std.specs.Bool.{beq}
 use Rattle.std.specs.Prelude.{ℤ, nat_le, if◌then◌else◌, is_ok}
 use Rattle.std.specs.Cmp.Lexicographic.{same_text}
 use Rattle.std.proofs.lemmas.Bool.Decides.{Decides-int_eq}
 use Rattle.std.proofs.lemmas.Bool.{eqb-true, leb-false}
+use Rattle.bay_nodes.specs.declared.switch.Operation.{Operation}
+use Rattle.bay_nodes.specs.declared.switch.Operation.TheVariants as operation
 use Rattle.bay_control.specs.Acts.{Act, Entry}
 use Rattle.bay_control.specs.Acts as act
 use Rattle.bay_control.specs.Backing.{AreBacked, AreBackedAfter, IsBacked}
 use Rattle.bay_control.specs.Happenings.{AreOrderly, Call, Open, Close, Select, SelectWith, Operate, Cancel, Contact, Advance, Happening, Leads, act_of, entries_of, history, is_open_after, outcome_of}
 use Rattle.bay_control.specs.Decisions.{State, is_choice, is_chosen, is_selected_by, operate_outcome, selection_at}
-use Rattle.bay_control.specs.Requests.{asked_choice, control_of, is_enhanced, is_sbo, same_choice}
+use Rattle.bay_control.specs.Requests.{asked_choice, control_of, is_enhanced, is_sbo, same_choice, same_operation}
 use Rattle.bay_control.specs.declared.cause.AddCause.{AddCause}
 use Rattle.bay_control.specs.declared.control.SwitchControl.{SwitchControl}
 use Rattle.bay_control.specs.declared.request.Ask.{Ask}
@@ -45,21 +46,22 @@ passed : (refuses : Bool) (cause : AddCause) (rest : Result (Unit {0}) AddCause)
 passed true cause rest e = absurd cc
 passed false cause rest e = (refl, e)
 
-same-truth : (a b : Bool) → beq a b ≡ true → a ≡ b
-same-truth true true e = refl
-same-truth true false e = absurd cc
-same-truth false true e = absurd cc
-same-truth false false e = refl
+same-operation : (c d : Operation) → same_operation c d ≡ true → c ≡ d
+same-operation operation.Open operation.Open e = refl
+same-operation operation.Open operation.Close e = absurd cc
+same-operation operation.Close operation.Open e = absurd cc
+same-operation operation.Close operation.Close e = refl
 
 same-choice : (c d : Choice) → same_choice c d ≡ true → d ≡ c
 same-choice c d e =
-    let on : c.on ≡ d.on = same-truth c.on d.on (and-left _ _ e) in
-    let origin = and-right (beq c.on d.on) _ e in
+    let does : c.operation ≡ d.operation =
+    same-operation c.operation d.operation (and-left _ _ e) in
+    let origin = and-right (same_operation c.operation d.operation) _ e in
     let cat : c.origin.cat ≡ d.origin.cat =
     (Decides-int_eq c.origin.cat d.origin.cat).0 (and-left _ _ origin) in
     let ident : c.origin.ident ≡ d.origin.ident =
     same_text _ _ (sym (and-right _ _ origin)) in
-    ap (λ (b : Bool). record d { on = b }) (sym on)
+    ap (λ (o : Operation). record d { operation = o }) (sym does)
     ∙ ap (λ (n : ℤ). record c { origin = record { cat = n; ident = d.origin.ident } }) (sym cat)
     ∙ ap (λ (os : List ℕ). record c
     { origin = record { cat = c.origin.cat; ident = os } }) (sym ident)

@@ -1,6 +1,7 @@
 -- The decisions on select, operate and cancel (IEC 61850-7-2, 20): their answers, and the controls
 -- after them.
 use Rattle.std.specs.Prelude.{ℕ, ◌+◌, Bool, false, not, ◌&&◌, ◌||◌, ◌==◌, nat_le, if◌then◌else◌, List, [], ◌∷◌, map, Option, None, Some, Result, Ok, Err, is_ok}
+use Rattle.bay_nodes.specs.declared.switch.Operation.{Operation}
 use Rattle.bay_nodes.specs.declared.switch.Switch.{Switch}
 use Rattle.bay_tree.specs.declared.leaf.Dbpos.{Dbpos}
 use Rattle.bay_control.specs.Requests.{asked_choice, control_of, is_controlled, is_enhanced, is_normal, is_reached, is_released, is_sbo, same_choice}
@@ -159,9 +160,9 @@ rows_of_operate a k ask view s =
     ∷ row ask.test BlockedByMode
     ∷ row (is_executing k s.execution) CommandAlreadyInExecution
     ∷ row (other_is_executing k s.execution) OneOfNControl
-    ∷ row (is_reached ask.on view.pos) PositionReached
+    ∷ row (is_reached ask.operation view.pos) PositionReached
     ∷ row (not view.fresh) BlockedByInterlocking
-    ∷ row (not (is_released ask.on view)) BlockedByInterlocking
+    ∷ row (not (is_released ask.operation view)) BlockedByInterlocking
     ∷ []
 
 -- what refuses a cancel
@@ -200,19 +201,20 @@ select_with_outcome a k ask now s = let t = controls_at now s in
 
 -- an operate by the association that selected the switch ends the selection, accepted or not; an
 -- accepted one starts the execution
-abbrev pub operate_of : ℕ → ℕ → Bool → ℕ → Result (Unit {0}) AddCause → State → Outcome
-operate_of a k on now answer s = record {
+abbrev pub operate_of : ℕ → ℕ → Operation → ℕ → Result (Unit {0}) AddCause → State → Outcome
+operate_of a k operation now answer s = record {
   answer = answer;
   after = record s {
     selection = if is_selected_by a k s.selection then None else s.selection;
     execution =
-        if is_ok answer then Some (record { switch = k; start = now; on = on }) else s.execution;
+        if is_ok answer
+        then Some (record { switch = k; start = now; operation = operation }) else s.execution;
   };
 }
 
 abbrev pub operate_outcome : ℕ → ℕ → Ask → View → ℕ → State → Outcome
 operate_outcome a k ask view now s = let t =
-    controls_at now s in operate_of a k ask.on now (answer_of (rows_of_operate a k ask view t)) t
+    controls_at now s in operate_of a k ask.operation now (answer_of (rows_of_operate a k ask view t)) t
 
 -- a cancel, which where it is not refused ends the selection
 abbrev pub cancel_of : Result (Unit {0}) AddCause → State → Outcome
@@ -240,7 +242,7 @@ without_association a s = record s { selection = selection_without a s.selection
 -- a contact tells that the execution is done
 abbrev pub is_done : ℕ → Dbpos → Option Execution → Bool
 is_done k position None = false
-is_done k position (Some e) = e.switch == k && is_reached e.on position
+is_done k position (Some e) = e.switch == k && is_reached e.operation position
 
 -- a switch that reaches the position which it was told to reach operates no more
 abbrev pub after_contact : ℕ → Dbpos → State → State

@@ -1,13 +1,14 @@
 -- What a bay file says of a switch's control, what is asked for and what is seen, as tests (IEC
 -- 61850-7-2, 20; IEC 61850-7-3: ctlModel, Originator, Dbpos).
-use Rattle.std.specs.Prelude.{ℕ, Bool, true, false, not, ◌&&◌, if◌then◌else◌, List, nat_eq, slice_get, Option, None, Some}
-use Rattle.std.specs.Bool.{beq}
+use Rattle.std.specs.Prelude.{ℕ, Bool, true, false, ◌&&◌, List, nat_eq, slice_get, Option, None, Some}
 use Rattle.std.specs.Cmp.Lexicographic.{pointwise}
 use Rattle.std.specs.Ordering.{int_eq}
 use Rattle.bay_nodes.specs.declared.switch.Control.{Control}
 use Rattle.bay_nodes.specs.declared.switch.Control.TheVariants.{Status, Direct, Sbo, SboEnhanced}
+use Rattle.bay_nodes.specs.declared.switch.Operation.{Operation}
+use Rattle.bay_nodes.specs.declared.switch.Operation.TheVariants.{Open, Close}
 use Rattle.bay_tree.specs.declared.leaf.Dbpos.{Dbpos}
-use Rattle.bay_tree.specs.declared.leaf.Dbpos.TheVariants.{Intermediate, Off, On, Bad}
+use Rattle.bay_tree.specs.declared.leaf.Dbpos.TheVariants.{Off, On}
 use Rattle.bay_control.specs.declared.control.SwitchControl.{SwitchControl}
 use Rattle.bay_control.specs.declared.request.Ask.{Ask}
 use Rattle.bay_control.specs.declared.request.Choice.{Choice}
@@ -59,26 +60,31 @@ is_sbo SboEnhanced = true
 
 -- ---- what is asked for
 
--- the position and the originator that are asked for
+-- the operation and the originator that are asked for
 abbrev pub asked_choice : Ask → Choice
-asked_choice ask = record { on = ask.on; origin = ask.origin }
+asked_choice ask = record { operation = ask.operation; origin = ask.origin }
+
+abbrev pub same_operation : Operation → Operation → Bool
+same_operation Open Open = true
+same_operation Close Close = true
+same_operation c d = false
 
 abbrev pub same_origin : Origin → Origin → Bool
 same_origin c d = int_eq c.cat d.cat && pointwise nat_eq c.ident d.ident
 
--- what is asked for twice is the same: position and originator
+-- what is asked for twice is the same: operation and originator
 abbrev pub same_choice : Choice → Choice → Bool
-same_choice c d = beq c.on d.on && same_origin c.origin d.origin
+same_choice c d = same_operation c.operation d.operation && same_origin c.origin d.origin
 
 -- ---- what is seen
 
--- the position is the one that is asked for
-abbrev pub is_reached : Bool → Dbpos → Bool
-is_reached on Intermediate = false
-is_reached on Off = not on
-is_reached on On = on
-is_reached on Bad = false
+-- the position is the one that the operation leads to
+abbrev pub is_reached : Operation → Dbpos → Bool
+is_reached Open Off = true
+is_reached Close On = true
+is_reached operation position = false
 
 -- the interlocking releases the operation
-abbrev pub is_released : Bool → View → Bool
-is_released on view = if on then view.ena_cls else view.ena_opn
+abbrev pub is_released : Operation → View → Bool
+is_released Open view = view.ena_opn
+is_released Close view = view.ena_cls

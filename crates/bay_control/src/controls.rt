@@ -210,7 +210,7 @@ impl Controls {
             association,
             since: now,
             choice: Some(Choice {
-                on: ask.on,
+                operation: ask.operation,
                 origin: ask.origin,
             }),
         });
@@ -247,10 +247,10 @@ impl Controls {
         if self.execution.is_some() {
             return Err(AddCause::OneOfNControl);
         }
-        if is_reached(ask.on, view.pos) {
+        if is_reached(ask.operation, view.pos) {
             return Err(AddCause::PositionReached);
         }
-        if !view.fresh || !view.is_released(ask.on) {
+        if !view.fresh || !view.is_released(ask.operation) {
             return Err(AddCause::BlockedByInterlocking);
         }
         Ok(())
@@ -288,7 +288,7 @@ impl Controls {
         self.execution = Some(Execution {
             switch,
             start: now,
-            on: ask.on,
+            operation: ask.operation,
         });
         Ok(())
     }
@@ -346,9 +346,8 @@ impl Controls {
           execution = if result then None else self.old.execution;
         } }
     {
-        let is_ended = self
-            .execution
-            .is_some_and(|e| e.switch == switch && is_reached(e.on, position));
+        let is_ended = self.execution.is_some_and(|e| e.switch == switch
+            && is_reached(e.operation, position));
         if is_ended {
             self.execution = None;
         }

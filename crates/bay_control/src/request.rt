@@ -3,6 +3,7 @@ ghost use Rattle.std.specs.Prelude.{◌≡◌, ◌≤◌, length};
 ghost use Rattle.bay_control.specs.Requests.{asked_choice, same_choice, same_origin};
 ghost use Rattle.bay_control.specs.Requests as spec;
 
+use bay_nodes::switch::Operation;
 use bay_tree::leaf::Dbpos;
 use std::marker::Model;
 
@@ -77,8 +78,8 @@ impl Origin {
 /// What a select with value is granted for: a position and the originator.
 #[derive(Clone, Copy, Debug)]
 pub struct Choice {
-    /// Whether to close the switch and not open it (ctlVal).
-    pub on: bool,
+    /// What the switch is told to do (ctlVal).
+    pub operation: Operation,
     pub origin: Origin,
 }
 
@@ -87,15 +88,15 @@ impl Choice {
     pub(crate) fn is_asked(&self, ask: &Ask) -> bool
         ensures { result ≡ same_choice (asked_choice ask.now) self.now }
     {
-        ask.on == self.on && ask.origin.is_same(&self.origin)
+        ask.operation == self.operation && ask.origin.is_same(&self.origin)
     }
 }
 
 /// A request to operate a switch, or to select it with value (IEC 61850-7-2, 20: Oper and SBOw).
 #[derive(Clone, Copy, Debug)]
 pub struct Ask {
-    /// Whether to close the switch and not open it (ctlVal).
-    pub on: bool,
+    /// What the switch is told to do (ctlVal).
+    pub operation: Operation,
     /// Whether it is a test, which moves nothing (Test).
     pub test: bool,
     pub origin: Origin,
@@ -116,20 +117,22 @@ pub struct View {
 
 impl View {
     /// Returns whether the interlocking releases the operation.
-    pub(crate) fn is_released(self, on: bool) -> bool
-        ensures { result ≡ spec.is_released on self }
+    pub(crate) fn is_released(self, operation: Operation) -> bool
+        ensures { result ≡ spec.is_released operation self }
     {
-        if on { self.ena_cls } else { self.ena_opn }
+        match operation {
+            Operation::Open => self.ena_opn,
+            Operation::Close => self.ena_cls,
+        }
     }
 }
 
-/// Returns whether the position is the requested one.
-pub(crate) fn is_reached(on: bool, position: Dbpos) -> bool
-    ensures { result ≡ spec.is_reached on position }
+/// Returns whether the position is the one that the operation leads to.
+pub(crate) fn is_reached(operation: Operation, position: Dbpos) -> bool
+    ensures { result ≡ spec.is_reached operation position }
 {
-    match position {
-        Dbpos::On => on,
-        Dbpos::Off => !on,
-        Dbpos::Intermediate | Dbpos::Bad => false,
-    }
+    matches!(
+        (operation, position),
+        (Operation::Open, Dbpos::Off) | (Operation::Close, Dbpos::On)
+    )
 }

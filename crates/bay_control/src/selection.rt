@@ -1,5 +1,6 @@
 // Which switch is selected, and which is operating.
 use crate::request::Choice;
+use bay_nodes::switch::Operation;
 
 /// A switch that an association has selected.
 #[derive(Clone, Copy, Debug)]
@@ -20,6 +21,6 @@ pub struct Execution {
     pub switch: usize,
     /// The time of the operate, in milliseconds since 1970.
     pub start: u64,
-    /// Whether it is closing and not opening.
-    pub on: bool,
+    /// What it is doing.
+    pub operation: Operation,
 }

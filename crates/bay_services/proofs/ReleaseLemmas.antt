@@ -4,6 +4,8 @@ use Rattle.std.proofs.lemmas.Bool.{not-false}
 use Rattle.std.specs.List.{AllByRecursion}
 use Rattle.std.proofs.lemmas.Bool.Decides.{nat_tests}
 use Rattle.bay_tree.specs.Rows.{leaf_of, name_at}
+use Rattle.bay_nodes.specs.declared.switch.Operation.{Operation}
+use Rattle.bay_nodes.specs.declared.switch.Operation.TheVariants.{Open, Close}
 use Rattle.bay_process.specs.Values.{is_truth}
 use Rattle.bay_control.specs.Decisions.{Outcome, State, controls_at, answer_of, cancel_outcome, execution_at, is_executing, is_over_at, operate_outcome, other_is_executing, rows_of_operate, select_with_outcome}
 use Rattle.bay_control.specs.Decisions.{Row as DecisionRow}
@@ -23,7 +25,7 @@ use Rattle.bay_mms.specs.declared.fault.MmsFault.{MmsFault}
 use Rattle.bay_mms.specs.declared.fault.MmsFault.TheVariants.{BadPdu, UnknownService, TooMany, OutOfMemory}
 use Rattle.bay_services.specs.Answers.{Answered, answer_of as answer-of, pdu_answer, attributes_at, service_answer, within}
 use Rattle.bay_services.specs.Bay.{Bay, with_controls}
-use Rattle.bay_services.specs.Controls.{ask_of, view_of}
+use Rattle.bay_services.specs.Controls.{ask_of, operation_of, view_of}
 use Rattle.bay_services.specs.Reads.{Reading, nothing_read, read_all, read_one, read_part, read_row, read_target}
 use Rattle.bay_services.specs.Released.{AreTimed, IsReleased, Leaves, releasing}
 use Rattle.bay_services.specs.Rows.{row_named}
@@ -78,7 +80,7 @@ record Saw (k : ℕ) (ask : Ask) (view : View) (t : State) : Type 0 where
   controlled : not (is_controlled (control_of t.controls k).model) ≡ false
   idle : t.execution ≡ None
   fresh : not view.fresh ≡ false
-  released : not (is_released ask.on view) ≡ false
+  released : not (is_released ask.operation view) ≡ false
 
 saw : (a k : ℕ) (ask : Ask) (view : View) (t : State)
     → is_ok (answer_of (rows_of_operate a k ask view t)) ≡ true → Saw k ask view t
@@ -101,17 +103,17 @@ Busies now s t =
 pub busy-still : (now : ℕ) (s : State) → Busies now s (controls_at now s)
 busy-still now s e h = ap (execution_at now s.controls) h ∙ lasting now s.controls s.execution e h
 
-busy-operated : (now k : ℕ) (on : Bool) (a : ℕ) (ask : Ask) (view : View) (s : State) (ok : Bool)
+busy-operated : (now k a : ℕ) (ask : Ask) (view : View) (s : State) (ok : Bool)
     → is_ok (operate_outcome a k ask view now s).answer ≡ ok
     → Busies now s (operate_outcome a k ask view now s).after
-busy-operated now k on a ask view s true is e h =
+busy-operated now k a ask view s true is e h =
     let none : (controls_at now s).execution ≡ None =
     (saw a k ask view (controls_at now s) is).idle in
     absurd (let no : None ≡ (let o : Option Execution = Some e in o) = sym none ∙ h in cc)
-busy-operated now k on a ask view s false is e h =
+busy-operated now k a ask view s false is e h =
     let stays : (operate_outcome a k ask view now s).after.execution ≡ Some e =
     ap (λ (b : Bool). let o : Option Execution =
-    cond b (Some (record { switch = k; start = now; on = ask.on })) (controls_at now s).execution
+    cond b (Some (record { switch = k; start = now; operation = ask.operation })) (controls_at now s).execution
     in o) is ∙ h in
     ap (execution_at now s.controls) stays ∙ lasting now s.controls s.execution e h
 
@@ -170,16 +172,16 @@ sole-still now commands s t same busy sole =
     }
 
 -- an operate lasts beyond its moment
-starting : (now k : ℕ) (on : Bool) (controls : List SwitchControl) → AreTimed controls
+starting : (now k : ℕ) (operation : Operation) (controls : List SwitchControl) → AreTimed controls
     → is_controlled (control_of controls k).model ≡ true
-    → execution_at now controls (Some (record { switch = k; start = now; on = on }))
-    ≡ Some (record { switch = k; start = now; on = on })
-starting now k on controls timed controlled =
+    → execution_at now controls (Some (record { switch = k; start = now; operation = operation }))
+    ≡ Some (record { switch = k; start = now; operation = operation })
+starting now k operation controls timed controlled =
     let some = timed k controlled in
     let lasts : nat_le (now + (control_of controls k).travel_ms) now ≡ false =
     grind (arith, nat_tests) in
     ap (λ (over : Bool). let o : Option Execution =
-    cond over None (Some (record { switch = k; start = now; on = on })) in o) lasts
+    cond over None (Some (record { switch = k; start = now; operation = operation })) in o) lasts
 
 -- ---- bays
 
@@ -243,10 +245,11 @@ both c b [] more p q = q
 both c b (x ∷ first) more p q = (p.0, both c b first more p.1 q)
 
 -- what a decision saw released stands in the tree
-enabled-now : (c : Client) (b : Bay) (k : ℕ) (on : Bool) → is_released on (view_of c k b) ≡ true
-    → is_truth true (leaf_of (releasing k on) b.rows) ≡ true
-enabled-now c b k true h = h
-enabled-now c b k false h = h
+enabled-now : (c : Client) (b : Bay) (k : ℕ) (operation : Operation)
+    → is_released operation (view_of c k b) ≡ true
+    → is_truth true (leaf_of (releasing k operation) b.rows) ≡ true
+enabled-now c b k Open h = h
+enabled-now c b k Close h = h
 
 pub idle-now : (now : ℕ) (s t : State) (o : Option Execution) → Busies now s t
     → (controls_at now t).execution ≡ None → (controls_at now s).execution ≡ o
@@ -260,15 +263,15 @@ module _ (c : Client) (b : Bay) (s : State) (k : ℕ) (o : asked.Operate) where
   outcome = operate_outcome c.association k (ask_of o) (view_of c k b) c.now s
 
   released-by : Busies c.now b.controls s → is_ok outcome.answer ≡ true
-      → IsReleased c b (record { switch = k; on = o.control.ctl_val })
+      → IsReleased c b (record { switch = k; operation = operation_of o.control.ctl_val })
   unfolding outcome
   released-by busy ok =
       let seen = saw c.association k (ask_of o) (view_of c k b) (controls_at c.now s) ok in
       record {
         fresh = not-false c.fresh seen.fresh;
         enabled =
-            enabled-now c b k o.control.ctl_val
-            (not-false (is_released o.control.ctl_val (view_of c k b)) seen.released);
+            enabled-now c b k (operation_of o.control.ctl_val)
+            (not-false (is_released (operation_of o.control.ctl_val) (view_of c k b)) seen.released);
         idle = idle-now c.now b.controls s (controls_at c.now b.controls).execution busy seen.idle
             refl;
       }
@@ -293,13 +296,13 @@ module _ (c : Client) (b : Bay) (s : State) (k : ℕ) (o : asked.Operate) where
   single-operated (Ok done) timed is =
       let seen =
       saw c.association k (ask_of o) (view_of c k b) (controls_at c.now s) (ap is_ok is) in
-      let e : Execution = record { switch = k; start = c.now; on = o.control.ctl_val } in
+      let e : Execution = record { switch = k; start = c.now; operation = operation_of o.control.ctl_val } in
       let starts : outcome.after.execution ≡ Some e =
       ap (λ (t : Bool). let x : Option Execution =
       cond t (Some e) (controls_at c.now s).execution in x) (ap is_ok is) in (
         e,
         ap (execution_at c.now s.controls) starts
-            ∙ starting c.now k o.control.ctl_val s.controls timed
+            ∙ starting c.now k (operation_of o.control.ctl_val) s.controls timed
             (not-false (is_controlled (control_of s.controls k).model) seen.controlled),
       )
   single-operated (Err why) timed is = tt
@@ -341,7 +344,7 @@ kept-operate c b k item w (Err fault) kept =
 kept-operate c b k item w (Ok o) kept =
     let out = operate_outcome c.association k (ask_of o) (view_of c k b) c.now w.controls in
     let busy : Busies c.now w.controls out.after =
-    busy-operated c.now k o.control.ctl_val c.association (ask_of o) (view_of c k b) w.controls
+    busy-operated c.now k c.association (ask_of o) (view_of c k b) w.controls
     (is_ok out.answer) refl in
     record {
       busy = λ e h. busy e (kept.busy e h);

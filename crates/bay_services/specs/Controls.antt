@@ -1,12 +1,14 @@
 -- A client's request of a control, and what is told of it (IEC 61850-7-2, 20; IEC 61850-8-1:
 -- LastApplError and CommandTermination).
-use Rattle.std.specs.Prelude.{ℕ, pos, ◌≤◌, IfSome, Bool, true, List, [], ◌∷◌, ◌++◌, codes, length, slice_get, Option, Some, None, option_to_list, Result, Ok, Err, if◌then◌else◌, unsigned_abs}
+use Rattle.std.specs.Prelude.{ℕ, pos, ◌≤◌, IfSome, Bool, true, false, List, [], ◌∷◌, ◌++◌, codes, length, slice_get, Option, Some, None, option_to_list, Result, Ok, Err, if◌then◌else◌, unsigned_abs}
 use Rattle.bay_tree.specs.Rows.{leaf_of}
 use Rattle.bay_tree.specs.declared.leaf.Leaf.{Leaf}
 use Rattle.bay_tree.specs.declared.leaf.Leaf.TheVariants as leaf
 use Rattle.bay_tree.specs.declared.leaf.Dbpos.{Dbpos}
 use Rattle.bay_tree.specs.declared.leaf.Dbpos.TheVariants.{Intermediate}
 use Rattle.bay_nodes.specs.Names.{opening_of, closing_of}
+use Rattle.bay_nodes.specs.declared.switch.Operation.{Operation}
+use Rattle.bay_nodes.specs.declared.switch.Operation.TheVariants.{Open, Close}
 use Rattle.bay_process.specs.Values.{is_truth, position_leaf}
 use Rattle.bay_control.specs.Requests.{control_of, is_enhanced}
 use Rattle.bay_control.specs.Causes as cause
@@ -43,6 +45,11 @@ view_of c k b = record {
   ena_cls = is_truth true (leaf_of (closing_of k).value b.rows);
 }
 
+-- what a switch is told to do by a ctlVal
+abbrev pub operation_of : Bool → Operation
+operation_of true = Close
+operation_of false = Open
+
 -- who asks, by what was written
 abbrev pub origin_of : Origin → control.Origin
 origin_of o = record { cat = o.or_cat; ident = o.or_ident }
@@ -51,7 +58,7 @@ origin_of o = record { cat = o.or_cat; ident = o.or_ident }
 abbrev pub ask_of : Operate → Ask
 ask_of o =
     record {
-      on = o.control.ctl_val;
+      operation = operation_of o.control.ctl_val;
       test = o.control.test;
       origin = origin_of o.control.origin;
     }
@@ -66,7 +73,7 @@ written_decision c k part control answer = record {
   switch = k;
   part = part;
   asked = Some (record {
-    on = control.ctl_val;
+    operation = operation_of control.ctl_val;
     origin = origin_of control.origin;
     ctl_num = unsigned_abs control.ctl_num;
   });

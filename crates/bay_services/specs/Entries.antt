@@ -120,10 +120,10 @@ entries_in c pdu b = message_entries c b (answer_to pdu)
 
 -- ---- the commands
 
--- an operate that was accepted is one command: the position that is asked for of its switch
+-- an operate that was accepted is one command: what its switch is asked to do
 abbrev pub command_of : Act → Bool → List Command
 command_of (act.Operate a k choice) is_accepted =
-    if is_accepted then record { switch = k; on = choice.on } ∷ [] else []
+    if is_accepted then record { switch = k; operation = choice.operation } ∷ [] else []
 command_of other is_accepted = []
 
 -- those of the operates that were accepted, in their order

@@ -1,7 +1,9 @@
 -- When a switch may be operated, and what of a bay no client changes (IEC 61850-7-4, CILO).
-use Rattle.std.specs.Prelude.{ℕ, ◌≡◌, ◌≤◌, Bool, true, false, List, Some, None}
+use Rattle.std.specs.Prelude.{ℕ, ◌≡◌, ◌≤◌, true, List, Some, None}
 use Rattle.bay_tree.specs.Rows.{leaf_of}
 use Rattle.bay_nodes.specs.Names.{closing_of, opening_of}
+use Rattle.bay_nodes.specs.declared.switch.Operation.{Operation}
+use Rattle.bay_nodes.specs.declared.switch.Operation.TheVariants.{Open, Close}
 use Rattle.bay_process.specs.Values.{is_truth}
 use Rattle.bay_control.specs.Decisions.{controls_at}
 use Rattle.bay_control.specs.Requests.{control_of, is_controlled}
@@ -11,16 +13,16 @@ use Rattle.bay_services.specs.Bay.{Bay}
 use Rattle.bay_services.specs.declared.answer.Command.{Command}
 use Rattle.bay_services.specs.declared.client.Client.{Client}
 
--- the name of the value that releases an operation: EnaCls for on, EnaOpn for off
-abbrev pub releasing : ℕ → Bool → List ℕ
-releasing k true = (closing_of k).value
-releasing k false = (opening_of k).value
+-- the name of the value that releases an operation: EnaOpn for Open, EnaCls for Close
+abbrev pub releasing : ℕ → Operation → List ℕ
+releasing k Open = (opening_of k).value
+releasing k Close = (closing_of k).value
 
 -- A switch is operated while the last scan is fresh, its interlocking value is TRUE in the tree,
 -- and no switch of the bay is operating.
 pub record IsReleased (c : Client) (b : Bay) (command : Command) : Type 0 where
   pub fresh : c.fresh ≡ true
-  pub enabled : is_truth true (leaf_of (releasing command.switch command.on) b.rows) ≡ true
+  pub enabled : is_truth true (leaf_of (releasing command.switch command.operation) b.rows) ≡ true
   pub idle : (controls_at c.now b.controls).execution ≡ None
 
 -- No client changes a value of the tree, nor what is operating.

@@ -11,7 +11,7 @@ use Rattle.bay_mms.specs.Responses.{failure_result, success_result}
 use Rattle.bay_mms.specs.declared.fault.DataAccessError.{DataAccessError}
 use Rattle.bay_mms.specs.declared.fault.DataAccessError.TheVariants.{ObjectAccessDenied, ObjectNonExistent}
 use Rattle.bay_services.specs.Bay.{Bay}
-use Rattle.bay_services.specs.Controls.{ask_of, endings, refusal_reports, view_of, written_decision}
+use Rattle.bay_services.specs.Controls.{ask_of, endings, operation_of, refusal_reports, view_of, written_decision}
 use Rattle.bay_services.specs.Rows.{row_named}
 use Rattle.bay_services.specs.Targets.{target_of}
 use Rattle.bay_services.specs.declared.answer.Command.{Command}
@@ -66,7 +66,7 @@ after_decision c b k part item control o w = record w {
 
 -- an accepted operate is one command
 abbrev pub commands_for : ℕ → asked.Operate → Result (Unit {0}) AddCause → List Command
-commands_for k o (Ok done) = record { switch = k; on = o.control.ctl_val } ∷ []
+commands_for k o (Ok done) = record { switch = k; operation = operation_of o.control.ctl_val } ∷ []
 commands_for k o (Err why) = []
 
 -- the reports that are due at its end, which take the place of older ones

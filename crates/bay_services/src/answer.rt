@@ -3,21 +3,21 @@ use crate::target::ControlPart;
 use bay_ber::outgoing::Outgoing;
 use bay_control::cause::AddCause;
 use bay_control::request::Origin;
+use bay_nodes::switch::Operation;
 
 /// A command to operate a switch.
 #[derive(Clone, Copy, Debug, PartialEq, Eq)]
 pub struct Command {
     /// The index of the switch in the bay file, from 0.
     pub switch: usize,
-    /// Whether to close it and not open it.
-    pub on: bool,
+    pub operation: Operation,
 }
 
 /// What a client writes to a control.
 #[derive(Clone, Copy, Debug)]
 pub struct Asked {
-    /// Whether to close the switch and not open it (ctlVal).
-    pub on: bool,
+    /// What the switch is told to do (ctlVal).
+    pub operation: Operation,
     pub origin: Origin,
     /// The number of the control (ctlNum).
     pub ctl_num: u8,

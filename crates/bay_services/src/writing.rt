@@ -31,6 +31,7 @@ use bay_mms::fault::DataAccessError;
 use bay_mms::report::{ControlError, write_failed_termination, write_failure, write_termination};
 use bay_mms::request::ObjectName;
 use bay_mms::results::WriteResponse;
+use bay_nodes::switch::Operation;
 use bay_tree::tree::Handle;
 use std::alloc::{AllocError, Global};
 
@@ -58,6 +59,17 @@ pub struct Written {
     pub ending: Option<Ending>,
 }
 
+// What a switch is told to do by a ctlVal.
+fn operation_of(ctl_val: bool) -> Operation
+    ensures { result ≡ spec_controls.operation_of ctl_val }
+{
+    if ctl_val {
+        Operation::Close
+    } else {
+        Operation::Open
+    }
+}
+
 // Who asks.
 fn origin_of(origin: &Originator<'_>) -> Origin
     requires { length origin.now.or_ident.now ≤ 64 }
@@ -76,7 +88,7 @@ fn ask_of(operate: &Operate<'_>) -> Ask
 {
     let control = &operate.control;
     Ask {
-        on: control.ctl_val,
+        operation: operation_of(control.ctl_val),
         test: control.test,
         origin: origin_of(&control.origin),
     }
@@ -100,7 +112,7 @@ fn put_written(
         switch,
         part,
         asked: Some(Asked {
-            on: control.ctl_val,
+            operation: operation_of(control.ctl_val),
             origin: origin_of(&control.origin),
             ctl_num: control.ctl_num,
         }),
@@ -328,7 +340,7 @@ impl ServedBay {
     {
         written.commands.push(Command {
             switch,
-            on: operate.control.ctl_val,
+            operation: operation_of(operate.control.ctl_val),
         })?;
         if self.has_reports(switch) {
             let ending = self.ending(alloc, client, row, operate)?;
