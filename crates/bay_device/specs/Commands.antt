@@ -10,11 +10,11 @@ use Rattle.bay_device.specs.declared.event.Event.{Event}
 use Rattle.bay_device.specs.declared.event.Step.{Step}
 use Rattle.bay_device.specs.declared.fault.StepFault.{StepFault}
 
--- A switch is operated at a moment while the last scan is fresh, its interlocking value (EnaCls for
--- on, EnaOpn for off) is TRUE in the tree, and no switch of the bay is operating.
+-- A switch is operated at a moment while the last scan is fresh, its interlocking value (EnaOpn for
+-- Open, EnaCls for Close) is TRUE in the tree, and no switch of the bay is operating.
 pub record IsReleasedAt (now : ℕ) (s : State) (command : Command) : Type 0 where
   pub fresh : is_fresh now s ≡ true
-  pub enabled : is_truth true (leaf_of (releasing command.switch command.on) s.rows) ≡ true
+  pub enabled : is_truth true (leaf_of (releasing command.switch command.operation) s.rows) ≡ true
   pub idle : (control.controls_at now s.controls).execution ≡ None
 
 -- The commands of a step are so, and where there are any something is sent.

@@ -5,6 +5,8 @@ ghost use Rattle.bay_port.specs.Telling.{PutsWhole, refusal_text, text_of, told_
 
 use bay_device::device::Device;
 use bay_lines::kept::Kept;
+use bay_nodes::switch::Operation;
+use bay_report::lines::order;
 use bay_serve::told::Turn;
 use bay_services::answer::Command;
 use itoa::Buffer;
@@ -56,10 +58,9 @@ fn put_refusal(queue: &mut Queue, moment: u64, refused: Option<u8>) -> bool
 }
 
 // Appends the line of a command to the switch with this id.
-fn put_command_line(queue: &mut Queue, moment: u64, id: &str, on: bool) -> bool
-    ensures { PutsWhole queue.old (command_line moment id.now on) queue.new result }
+fn put_command_line(queue: &mut Queue, moment: u64, id: &str, operation: Operation) -> bool
+    ensures { PutsWhole queue.old (command_line moment id.now operation) queue.new result }
 {
-    let order: &[u8] = if on { b" on\n" } else { b" off\n" };
     let mut moments = Buffer::new();
     put_parts(
         queue,
@@ -67,7 +68,7 @@ fn put_command_line(queue: &mut Queue, moment: u64, id: &str, on: bool) -> bool
             moments.format(moment).as_bytes(),
             b" command ",
             id.as_bytes(),
-            order,
+            order(operation),
         ],
     )
 }
@@ -77,7 +78,7 @@ fn put_command(queue: &mut Queue, device: &Device, moment: u64, command: Command
     ensures { PutsWhole queue.old (command_text moment device.now command) queue.new result }
 {
     match device.id(command.switch) {
-        Some(id) => put_command_line(queue, moment, id, command.on),
+        Some(id) => put_command_line(queue, moment, id, command.operation),
         None => put_parts(queue, &[]),
     }
 }

@@ -2,6 +2,8 @@
 use Rattle.std.specs.Prelude.{ℕ, ◌+◌, Bool, List, ◌∷◌, ◌++◌, slice_get, codes, Option, None, Some, Result, Ok, Err, if◌then◌else◌, []}
 use Rattle.std.specs.Fmt.{decimal}
 use Rattle.hex.specs.Hex.{encode_lower}
+use Rattle.bay_nodes.specs.declared.switch.Operation.{Operation}
+use Rattle.bay_nodes.specs.declared.switch.Operation.TheVariants as operations
 use Rattle.bay_nodes.specs.declared.switch.Switch.{Switch}
 use Rattle.bay_services.specs.declared.answer.Command.{Command}
 use Rattle.bay_device.specs.Code.{step_code_of}
@@ -62,20 +64,22 @@ abbrev pub ended_text : ℕ → Option Sent → List ℕ
 ended_text now None = []
 ended_text now (Some sent) = send_text now sent
 
--- the position that is commanded
-abbrev pub order_text : Bool → List ℕ
-order_text on = if on then codes " on\n" else codes " off\n"
+-- the position that an operation leads to
+abbrev pub order_text : Operation → List ℕ
+order_text operations.Open = codes " off\n"
+order_text operations.Close = codes " on\n"
 
 -- the line of a command to the switch with this id
-abbrev pub command_line : ℕ → List ℕ → Bool → List ℕ
-command_line now id on = decimal now ++ codes " command " ++ id ++ order_text on
+abbrev pub command_line : ℕ → List ℕ → Operation → List ℕ
+command_line now id operation = decimal now ++ codes " command " ++ id ++ order_text operation
 
-abbrev pub command_part : ℕ → Bool → Option Switch → List ℕ
-command_part now on None = []
-command_part now on (Some switch) = command_line now switch.id on
+abbrev pub command_part : ℕ → Operation → Option Switch → List ℕ
+command_part now operation None = []
+command_part now operation (Some switch) = command_line now switch.id operation
 
 abbrev pub command_text : ℕ → State → Command → List ℕ
-command_text now s command = command_part now command.on (slice_get s.switches command.switch)
+command_text now s command =
+    command_part now command.operation (slice_get s.switches command.switch)
 
 -- a line for each command
 abbrev pub commands_text : ℕ → State → List Command → List ℕ

@@ -10,6 +10,7 @@ use bay_device::event::{Sent, Step, Why};
 use bay_device::fault::StepFault;
 use bay_io::calls::Sink;
 use bay_io::writer::WatchedWriter;
+use bay_nodes::switch::Operation;
 use bay_services::answer::Command;
 
 // The number of octets that are written as digits at a time.
@@ -149,22 +150,30 @@ fn put_ended<W: Sink>(writer: &mut WatchedWriter<W>, moment: u64, ended: &Option
     }
 }
 
-// Returns the end of a command's line.
-fn order(on: bool) -> &'static [u8]
-    ensures { result.now ≡ order_text on }
+/// Returns the end of a command's line.
+pub fn order(operation: Operation) -> &'static [u8]
+    ensures { result.now ≡ order_text operation }
 {
-    if on { b" on\n" } else { b" off\n" }
+    match operation {
+        Operation::Open => b" off\n",
+        Operation::Close => b" on\n",
+    }
 }
 
 // Writes the line of a command to the switch with this id.
 #[cold]
-fn put_command_line<W: Sink>(writer: &mut WatchedWriter<W>, moment: u64, id: &str, on: bool)
-    ensures { Puts W.contents W.does writer.old (command_line moment id.now on) writer.new }
+fn put_command_line<W: Sink>(
+    writer: &mut WatchedWriter<W>,
+    moment: u64,
+    id: &str,
+    operation: Operation,
+)
+    ensures { Puts W.contents W.does writer.old (command_line moment id.now operation) writer.new }
 {
     writer.put_number(moment);
     writer.put(b" command ");
     writer.put(id.as_bytes());
-    writer.put(order(on));
+    writer.put(order(operation));
 }
 
 // Writes the line of a command.
@@ -178,7 +187,7 @@ fn put_command<W: Sink>(
         writer.new }
 {
     match device.id(command.switch) {
-        Some(id) => put_command_line(writer, moment, id, command.on),
+        Some(id) => put_command_line(writer, moment, id, command.operation),
         None => {}
     }
 }

@@ -246,7 +246,7 @@ module _ (first : State) (past : List Past) (steps : EachPast Steps first past)
         switch = l.switch;
         here = ap (λ ss. slice_get ss l.command.switch) (sym switches) ∙ l.here;
         named = refl;
-        on = refl;
+        operation = refl;
         talk = from.talk;
         connected = from.connected;
         terms = from.replied.terms;
@@ -286,4 +286,5 @@ run-answered parts first text status run before after line command e reads =
     o.behind line o.at l command reads)
 
 pub commands-are-answered : CommandsAreAnswered
-commands-are-answered = of-each printed_command other-no-command load-no-command AreAnswered run-answered
+commands-are-answered =
+    of-each printed_command other-no-command load-no-command AreAnswered run-answered

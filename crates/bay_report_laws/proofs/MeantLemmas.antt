@@ -104,7 +104,8 @@ are-values s writes outputs k (switch ∷ switches) told =
       ap₂ (λ (opens closes : Bool). let p : PrintedSwitch =
           record { id = switch.id; opens = opens; closes = closes } in
           p ∷ switches_told s (k + 1) switches)
-          (ap (is_truth true) here.opening.value_is ∙ own-truth (output_of k EnableOpen writes outputs))
+          (ap (is_truth true) here.opening.value_is
+          ∙ own-truth (output_of k EnableOpen writes outputs))
           (ap (is_truth true) here.closing.value_is
           ∙ own-truth (output_of k EnableClose writes outputs)),
       are-values s writes outputs (k + 1) switches (λ j less. told j (omega (arith, less))),
@@ -168,7 +169,8 @@ module _ (c : Checked) (first : State) (past : List Past) (steps : EachPast Step
       (past-both first at.earlier most both here.1) j less)) in
       let values : AreValues first.writes outputs 0 first.switches
       (switches_told p.after 0 first.switches) =
-      are-values p.after first.writes outputs 0 first.switches (λ j less. rows j (omega (arith, less)))
+      are-values p.after first.writes outputs 0 first.switches
+      (λ j less. rows j (omega (arith, less)))
       in
       subst (IsMeant c begin first past (load_text ∷ before) line) (some-same told read both_read)
       (record {
@@ -201,7 +203,7 @@ of-scan now answer s line read reads (inr (inl order)) =
     no-read printed_scan other-no-scan load-none line read
     (ap printed_scan order.is
     ∙ no-scan-line (decimal now) (codes "command") (order.switch.id ++ 32 ∷ order_word
-    order.command.on) (decimal-free 32 now no-space) refl refl) reads
+    order.command.operation) (decimal-free 32 now no-space) refl refl) reads
 of-scan now answer s line read reads (inr (inr other)) =
     no-read printed_scan other-no-scan load-none line read other.no_scan reads
 

@@ -82,7 +82,7 @@ module _ (first : State) (past : List Past) (steps : EachPast Steps first past)
   order-switches = (past-fixed first (at.order ∷ at.earlier) order-steps).switches
 
   abbrev pub order_said : PrintedCommand
-  order_said = record { moment = at.order.now; id = l.switch.id; on = l.command.on }
+  order_said = record { moment = at.order.now; id = l.switch.id; operation = l.command.operation }
 
   -- It is read as the command of the event.
   pub order-read : (command : PrintedCommand) → printed_command line ≡ Some command
@@ -97,7 +97,8 @@ module _ (first : State) (past : List Past) (steps : EachPast Steps first past)
       (subst HaveIds (sym order-switches) ids) l.here in
       some-same order_said command
       (sym (ap printed_command l.is
-      ∙ command-read at.order.now l.switch.id l.command.on early (name-plain 16 l.switch.id named))
+      ∙ command-read at.order.now l.switch.id l.command.operation early
+      (name-plain 16 l.switch.id named))
       ∙ reads)
 
 -- ---- the text of a run
@@ -223,12 +224,14 @@ module _ {A : Type 0} (read : List ℕ → Option A)
     OfReport scenario text status = HasNone read text ⊎ IsOf Are scenario text status
 
     by-load : (scenario : List ℕ) (parts : ScenarioParts) (log : Option (List ℕ))
-        (text : List ℕ) (status : ℕ) (loaded : Result State LoadFault) → scenario_of scenario ≡ Some parts
+        (text : List ℕ) (status : ℕ) (loaded : Result State LoadFault)
+        → scenario_of scenario ≡ Some parts
         → load_of parts.bay parts.logic ≡ loaded → LoadReport loaded parts.trace log text status
         → OfReport scenario text status
     by-load scenario parts log text status (Ok first) cut is told =
         let run : IsRun parts first text status =
-        run-of parts.bay parts.logic first (loaded-from parts.bay parts.logic first is) parts.trace log
+        run-of parts.bay parts.logic first (loaded-from parts.bay parts.logic first is) parts.trace
+        log
         text status told in
         inr (record {
           parts = parts;

@@ -1,9 +1,11 @@
 -- What is printed for an event is lines: of a scan, of commands, and others.
-use Rattle.std.proofs.Common.{◌≡◌, ℕ, ◌+◌, Bool, true, false, List, [], ◌∷◌, ◌++◌, codes, slice_get, zero, suc, Option, Some, None, Result, Ok, Err, ◌⊎◌, inl, inr, refl, ap, sym, subst, ◌∙◌, arith}
+use Rattle.std.proofs.Common.{◌≡◌, ℕ, ◌+◌, true, List, [], ◌∷◌, ◌++◌, codes, slice_get, zero, suc, Option, Some, None, Result, Ok, Err, ◌⊎◌, inl, inr, refl, ap, sym, subst, ◌∙◌, arith}
 use Rattle.std.specs.Fmt.{decimal}
 use Rattle.std.specs.List.{Contains}
 use Rattle.hex.specs.Hex.{encode_lower}
 use Rattle.bay_config.specs.Key.{is_identifier}
+use Rattle.bay_nodes.specs.declared.switch.Operation.{Operation}
+use Rattle.bay_nodes.specs.declared.switch.Operation.TheVariants as operations
 use Rattle.bay_nodes.specs.declared.switch.Switch.{Switch}
 use Rattle.bay_services.specs.declared.answer.Command.{Command}
 use Rattle.bay_device.specs.Code.{step_code_of}
@@ -43,7 +45,7 @@ pub record IsCommandLine (now : ℕ) (answer : Result Step StepFault) (s : State
   pub has : Contains step.commands command
   pub switch : Switch
   pub here : slice_get s.switches command.switch ≡ Some switch
-  pub is : line ≡ order_line now switch.id command.on
+  pub is : line ≡ order_line now switch.id command.operation
 
 -- a line of an event: of its scan, of a command, or another
 abbrev pub IsLineOf : ℕ → Result Step StepFault → State → List ℕ → Type 0
@@ -99,26 +101,26 @@ scan-free now steps ps all =
 
 -- ---- a command
 
-order-is : (on : Bool) → order_text on ≡ 32 ∷ (order_word on ++ 10 ∷ [])
-order-is true = refl
-order-is false = refl
+order-is : (o : Operation) → order_text o ≡ 32 ∷ (order_word o ++ 10 ∷ [])
+order-is operations.Open = refl
+order-is operations.Close = refl
 
-pub command-is : (now : ℕ) (id : List ℕ) (on : Bool)
-    → command_line now id on ≡ order_line now id on ++ 10 ∷ []
-command-is now id on =
-    ap (λ t. decimal now ++ codes " command " ++ id ++ t) (order-is on)
-    ∙ command-whole (decimal now) id (order_word on)
+pub command-is : (now : ℕ) (id : List ℕ) (o : Operation)
+    → command_line now id o ≡ order_line now id o ++ 10 ∷ []
+command-is now id o =
+    ap (λ t. decimal now ++ codes " command " ++ id ++ t) (order-is o)
+    ∙ command-whole (decimal now) id (order_word o)
 
-order-free : (on : Bool) → free 10 (order_word on) ≡ true
-order-free true = refl
-order-free false = refl
+order-free : (o : Operation) → free 10 (order_word o) ≡ true
+order-free operations.Open = refl
+order-free operations.Close = refl
 
-pub command-free : (now : ℕ) (id : List ℕ) (on : Bool) → IsPlain id
-    → free 10 (order_line now id on) ≡ true
-command-free now id on plain =
-    free-append 10 (decimal now) (32 ∷ (codes "command" ++ 32 ∷ (id ++ 32 ∷ order_word on)))
+pub command-free : (now : ℕ) (id : List ℕ) (o : Operation) → IsPlain id
+    → free 10 (order_line now id o) ≡ true
+command-free now id o plain =
+    free-append 10 (decimal now) (32 ∷ (codes "command" ++ 32 ∷ (id ++ 32 ∷ order_word o)))
     (decimal-free 10 now no-end)
-    (free-append 10 id (32 ∷ order_word on) plain.no_end (order-free on))
+    (free-append 10 id (32 ∷ order_word o) plain.no_end (order-free o))
 
 pub id-at : (switches : List Switch) (k : ℕ) (switch : Switch) → HaveIds switches
     → slice_get switches k ≡ Some switch → is_identifier 16 switch.id ≡ true
@@ -203,12 +205,13 @@ module _ (now : ℕ) (answer : Result Step StepFault) (s : State) (ids : HaveIds
   module _ (step : Step) (done : answer ≡ Ok step) where
     command-lines : (command : Command) (o : Option Switch)
         → slice_get s.switches command.switch ≡ o → Contains step.commands command
-        → AreLines Is (command_part now command.on o)
+        → AreLines Is (command_part now command.operation o)
     command-lines command None here has = no-lines
     command-lines command (Some switch) here has =
-        whole-line (command_line now switch.id command.on) (order_line now switch.id command.on)
-        (command-is now switch.id command.on)
-        (command-free now switch.id command.on
+        whole-line (command_line now switch.id command.operation)
+        (order_line now switch.id command.operation)
+        (command-is now switch.id command.operation)
+        (command-free now switch.id command.operation
         (name-plain 16 switch.id (id-at s.switches command.switch switch ids here)))
         (inr (inl (record {
           step = step;

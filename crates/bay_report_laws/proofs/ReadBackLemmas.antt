@@ -24,10 +24,10 @@ reads-scans now steps s early few ids = (
 )
 
 pub reads-commands : ReadsCommands
-reads-commands now id on early named = (
-  order_line now id on,
-  command-is now id on,
-  command-read now id on early (name-plain 16 id named),
+reads-commands now id o early named = (
+  order_line now id o,
+  command-is now id o,
+  command-read now id o early (name-plain 16 id named),
 )
 
 pub reads-sends : ReadsSends

@@ -7,6 +7,8 @@ use Rattle.std.specs.Fmt.{decimal}
 use Rattle.std.specs.Prelude.{option_and_then, option_map}
 use Rattle.std.specs.Str.{all_ascii_digits, bytes_eq}
 use Rattle.std.specs.Str.Parse.{digits_value}
+use Rattle.bay_nodes.specs.declared.switch.Operation.{Operation}
+use Rattle.bay_nodes.specs.declared.switch.Operation.TheVariants as operations
 use Rattle.bay_report.specs.Lines.{digit_of}
 use Rattle.bay_report_laws.specs.Printed.{PrintedSwitch, budget_in, command_in, command_of, number_named, number_of, order_of, parts_in, printed_budget, printed_command, printed_scan, printed_send, scan_in, scan_of, send_in, switch_in, switch_told, switches_in, words_in}
 use Rattle.bay_report_laws.proofs.LineLemmas.{NoDigit, decimal-free, free, free-append, split-at, split-none}
@@ -157,32 +159,33 @@ scan-read now steps ps first second all =
 
 -- ---- the line of a command
 
-abbrev pub order_word : Bool → List ℕ
-order_word true = codes "on"
-order_word false = codes "off"
+abbrev pub order_word : Operation → List ℕ
+order_word operations.Open = codes "off"
+order_word operations.Close = codes "on"
 
-abbrev pub order_line : ℕ → List ℕ → Bool → List ℕ
-order_line now id on =
-    decimal now ++ 32 ∷ (codes "command" ++ 32 ∷ (id ++ 32 ∷ order_word on))
+abbrev pub order_line : ℕ → List ℕ → Operation → List ℕ
+order_line now id o =
+    decimal now ++ 32 ∷ (codes "command" ++ 32 ∷ (id ++ 32 ∷ order_word o))
 
-order-free : (on : Bool) → free 32 (order_word on) ≡ true
-order-free true = refl
-order-free false = refl
+order-free : (o : Operation) → free 32 (order_word o) ≡ true
+order-free operations.Open = refl
+order-free operations.Close = refl
 
-order-read : (on : Bool) → order_of (order_word on) ≡ Some on
-order-read true = refl
-order-read false = refl
+order-read : (o : Operation) → order_of (order_word o) ≡ Some o
+order-read operations.Open = refl
+order-read operations.Close = refl
 
-pub command-read : (now : ℕ) (id : List ℕ) (on : Bool) → now < 2 ^ 64 → IsPlain id
-    → printed_command (order_line now id on) ≡ Some (record { moment = now; id = id; on = on })
-command-read now id on small plain =
-    ap command_in (split-at 32 (decimal now) (codes "command" ++ 32 ∷ (id ++ 32 ∷ order_word on))
+pub command-read : (now : ℕ) (id : List ℕ) (o : Operation) → now < 2 ^ 64 → IsPlain id
+    → printed_command (order_line now id o)
+    ≡ Some (record { moment = now; id = id; operation = o })
+command-read now id o small plain =
+    ap command_in (split-at 32 (decimal now) (codes "command" ++ 32 ∷ (id ++ 32 ∷ order_word o))
     (decimal-free 32 now no-space)
-    ∙ ap (λ ls. decimal now ∷ ls) (split-at 32 (codes "command") (id ++ 32 ∷ order_word on) refl
-    ∙ ap (λ ls. codes "command" ∷ ls) (split-at 32 id (order_word on) plain.no_space
-    ∙ ap (λ ls. id ∷ ls) (split-none 32 (order_word on) (order-free on)))))
-    ∙ ap (λ o. command_of o id (order_of (order_word on))) (number-read now small)
-    ∙ ap (λ o. command_of (Some now) id o) (order-read on)
+    ∙ ap (λ ls. decimal now ∷ ls) (split-at 32 (codes "command") (id ++ 32 ∷ order_word o) refl
+    ∙ ap (λ ls. codes "command" ∷ ls) (split-at 32 id (order_word o) plain.no_space
+    ∙ ap (λ ls. id ∷ ls) (split-none 32 (order_word o) (order-free o)))))
+    ∙ ap (λ m. command_of m id (order_of (order_word o))) (number-read now small)
+    ∙ ap (λ m. command_of (Some now) id m) (order-read o)
 
 -- ---- the line of sent octets
 

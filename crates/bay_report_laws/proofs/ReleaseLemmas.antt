@@ -1,7 +1,9 @@
 -- Before each line of a command stands that of a scan that releases it.
-use Rattle.std.proofs.Common.{◌≡◌, ◌≢◌, ℕ, zero, suc, ◌+◌, ◌<◌, ◌≤◌, ◌^◌, Bool, true, false, List, [], ◌∷◌, ◌++◌, slice_get, if◌then◌else◌, Option, Some, None, Result, Ok, IfOk, refl, ap, ap₂, sym, subst, ◌∙◌, append_assoc, append-nil, arith}
+use Rattle.std.proofs.Common.{◌≡◌, ◌≢◌, ℕ, zero, suc, ◌+◌, ◌<◌, ◌≤◌, ◌^◌, true, List, [], ◌∷◌, ◌++◌, slice_get, Option, Some, None, Result, Ok, IfOk, refl, ap, ap₂, sym, subst, ◌∙◌, append_assoc, append-nil, arith}
 use Rattle.std.proofs.lemmas.List.Elements.{All-contains}
 use Rattle.std.specs.List.{Contains}
+use Rattle.bay_nodes.specs.declared.switch.Operation.{Operation}
+use Rattle.bay_nodes.specs.declared.switch.Operation.TheVariants as operations
 use Rattle.bay_nodes.specs.declared.switch.Switch.{Switch}
 use Rattle.bay_process.specs.Values.{is_truth}
 use Rattle.bay_process.proofs.ToldLemmas.{Keeps}
@@ -79,11 +81,11 @@ told-first s k switches switch here =
     (record { id = switch.id; opens = may_open s n; closes = may_close s n })) there
     (told-at s 0 k switches switch here)
 
-released-as : (s t : State) (k : ℕ) (on : Bool) → Keeps s.rows t.rows
-    → is_truth true (leaf_of (releasing k on) t.rows) ≡ true
-    → (if on then may_close s k else may_open s k) ≡ true
-released-as s t k true keeps enabled = ap (is_truth true) (sym (keeps k _)) ∙ enabled
-released-as s t k false keeps enabled = ap (is_truth true) (sym (keeps k _)) ∙ enabled
+released-as : (s t : State) (id : List ℕ) (k : ℕ) (operation : Operation) → Keeps s.rows t.rows
+    → is_truth true (leaf_of (releasing k operation) t.rows) ≡ true
+    → lets operation (record { id = id; opens = may_open s k; closes = may_close s k }) ≡ true
+released-as s t id k operations.Open keeps enabled = ap (is_truth true) (sym (keeps k _)) ∙ enabled
+released-as s t id k operations.Close keeps enabled = ap (is_truth true) (sym (keeps k _)) ∙ enabled
 
 -- ---- the lines of a scan
 
@@ -247,7 +249,8 @@ module _ (age : ℕ) (first : State) (past : List Past) (known : Known age first
               };
               told = told-first q.after k q.after.switches l.switch switch_is;
               same = refl;
-              released = released-as q.after old k l.command.on s.keeps rel.enabled;
+              released =
+                  released-as q.after old l.switch.id k l.command.operation s.keeps rel.enabled;
             };
         recent =
             (let aged : old.scan_max_age_ms ≡ first.scan_max_age_ms =
@@ -289,4 +292,5 @@ run-released parts first text status run before after line command e reads =
     begin line_of_load (load-is run.printed.report) o.behind line o.at l command reads)
 
 pub commands-are-released : CommandsAreReleased
-commands-are-released = of-each printed_command other-no-command load-no-command AreReleased run-released
+commands-are-released =
+    of-each printed_command other-no-command load-no-command AreReleased run-released

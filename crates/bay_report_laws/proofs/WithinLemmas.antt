@@ -90,7 +90,8 @@ module _ (first : State) (budget : ℕ) (small : budget < 2 ^ 64) (ids : HaveIds
       small
   event-within p past steps within line (inr (inl l)) =
       none-within budget line (ap printed_scan l.is
-      ∙ no-scan-line (decimal p.now) (codes "command") (l.switch.id ++ 32 ∷ order_word l.command.on)
+      ∙ no-scan-line (decimal p.now) (codes "command")
+      (l.switch.id ++ 32 ∷ order_word l.command.operation)
       (decimal-free 32 p.now no-space) refl refl)
   event-within p past steps within line (inr (inr other)) = other-within budget line other
 
@@ -241,7 +242,8 @@ run-within parts first text status run line scan at is =
     )
 
 by-load : (parts : ScenarioParts) (log : Option (List ℕ)) (text : List ℕ) (status : ℕ)
-    (loaded : Result State LoadFault) → load_of parts.bay parts.logic ≡ loaded → LoadReport loaded parts.trace log text status
+    (loaded : Result State LoadFault) → load_of parts.bay parts.logic ≡ loaded
+    → LoadReport loaded parts.trace log text status
     → AreWithinBudget text
 by-load parts log text status (Ok first) is told =
     run-within parts first text status

@@ -1,4 +1,5 @@
--- What stands beside a command's line: the operate that asked for it, and the response that accepts it.
+-- What stands beside a command's line: the operate that asked for it, and the response that accepts
+-- it.
 use Rattle.std.specs.Prelude.{ℕ, ◌≡◌, List, ◌∷◌, ◌++◌, slice_get, Some}
 use Rattle.std.specs.Borrow.{Bor}
 use Rattle.std.specs.List.{Contains}
@@ -24,7 +25,8 @@ use Rattle.bay_replay.specs.Runs.{IsRun}
 
 -- A command's line is of what is printed for octets of a client. One of their PDUs asks for the
 -- operate of this switch; and among the lines that are printed for these octets is one of sent
--- octets, by their digits, whose PDU, read as the response to that one, has a success as its result.
+-- octets, by their digits, whose PDU, read as the response to that one, has a success as its
+-- result.
 pub record IsAnswered (begin : List ℕ) (first : State) (past : List Past)
     (before : List (List ℕ)) (line : List ℕ) (command : PrintedCommand) : Type 0 where
   pub later : List Past
@@ -40,7 +42,7 @@ pub record IsAnswered (begin : List ℕ) (first : State) (past : List Past)
   pub switch : Switch
   pub here : slice_get first.switches operate.switch ≡ Some switch
   pub named : switch.id ≡ command.id
-  pub on : operate.on ≡ command.on
+  pub operation : operate.operation ≡ command.operation
   pub talk : Talk
   pub connected : connection_at (place_of association) (device_after first earlier) ≡ Some talk
   pub terms : Terms

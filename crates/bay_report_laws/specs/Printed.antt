@@ -1,9 +1,11 @@
--- How a report is read: line by line, a line by words with one space between them, and a word by its
--- parts round `=`. Nothing here looks at how it is printed.
+-- How a report is read: line by line, a line by words with one space between them, and a word by
+-- its parts round `=`. Nothing here looks at how it is printed.
 use Rattle.std.specs.Prelude.{ℕ, ◌==◌, ◌&&◌, Bool, true, false, nat_lt, List, [], ◌∷◌, ◌++◌, length, codes, Option, None, Some, option_and_then, option_map, if◌then◌else◌}
 use Rattle.std.specs.List.{slice_split}
 use Rattle.std.specs.Str.{all_ascii_digits, bytes_eq}
 use Rattle.std.specs.Str.Parse.{digits_value}
+use Rattle.bay_nodes.specs.declared.switch.Operation.{Operation}
+use Rattle.bay_nodes.specs.declared.switch.Operation.TheVariants as operations
 
 -- the lines of a text, each of which ends in LF; behind the last LF stands an empty one
 abbrev pub lines_in : List ℕ → List (List ℕ)
@@ -106,16 +108,17 @@ printed_scan line = scan_in (words_in line)
 pub record PrintedCommand : Type 0 where
   pub moment : ℕ
   pub id : List ℕ
-  pub on : Bool
+  pub operation : Operation
 
-abbrev pub order_of : List ℕ → Option Bool
+abbrev pub order_of : List ℕ → Option Operation
 order_of word =
-    if bytes_eq word (codes "on") then Some true
-    else if bytes_eq word (codes "off") then Some false
+    if bytes_eq word (codes "on") then Some operations.Close
+    else if bytes_eq word (codes "off") then Some operations.Open
     else None
 
-abbrev pub command_of : Option ℕ → List ℕ → Option Bool → Option PrintedCommand
-command_of (Some moment) id (Some on) = Some (record { moment = moment; id = id; on = on })
+abbrev pub command_of : Option ℕ → List ℕ → Option Operation → Option PrintedCommand
+command_of (Some moment) id (Some operation) =
+    Some (record { moment = moment; id = id; operation = operation })
 command_of _ id _ = None
 
 abbrev pub command_in : List (List ℕ) → Option PrintedCommand

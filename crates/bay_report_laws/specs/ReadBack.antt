@@ -1,7 +1,8 @@
 -- What is printed is read back.
-use Rattle.std.specs.Prelude.{ℕ, ◌≡◌, ◌+◌, ◌<◌, ◌^◌, Bool, true, List, [], ◌∷◌, ◌++◌, Some}
+use Rattle.std.specs.Prelude.{ℕ, ◌≡◌, ◌+◌, ◌<◌, ◌^◌, true, List, [], ◌∷◌, ◌++◌, Some}
 use Rattle.hex.specs.Hex.{encode_lower}
 use Rattle.bay_config.specs.Key.{is_identifier}
+use Rattle.bay_nodes.specs.declared.switch.Operation.{Operation}
 use Rattle.bay_nodes.specs.declared.switch.Switch.{Switch}
 use Rattle.bay_device.specs.Device.{State}
 use Rattle.bay_device.specs.LookUps.{may_close, may_open}
@@ -43,9 +44,10 @@ ReadsScans =
 
 abbrev pub ReadsCommands : Type 0
 ReadsCommands =
-    (now : ℕ) (id : List ℕ) (on : Bool) → now < 2 ^ 64 → is_identifier 16 id ≡ true
-    → (line : List ℕ) × IsEnded (command_line now id on) line
-    × (printed_command line ≡ Some (record { moment = now; id = id; on = on }))
+    (now : ℕ) (id : List ℕ) (operation : Operation) → now < 2 ^ 64 → is_identifier 16 id ≡ true
+    → (line : List ℕ) × IsEnded (command_line now id operation) line
+    × (printed_command line ≡ Some (record
+    { moment = now; id = id; operation = operation }))
 
 abbrev pub ReadsSends : Type 0
 ReadsSends =

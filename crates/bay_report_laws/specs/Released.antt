@@ -1,6 +1,8 @@
 -- What stands before a command's line in the text of a report.
-use Rattle.std.specs.Prelude.{ℕ, ◌≡◌, ◌+◌, ◌≤◌, true, All, List, ◌∷◌, ◌++◌, Some, if◌then◌else◌}
+use Rattle.std.specs.Prelude.{ℕ, ◌≡◌, ◌+◌, ◌≤◌, true, All, List, ◌∷◌, ◌++◌, Some}
 use Rattle.std.specs.List.{Contains}
+use Rattle.bay_nodes.specs.declared.switch.Operation.{Operation}
+use Rattle.bay_nodes.specs.declared.switch.Operation.TheVariants as operations
 use Rattle.bay_device.specs.Device.{State}
 use Rattle.bay_device.specs.Fresh.{IsSameProcess, Past}
 use Rattle.bay_device.specs.declared.event.Event.TheVariants.{Scan}
@@ -11,8 +13,8 @@ use Rattle.bay_report_laws.specs.Printed.{PrintedCommand, PrintedScan, PrintedSw
 use Rattle.bay_report_laws.specs.Reports.{OfEach}
 use Rattle.bay_replay.specs.Runs.{IsRun, printed_of}
 
--- A line, which stands behind these lines of a text that begins so, is one of what is printed for an
--- event, which comes behind these events.
+-- A line, which stands behind these lines of a text that begins so, is one of what is printed for
+-- an event, which comes behind these events.
 pub record IsPrintedFor (begin : List ℕ) (p : Past) (earlier : List Past)
     (before : List (List ℕ)) (line : List ℕ) : Type 0 where
   pub part : List ℕ
@@ -20,12 +22,17 @@ pub record IsPrintedFor (begin : List ℕ) (p : Past) (earlier : List Past)
   pub own : step_text p.now p.answer p.after ≡ part ++ (line ++ 10 ∷ rest)
   pub behind : ended before ≡ begin ++ (printed_of earlier ++ part)
 
+-- a scan's line says that the operation of a switch is released
+abbrev pub lets : Operation → PrintedSwitch → Bool
+lets operations.Open switch = switch.opens
+lets operations.Close switch = switch.closes
+
 -- A scan's line releases a command: it has `id=x1` of the switch for on, `id=1y` for off.
 pub record Releases (scan : PrintedScan) (command : PrintedCommand) : Type 0 where
   pub switch : PrintedSwitch
   pub told : Contains scan.switches switch
   pub same : switch.id ≡ command.id
-  pub released : (if command.on then switch.closes else switch.opens) ≡ true
+  pub released : lets command.operation switch ≡ true
 
 -- Among the lines before a command's stands that of a scan that releases it, at most so many
 -- milliseconds before; both are of what is printed for events of this history, and of the events

@@ -11,6 +11,7 @@ use crate::standing::Standing;
 use crate::told::{Closing, Turn};
 use bay_base::listing::Listing;
 use bay_device::event::{ASSOCIATIONS, Why};
+use bay_nodes::switch::Operation;
 use bay_services::answer::{Command, Decision};
 use std::marker::Model;
 use std::net::SocketAddrV4;
@@ -55,7 +56,7 @@ impl Notes {
             refused: None,
             commands: Entries::new(Command {
                 switch: 0,
-                on: false,
+                operation: Operation::Open,
             }),
             decisions: [None, None, None, None, None, None, None, None],
             closed: Entries::new((0, Closing::Ended)),

@@ -1,5 +1,5 @@
 -- What is logged of a server, line by line.
-use Rattle.std.specs.Prelude.{ℕ, ℤ, ◌==◌, Bool, List, [], ◌∷◌, ◌++◌, codes, map, slice_get, slice_index, Option, None, Some, option_map, unwrap_or, Result, Ok, Err, unsigned_abs, if◌then◌else◌}
+use Rattle.std.specs.Prelude.{ℕ, ℤ, ◌==◌, List, [], ◌∷◌, ◌++◌, codes, map, slice_get, slice_index, Option, None, Some, option_map, unwrap_or, Result, Ok, Err, unsigned_abs, if◌then◌else◌}
 use Rattle.std.specs.Int.{is_negative}
 use Rattle.std.specs.List.{flat_map}
 use Rattle.std.specs.Fmt.{decimal}
@@ -10,6 +10,8 @@ use Rattle.bay_control.specs.declared.cause.AddCause.{AddCause}
 use Rattle.bay_control.specs.declared.cause.AddCause.TheVariants.{NotSupported, SelectFailed, PositionReached, BlockedByMode, BlockedByInterlocking, CommandAlreadyInExecution, OneOfNControl, TimeLimitOver, ObjectNotSelected}
 use Rattle.bay_device.specs.Device.{State}
 use Rattle.bay_lines.specs.Shown.{shown_text}
+use Rattle.bay_nodes.specs.declared.switch.Operation.{Operation}
+use Rattle.bay_nodes.specs.declared.switch.Operation.TheVariants as operations
 use Rattle.bay_nodes.specs.declared.switch.Switch.{Switch}
 use Rattle.bay_port.specs.Code.{code_of as port_code_of}
 use Rattle.bay_port.specs.declared.news.News.{News}
@@ -135,8 +137,9 @@ verdict_words (Err ObjectNotSelected) =
     codes ": refused 18: the association has not selected the switch for this\n"
 
 -- the position that is asked for
-abbrev pub position_words : Bool → List ℕ
-position_words on = if on then codes " on orCat=" else codes " off orCat="
+abbrev pub position_words : Operation → List ℕ
+position_words operations.Open = codes " off orCat="
+position_words operations.Close = codes " on orCat="
 
 abbrev pub sign_text : ℤ → List ℕ
 sign_text number = if is_negative number then codes "-" else []
@@ -149,7 +152,7 @@ id_of s k = unwrap_or (option_map (λ (switch : Switch). switch.id) (slice_get s
 abbrev pub written_line : ℕ → List ℕ → List ℕ → Decision → Asked → List ℕ
 written_line now id ident decision asked =
     joined (decimal now ∷ codes " association " ∷ decimal decision.association
-    ∷ service_words decision.part ∷ id ∷ position_words asked.on ∷ sign_text asked.origin.cat
+    ∷ service_words decision.part ∷ id ∷ position_words asked.operation ∷ sign_text asked.origin.cat
     ∷ decimal (unsigned_abs asked.origin.cat) ∷ codes " orIdent="
     ∷ ident ∷ codes " ctlNum=" ∷ decimal asked.ctl_num
     ∷ verdict_words decision.answer ∷ [])
@@ -184,8 +187,8 @@ abbrev pub refused_log : ℕ → Option ℕ → List ℕ → List (List ℕ)
 refused_log now None shown = []
 refused_log now (Some code) shown = refused_line now code shown ∷ []
 
--- A turn whose line is shown so: an association was opened, the line was refused, controls were asked for,
--- associations were closed.
+-- A turn whose line is shown so: an association was opened, the line was refused, controls were
+-- asked for, associations were closed.
 abbrev pub turn_log : ℕ → State → List ℕ → Turn → List (List ℕ)
 turn_log now s shown turn =
     opened_log now turn.opened ++ refused_log now turn.refused shown

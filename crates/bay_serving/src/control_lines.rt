@@ -12,6 +12,7 @@ use bay_device::device::Device;
 use bay_io::calls::{Part, Sink};
 use bay_io::writer::WatchedWriter;
 use bay_lines::shown::Shown;
+use bay_nodes::switch::Operation;
 use bay_services::answer::{Asked, Decision};
 use bay_services::target::ControlPart;
 
@@ -58,10 +59,13 @@ fn verdict_words(answer: Result<(), AddCause>) -> &'static [u8]
 }
 
 // Returns the position that is asked for.
-fn position_words(on: bool) -> &'static [u8]
-    ensures { result.now ≡ spec.position_words on }
+fn position_words(operation: Operation) -> &'static [u8]
+    ensures { result.now ≡ spec.position_words operation }
 {
-    if on { b" on orCat=" } else { b" off orCat=" }
+    match operation {
+        Operation::Open => b" off orCat=",
+        Operation::Close => b" on orCat=",
+    }
 }
 
 // Returns the sign of a number, if it is below 0.
@@ -99,7 +103,7 @@ fn log_written<'a, W: Sink>(
         Part::Number(u64::from(decision.association)),
         Part::Text(service_words(decision.part)),
         Part::Text(id),
-        Part::Text(position_words(asked.on)),
+        Part::Text(position_words(asked.operation)),
         Part::Text(sign(asked.origin.cat)),
         Part::Number(u64::from(asked.origin.cat.unsigned_abs())),
         Part::Text(b" orIdent="),
@@ -183,7 +187,8 @@ pub fn log_controls<W: Sink>(
     moment: u64,
     asked: &[Option<Listing<Decision>>],
 )
-    ensures { LogsAll W.contents W.does writer.old (flat_map (asked_log moment device.now) asked.now)
+    ensures { LogsAll W.contents W.does writer.old
+        (flat_map (asked_log moment device.now) asked.now)
         writer.new }
 {
     for decisions in asked {

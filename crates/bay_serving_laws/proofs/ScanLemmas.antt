@@ -29,7 +29,7 @@ released-by past old s now age command tracks same aged released =
     record {
       scan = has-since now age r.at past old w near;
       enabled =
-          ap (λ rows. is_truth true (leaf_of (releasing command.switch command.on) rows))
+          ap (λ rows. is_truth true (leaf_of (releasing command.switch command.operation) rows))
           (sym rows) ∙ released.enabled;
       unchanged = process-same w.scan.after s rows
           (ap (λ (n : Notes). n.inputs) same.notes ∙ w.inputs);

@@ -55,7 +55,7 @@ record IsCommandLine (now : ℕ) (commands : List Command) (s : State) (line : L
   has : Contains commands command
   switch : Switch
   here : slice_get s.switches command.switch ≡ Some switch
-  is : line ≡ order_line now switch.id command.on
+  is : line ≡ order_line now switch.id command.operation
 
 module _ (now : ℕ) (commands : List Command) (s : State) (ids : HaveIds s.switches) where
   abbrev Is : List ℕ → Type 0
@@ -63,12 +63,12 @@ module _ (now : ℕ) (commands : List Command) (s : State) (ids : HaveIds s.swit
 
   command-lines : (command : Command) (o : Option Switch)
       → slice_get s.switches command.switch ≡ o → Contains commands command
-      → AreLines Is (command_part now command.on o)
+      → AreLines Is (command_part now command.operation o)
   command-lines command None here has = no-lines
   command-lines command (Some switch) here has =
-      subst (AreLines Is) (sym (command-is now switch.id command.on))
-      (one-line (order_line now switch.id command.on)
-      (command-free now switch.id command.on
+      subst (AreLines Is) (sym (command-is now switch.id command.operation))
+      (one-line (order_line now switch.id command.operation)
+      (command-free now switch.id command.operation
       (name-plain 16 switch.id (id-at s.switches command.switch switch ids here)))
       (inl (record { command = command; has = has; switch = switch; here = here; is = refl })))
 
@@ -172,12 +172,14 @@ module _ (first : State) (ids : HaveIds first.switches) where
       let within : t.now ≤ last_moment = ordered-on-time first h t past c.command order in
       let small : t.now < 2 ^ 64 = omega arith in
       let is : ◌≡◌ {A = Option PrintedCommand}
-      (Some (record { moment = t.now; id = c.switch.id; on = c.command.on })) (Some printed) =
-      sym (command-read t.now c.switch.id c.command.on small
+      (Some (record { moment = t.now; id = c.switch.id; operation = c.command.operation }))
+      (Some printed) =
+      sym (command-read t.now c.switch.id c.command.operation small
       (name-plain 16 c.switch.id (id-at s.switches c.command.switch c.switch named c.here)))
       ∙ sym (ap printed_command c.is) ∙ reads in
       let same_line : (let p : PrintedCommand =
-      record { moment = t.now; id = c.switch.id; on = c.command.on } in p) ≡ printed = cc in
+      record { moment = t.now; id = c.switch.id; operation = c.command.operation } in p) ≡ printed =
+      cc in
       record {
         command = c.command;
         told = c.has;
@@ -185,7 +187,7 @@ module _ (first : State) (ids : HaveIds first.switches) where
         switch = c.switch;
         here = ap (λ ss. slice_get ss c.command.switch) (sym same) ∙ c.here;
         named = sym (ap (λ (p : PrintedCommand). p.id) same_line);
-        on = sym (ap (λ (p : PrintedCommand). p.on) same_line);
+        operation = sym (ap (λ (p : PrintedCommand). p.operation) same_line);
         ordered = order;
       }
 

@@ -30,7 +30,7 @@ pub record IsReleasedBy (now age : ℕ) (past : List Past) (s : State) (command 
     : Type 0 where
   pub scan : HasScan now age past
   pub enabled : is_truth true
-      (leaf_of (releasing command.switch command.on) scan.scan.after.rows) ≡ true
+      (leaf_of (releasing command.switch command.operation) scan.scan.after.rows) ≡ true
   pub unchanged : IsSameProcess scan.scan.after s
 
 -- Some octets stand among others.

@@ -23,7 +23,7 @@ pub record IsPrintedFor (first : State) (h : Held) (t : DoneTurn) (past : List P
   pub switch : Switch
   pub here : slice_get first.switches command.switch ≡ Some switch
   pub named : printed.id ≡ switch.id
-  pub on : printed.on ≡ command.on
+  pub operation : printed.operation ≡ command.operation
   pub ordered : IsOrdered first h t past command
 
 -- A line stands in what is printed for a turn, or in what the process is told of it.
@@ -37,6 +37,7 @@ abbrev pub ArePrinted : State → Held → List Past → List DoneTurn → Type 
 ArePrinted first h past [] = Unit {0}
 ArePrinted first h past (t ∷ ts) =
     ((line : List ℕ) (printed : PrintedCommand)
-    → IsTurnLine t (held_behind t h).device line → printed_command line ≡ Some printed → IsPrintedFor first h t past printed)
+    → IsTurnLine t (held_behind t h).device line → printed_command line ≡ Some printed
+    → IsPrintedFor first h t past printed)
     × ArePrinted first (held_behind t h)
     (past_behind t.now (turn_events t.now t.line t.script h) h.device past) ts

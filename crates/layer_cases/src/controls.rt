@@ -17,6 +17,7 @@ use bay_control::cause::AddCause;
 use bay_control::control::ControlTable;
 use bay_control::controls::Controls;
 use bay_control::request::{Ask, Identity, Origin, View};
+use bay_nodes::switch::Operation;
 use cases::octets::octets_of;
 use cases::told::check_text;
 use cases::words::{first_word, words_of};
@@ -43,12 +44,21 @@ fn origin_of(alloc: Global, word: &str) -> Result<Origin> {
     })
 }
 
+// Reads an operation, as the position that it leads to.
+fn operation_of(word: &str) -> Result<Operation> {
+    Ok(if is_first(word, "on", "off")? {
+        Operation::Close
+    } else {
+        Operation::Open
+    })
+}
+
 // Reads what is asked for.
 fn ask_of(alloc: Global, word: &str) -> Result<Ask> {
     let (position, rest) = word.split_once(",").context("no originator")?;
     let (origin, test) = rest.split_once(",").unwrap_or((rest, "live"));
     Ok(Ask {
-        on: is_first(position, "on", "off")?,
+        operation: operation_of(position)?,
         test: is_first(test, "test", "live")?,
         origin: origin_of(alloc, origin)?,
     })
