@@ -28,7 +28,6 @@ NO_LAW = {
                            'lost',
     'bay_replay replay_watched': OWN_WORDS + 'what the reads gave, and what the writes took',
     'bay_report tell_unread': OWN_WORDS + 'the words of the line, and what is printed',
-    'bay_serve Server::new': 'the laws of bay_serve_laws begin with what it makes',
     'bay_serve serve_turn': 'it speaks of refusals alone; what a turn does has its laws in '
                             'bay_serve_laws',
     'bay_trace read_trace_line': OWN_WORDS + 'the forms of a line, one beside the other',
