@@ -10,7 +10,7 @@ use Rattle.il_text.specs.LetterCase.{upper_action, upper_entry, upper_entries, u
 use Rattle.il_text.specs.Listing.{Action, Entry, label, action, block, entry, entries_of, Declared, PlainProgram}
 use Rattle.il_text.specs.Parts.{Part, heading, opening, declaring, closing, labelling, acting, entering, leaving, ending}
 use Rattle.il_text.specs.Places.{last_line}
-use Rattle.il_text.specs.Reading.{onto, lines, tokens_of, Read, is_instruction, has_instruction, past_limit, with_instruction, within_bounds, within_limits, after_text_line, after_parts, after_line, whole_at, reading, none_yet, program_of}
+use Rattle.il_text.specs.Reading.{onto, lines, tokens_of, Read, is_instruction, has_instruction, past_limit, with_instruction, within_bounds, within_limits, after_text_line, after_parts, after_line, whole_at, reading, none_yet, program_of, most_instructions, most_open}
 use Rattle.il_text.specs.Steps.{Opened, Reached, at_place, with_name, declared_in, with_declarations, with_item, with_opened, is_start, is_between_blocks, block_scope, is_outside, is_some, is_load, may_begin_with, declared_here, closed_block, left_here, may_stand, may_act, may_enter, may_leave, step, steps}
 use Rattle.il_text.specs.Symbols.{pieces_of}
 use Rattle.il_text.specs.Texts.{ReadsAs}
@@ -269,16 +269,16 @@ cond-ok false p q s t e f = f
 counted-up : (n last k : ℕ) (s : Reached)
     → with_instruction n last k (upper_reached s) ≡ upper_ok (with_instruction n last k s)
 counted-up n last k s =
-    cond-ok (ltb k 4000) _ _ (Ok (record { reached = s; instructions = k + 1 }))
+    cond-ok (ltb k most_instructions) _ _ (Ok (record { reached = s; instructions = k + 1 }))
     (Err (past_limit n last (TooLong n))) refl refl
 
 bounded-up : (n last k : ℕ) (s : Reached)
     → within_bounds n last k (upper_reached s) ≡ upper_ok (within_bounds n last k s)
 unfolding within_bounds
 bounded-up n last k s =
-    ap (λ (m : ℕ). cond (leb m 16) (with_instruction n last k (upper_reached s))
+    ap (λ (m : ℕ). cond (leb m most_open) (with_instruction n last k (upper_reached s))
     (Err (past_limit n last (TooDeep n)))) (length-map s.parentheses upper_opened)
-    ∙ cond-ok (leb (length s.parentheses) 16) _ _ (with_instruction n last k s)
+    ∙ cond-ok (leb (length s.parentheses) most_open) _ _ (with_instruction n last k s)
     (Err (past_limit n last (TooDeep n))) (counted-up n last k s) refl
 
 limited-up : (n last k : ℕ) (ps : List Part) (s : Reached)

@@ -10,7 +10,7 @@ use Rattle.il_text.specs.Grammar.{Numbered, Derives}
 use Rattle.il_text.specs.Listing.{label, action, PlainProgram}
 use Rattle.il_text.specs.Parts.{Part, heading, opening, declaring, closing, labelling, acting, entering, leaving, ending}
 use Rattle.il_text.specs.Places.{last_line}
-use Rattle.il_text.specs.Reading.{Read, tokens_of, is_instruction, has_instruction, past_limit, with_instruction, within_bounds, after_text_line, after_parts, after_line, whole_at, reading, none_yet, program_of, lines}
+use Rattle.il_text.specs.Reading.{Read, tokens_of, is_instruction, has_instruction, past_limit, with_instruction, within_bounds, after_text_line, after_parts, after_line, whole_at, reading, none_yet, program_of, lines, most_instructions, most_open}
 use Rattle.il_text.specs.Steps.{Reached, nothing_read, at_place, with_name, with_item, with_opened, with_declarations, declared_in, left_here, block_scope, is_start, is_between_blocks, may_stand, may_act, may_enter, may_leave, step, steps}
 use Rattle.il_text.specs.Symbols.{pieces_of}
 use Rattle.il_text.specs.Texts.{TextLine, numbered_parts, all_parts, is_entering, is_leaving, IsDeep, Allowed, no_program, too_deep, too_long, Refused, Ends, OnParts, OnTokens, Reads, ReadsAs}
@@ -101,12 +101,12 @@ run-depth ps s e =
     omega (arith, h, a, b)
 
 deep-so : (ls : List TextLine) (s : Reached) → run nothing_read (all_parts ls) ≡ Some s
-    → 16 < depth s
+    → most_open < depth s
     → IsDeep ls
 deep-so ls s e h = let k = run-depth (all_parts ls) s e in omega (arith, k, h)
 
 shallow-so : (ls : List TextLine) (s : Reached) → run nothing_read (all_parts ls) ≡ Some s
-    → depth s ≤ 16 → IsDeep ls → ⊥
+    → depth s ≤ most_open → IsDeep ls → ⊥
 shallow-so ls s e h d = let k = run-depth (all_parts ls) s e in omega (arith, k, h, d)
 
 -- a part that is no instruction leaves the parentheses as they are
@@ -172,8 +172,8 @@ count-more before l =
 record After (before : List TextLine) (r : Read) : Type 0 where
   runs : run nothing_read (all_parts before) ≡ Some r.reached
   count : r.instructions ≡ count_by holds before
-  short : r.instructions ≤ 4000
-  shallow : depth r.reached ≤ 16
+  short : r.instructions ≤ most_instructions
+  shallow : depth r.reached ≤ most_open
 
 abbrev is_finished : Stage → Bool
 is_finished place.Finished = true
@@ -218,7 +218,7 @@ More last n ls =
 goes-quiet : (last n instr : ℕ) (before : List TextLine) (ls : List (List Piece)) (ps : List Part)
     (s : Reached) → More last n ls
     → run nothing_read (all_parts (before ++ (n, ps) ∷ [])) ≡ Some s → has_instruction ps ≡ false
-    → instr ≡ count_by holds before → instr ≤ 4000 → depth s ≤ 16
+    → instr ≡ count_by holds before → instr ≤ most_instructions → depth s ≤ most_open
     → Going last before n ls (rest last n ls (record { reached = s; instructions = instr })) ps
 goes-quiet last n instr before ls ps s f h q c k d =
     let m = count-more before (n, ps) in
@@ -237,7 +237,7 @@ goes-quiet last n instr before ls ps s f h q c k d =
 counts-so : (last n instr : ℕ) (before : List TextLine) (ls : List (List Piece)) (ps : List Part)
     (s : Reached) (b : Bool) → More last n ls
     → run nothing_read (all_parts (before ++ (n, ps) ∷ [])) ≡ Some s → has_instruction ps ≡ true
-    → instr ≡ count_by holds before → ltb instr 4000 ≡ b → depth s ≤ 16
+    → instr ≡ count_by holds before → ltb instr most_instructions ≡ b → depth s ≤ most_open
     → Going last before n ls
     (cond b (Ok (record { reached = s; instructions = instr + 1 }))
     (Err (past_limit n last (TooLong n))) >>= rest last n ls) ps
@@ -245,8 +245,8 @@ counts-so last n instr before ls ps s true f h q c t d =
     let m = count-more before (n, ps) in
     let z : ◌≡◌ {A = ℕ} (cond (has_instruction ps) 1 0) 1 = rw q refl in
     let u : instr + 1 ≡ count_by holds (before ++ (n, ps) ∷ []) = omega (arith, m, z, c) in
-    let k : instr < 4000 = ltb-true _ _ t in
-    let fits : instr + 1 ≤ 4000 = omega (arith, k) in
+    let k : instr < most_instructions = ltb-true _ _ t in
+    let fits : instr + 1 ≤ most_instructions = omega (arith, k) in
     inl (
       record {
         goes_on = goes_on _ s h;
@@ -259,22 +259,23 @@ counts-so last n instr before ls ps s true f h q c t d =
 counts-so last n instr before ls ps s false f h q c t d =
     let m = count-more before (n, ps) in
     let z : ◌≡◌ {A = ℕ} (cond (has_instruction ps) 1 0) 1 = rw q refl in
-    let k : 4000 ≤ instr = ltb-false _ _ t in
+    let k : most_instructions ≤ instr = ltb-false _ _ t in
     inr (too_long (goes_on _ s h) (shallow-so (before ++ (n, ps) ∷ []) s h d)
     (omega (arith, m, z, c, k)) refl)
 
 bounded-so : (last n instr : ℕ) (before : List TextLine) (ls : List (List Piece)) (ps : List Part)
     (s : Reached) (b : Bool) → More last n ls
     → run nothing_read (all_parts (before ++ (n, ps) ∷ [])) ≡ Some s → has_instruction ps ≡ true
-    → instr ≡ count_by holds before → leb (depth s) 16 ≡ b
+    → instr ≡ count_by holds before → leb (depth s) most_open ≡ b
     → Going last before n ls
     (cond b (with_instruction n last instr s) (Err (past_limit n last (TooDeep n)))
     >>= rest last n ls)
     ps
 bounded-so last n instr before ls ps s true f h q c t =
-    counts-so last n instr before ls ps s (ltb instr 4000) f h q c refl (leb-true _ _ t)
+    counts-so last n instr before ls ps s (ltb instr most_instructions) f h q c refl
+    (leb-true _ _ t)
 bounded-so last n instr before ls ps s false f h q c t =
-    let k : 16 < depth s = leb-false _ _ t in
+    let k : most_open < depth s = leb-false _ _ t in
     inr (too_deep (goes_on _ s h) (deep-so (before ++ (n, ps) ∷ []) s h k) refl)
 
 limited-so : (last n : ℕ) (before : List TextLine) (r : Read) (ls : List (List Piece))
@@ -287,7 +288,7 @@ limited-so : (last n : ℕ) (before : List TextLine) (r : Read) (ls : List (List
     (Ok (record { reached = s; instructions = r.instructions })) >>= rest last n ls) ps
 unfolding within_bounds
 limited-so last n before r ls ps s true f a h e q =
-    bounded-so last n r.instructions before ls ps s (leb (depth s) 16) f h q a.count refl
+    bounded-so last n r.instructions before ls ps s (leb (depth s) most_open) f h q a.count refl
 limited-so last n before r ls ps s false f a h e q =
     let d = quiet-depth n ps r.reached s q e in
     goes-quiet last n r.instructions before ls ps s f h q a.count a.short

@@ -63,18 +63,24 @@ has_instruction (p ∷ ps) = is_instruction p || has_instruction ps
 abbrev pub past_limit : ℕ → ℕ → TextFault → TextFault
 past_limit line last fault = if line == last then BadLine line else fault
 
--- one line with an instruction more, of which 4,000 may be
+-- the most lines with an instruction or `)`, and the most open parentheses
+abbrev pub most_instructions : ℕ
+most_instructions = 4000
+
+abbrev pub most_open : ℕ
+most_open = 16
+
+-- one line with an instruction more, within their limit
 abbrev pub with_instruction : ℕ → ℕ → ℕ → Reached → Result Read TextFault
 with_instruction line last before s =
-    if nat_lt before 4000
+    if nat_lt before most_instructions
     then Ok (record { reached = s; instructions = before + 1 })
     else Err (past_limit line last (TooLong line))
 
--- what a line with an instruction leaves, within the limits of 16 open parentheses and 4,000 such
--- lines
+-- what a line with an instruction leaves, within both limits
 unfoldable pub within_bounds : ℕ → ℕ → ℕ → Reached → Result Read TextFault
 within_bounds line last before s =
-    if nat_le (length s.parentheses) 16
+    if nat_le (length s.parentheses) most_open
     then with_instruction line last before s
     else Err (past_limit line last (TooDeep line))
 

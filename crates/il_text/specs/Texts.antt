@@ -7,7 +7,7 @@ use Rattle.il_text.specs.Grammar.{Numbered, Derives, CanGoOn}
 use Rattle.il_text.specs.Listing.{PlainProgram}
 use Rattle.il_text.specs.Parts.{Part, entering, leaving}
 use Rattle.il_text.specs.Places.{last_line}
-use Rattle.il_text.specs.Reading.{lines, tokens_of, has_instruction, past_limit, program_of}
+use Rattle.il_text.specs.Reading.{lines, tokens_of, has_instruction, most_instructions, most_open, past_limit, program_of}
 use Rattle.il_text.specs.Symbols.{pieces_of}
 use Rattle.il_text.specs.Tokens.{Symbol, Piece}
 use Rattle.il_text.specs.declared.fault.TextFault.{TextFault}
@@ -35,13 +35,13 @@ abbrev pub is_leaving : Numbered → Bool
 is_leaving (line, leaving) = true
 is_leaving (line, other) = false
 
--- more than 16 parentheses are open
+-- more parentheses are open than may be
 abbrev pub IsDeep : List TextLine → Type 0
-IsDeep ls = count_by is_leaving (all_parts ls) + 16 < count_by is_entering (all_parts ls)
+IsDeep ls = count_by is_leaving (all_parts ls) + most_open < count_by is_entering (all_parts ls)
 
--- more than 4,000 lines hold an instruction or `)`
+-- more lines hold an instruction or `)` than may
 abbrev pub IsLong : List TextLine → Type 0
-IsLong ls = 4000 < count_by (λ l. has_instruction l.1) ls
+IsLong ls = most_instructions < count_by (λ l. has_instruction l.1) ls
 
 -- lines with which a program may begin
 pub record Allowed (ls : List TextLine) : Type 0 where
