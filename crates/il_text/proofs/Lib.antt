@@ -15,6 +15,7 @@ pub mod ListingLemmas
 pub mod LiteralLemmas
 pub mod PieceLemmas
 pub mod PlaceLemmas
+pub mod ProducedLemmas
 pub mod ProductionLemmas
 pub mod ReadLemmas
 pub mod RespellingLemmas

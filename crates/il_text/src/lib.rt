@@ -7,10 +7,11 @@
 // end of a declaration) and `literal` (why a word is none), and `laws` (that a text is read in one
 // way, by productions, how it may be respelled, and what a duration is). Inside: `piece` (what
 // stands at a place of the text), `lexeme` (a token, with `literal`, `reserved` and `character`),
-// `form` (the forms of lines) and `listing` (what the lines make).
+// `form` (the forms of lines) and `listing` (what the lines make, with `declaring`).
 #![tactic(auto)]
 
 mod character;
+mod declaring;
 pub mod fault;
 pub mod form;
 pub mod laws;

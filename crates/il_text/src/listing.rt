@@ -1,6 +1,5 @@
 // What has been read of a program, line by line.
-ghost use Rattle.std.specs.Prelude.{◌≡◌, ◌≢◌, List, ◌∷◌, map, reverse, option_and_then, false, Some, None, Ok, Err, OnOk, IfOk, IfErr};
-ghost use Rattle.il_text.specs.Declaring.{declared_from};
+ghost use Rattle.std.specs.Prelude.{◌≡◌, ◌≢◌, List, ◌∷◌, map, reverse, option_and_then, Some, None, Ok, Err, OnOk, IfErr};
 ghost use Rattle.il_text.specs.Forms.{declared_names};
 ghost use Rattle.il_text.specs.FormViews.{line_parts, opened_parts, statement_parts};
 ghost use Rattle.il_text.specs.Grammar as grammar;
@@ -9,15 +8,15 @@ ghost use Rattle.il_text.specs.Parts.{Part, heading, opening, closing, labelling
 ghost use Rattle.il_text.specs.Reading as spec;
 ghost use Rattle.il_text.specs.Steps as rules;
 ghost use Rattle.il_text.specs.Steps.{step, steps};
-ghost use Rattle.il_text.specs.TokenViews.{symbol_of, symbols_of};
-ghost use Rattle.il_text.specs.Tokens.{Symbol};
-ghost use Rattle.il_text.specs.Views.{action_of, declared_of, entry_of};
+ghost use Rattle.il_text.specs.TokenViews.{symbols_of};
+ghost use Rattle.il_text.specs.Views.{action_of, entry_of};
 ghost use Rattle.il_text.specs.declared.fault.TextFault.TheVariants.{BadLine, OutOfMemory};
 
+use crate::declaring::{Declaring, declare};
 use crate::fault::TextFault;
-use crate::form::{Line, Statement, Tail, is_mark, line_of, name_of};
+use crate::form::{Line, Statement, Tail, line_of};
 use crate::program::{Declaration, Instruction, Item, Literal, Operand, Operator, Scope};
-use crate::token::{Mark, Token};
+use crate::token::Token;
 use std::alloc::Global;
 use std::mem;
 
@@ -578,77 +577,4 @@ fn is_some(items: &[Item<'_>]) -> bool
     ensures { result ≡ rules.is_some (map entry_of items.now) }
 {
     !items.is_empty()
-}
-
-// What one line of declarations gives to each of its names.
-#[derive(Clone, Copy)]
-struct Declaring {
-    line: usize,
-    scope: Scope,
-    tail: Tail,
-}
-
-// Declares the names of a list, `name {"," name}`.
-fn declare<'a>(
-    declarations: &mut Vec<Declaration<'a>>,
-    names: &[Token<'a>],
-    declaring: Declaring,
-) -> Result<(), TextFault>
-    ensures ok { OnOk result (declared_from declaring.line declaring.scope declaring.tail
-        (map declared_of declarations.old.items) false (symbols_of names.now)
-        ≡ Some (map declared_of declarations.new.items)) }
-    ensures bad { IfErr result (λ e. e ≢ OutOfMemory → e ≡ BadLine declaring.line) }
-    ensures none { IfErr result (λ e. e ≢ OutOfMemory
-        → declared_from declaring.line declaring.scope declaring.tail
-        (map declared_of declarations.old.items) false (symbols_of names.now) ≡ None) }
-{
-    let mut after_name = false;
-    for token in names {
-        after_name = declare_token(declarations, *token, after_name, declaring)?;
-    }
-    if after_name {
-        Ok(())
-    } else {
-        Err(TextFault::BadLine {
-            line: declaring.line,
-        })
-    }
-}
-
-// Takes one token of a list of names, and returns whether it was a name.
-#[tactic(auto, using(crate::proofs::ListingLemmas::declare_rules))]
-fn declare_token<'a>(
-    declarations: &mut Vec<Declaration<'a>>,
-    token: Token<'a>,
-    after_name: bool,
-    declaring: Declaring,
-) -> Result<bool, TextFault>
-    ensures ok { IfOk result (λ after. (ss : List Symbol)
-        → declared_from declaring.line declaring.scope declaring.tail
-        (map declared_of declarations.old.items) after_name (symbol_of token.entry ∷ ss)
-        ≡ declared_from declaring.line declaring.scope declaring.tail
-        (map declared_of declarations.new.items) after ss) }
-    ensures bad { IfErr result (λ e. e ≢ OutOfMemory → e ≡ BadLine declaring.line) }
-    ensures none { IfErr result (λ e. e ≢ OutOfMemory → (ss : List Symbol)
-        → declared_from declaring.line declaring.scope declaring.tail
-        (map declared_of declarations.old.items) after_name (symbol_of token.entry ∷ ss) ≡ None) }
-{
-    let line = declaring.line;
-    if after_name {
-        if is_mark(token, Mark::Comma) {
-            return Ok(false);
-        }
-        return Err(TextFault::BadLine { line });
-    }
-    let Some(name) = name_of(token) else {
-        return Err(TextFault::BadLine { line });
-    };
-    declarations.push(Declaration {
-        line,
-        scope: declaring.scope,
-        name,
-        kind: declaring.tail.kind,
-        initial: declaring.tail.initial,
-    })?;
-    Ok(true)
 }

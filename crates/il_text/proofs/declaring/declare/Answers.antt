@@ -2,7 +2,7 @@ use Rattle.std.proofs.Common.{ap, ◌∙◌}
 use Rattle.std.proofs.lemmas.Result.{err_from_is_err_and}
 use Rattle.il_text.specs.Declaring.{declared_from}
 use Rattle.il_text.proofs.ListingLemmas.{declare-end, declare-no-end, next-symbol}
-use Rattle.il_text.proofs.listing.declare.Goals as goal
+use Rattle.il_text.proofs.declaring.declare.Goals as goal
 
 pub returns-in_err-after_name-clause-none : goal.returns-in_err-after_name-clause-none
 returns-in_err-after_name-clause-none c =

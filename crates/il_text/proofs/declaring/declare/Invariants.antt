@@ -2,7 +2,7 @@ use Rattle.std.proofs.Common.{◌≡◌, false, drop, map}
 use Rattle.il_text.specs.Declaring.{declared_from}
 use Rattle.il_text.specs.TokenViews.{symbols_of}
 use Rattle.il_text.specs.Views.{declared_of}
-use Rattle.il_text.proofs.listing.declare.Given as goal
+use Rattle.il_text.proofs.declaring.declare.Given as goal
 
 abbrev pub invariant-loop-token : goal.invariant-loop-token
 invariant-loop-token l =

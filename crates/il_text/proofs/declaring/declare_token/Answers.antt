@@ -3,7 +3,7 @@ use Rattle.std.proofs.lemmas.List.{map-append}
 use Rattle.il_text.specs.Forms.{name_of}
 use Rattle.il_text.specs.TokenViews.{symbol_of}
 use Rattle.il_text.proofs.ListingLemmas.{at-name}
-use Rattle.il_text.proofs.listing.declare_token.Goals as goal
+use Rattle.il_text.proofs.declaring.declare_token.Goals as goal
 
 pub returns-clause-ok : goal.returns-clause-ok
 returns-clause-ok c = λ ss.
