@@ -16,6 +16,7 @@ pub mod NameLemmas
 pub mod OctetLemmas
 pub mod PlaceLemmas
 pub mod ReadLemmas
+pub mod SetLemmas
 pub mod ShortLemmas
 pub mod SoundLemmas
 pub mod TimerLemmas
