@@ -16,7 +16,7 @@ use Rattle.bay_base.specs.declared.types.TimerKind.TheVariants.{OnDelay, OffDela
 use Rattle.il_image.specs.declared.write.Size.TheVariants as size
 use Rattle.il_image.specs.Decoding.{code_at, counted_at, image_spelled, items_at, name_at, name_of_length, point_at, timer_at, type_at, variable_at}
 use Rattle.il_image.specs.Images.{Each, HasName, Image, IsCode, IsImage, IsName, IsValue, count_and_items, each_spelled, image_octets, is_name_octet, point_octets, timer_octets, type_octet, variable_octets}
-use Rattle.il_image.specs.Octets.{bits_of_size, number_octets, signed_octets, size_of}
+use Rattle.il_image.specs.Octets.{bits_of_size, number_octets, signed_octets, size_of, most_counted}
 use Rattle.il_image.specs.Reading.{Read}
 use Rattle.il_image.specs.Values.{number_of, type_of}
 use Rattle.il_image.proofs.ReadLemmas.{back-number, back-signed}
@@ -38,7 +38,7 @@ back-items {A} spell P item reads (x ∷ xs) rest good =
     rw (append_assoc (spell x) (each_spelled spell xs) rest, first, later) refl
 
 back-counted : {A : Type 0} (spell : A → List ℕ) (P : A → Type 0) (item : List ℕ → Read A)
-    → Reads spell P item → (xs : List A) (rest : List ℕ) → length xs ≤ 65_535 → Each P xs
+    → Reads spell P item → (xs : List A) (rest : List ℕ) → length xs ≤ most_counted → Each P xs
     → counted_at item (count_and_items spell xs ++ rest) ≡ Ok (xs, rest)
 back-counted spell P item reads xs rest few good =
     let number = back-number (length xs) (each_spelled spell xs ++ rest) (omega arith) in
@@ -105,7 +105,7 @@ each-kind (kind ∷ kinds) = (tt, each-kind kinds)
 
 -- ---- code and images
 
-back-code : (code : List ℕ) → length code ≤ 65_535 → IsCode code
+back-code : (code : List ℕ) → length code ≤ most_counted → IsCode code
     → code_at Two (number_octets (length code) ++ code) ≡ Ok code
 unfolding code_at
 back-code code few is =

@@ -12,7 +12,7 @@ use Rattle.il_image.specs.declared.opcode.TimerUse.TheVariants.{SetInput, SetPre
 use Rattle.il_image.specs.declared.timer.TimerState.{TimerState}
 use Rattle.il_image.specs.declared.value.Value.{Value}
 use Rattle.il_image.specs.declared.value.Value.TheVariants.{Truth}
-use Rattle.il_image.specs.Machine.{State, Turn, Goes, Halts, Traps, MissingSlot, MissingTimer, WrongKind, ZeroDivisor, Ending, Unfinished, act, as_number, as_span, as_truth, divides, ending_of, goes, is_comparable, pushes, run_from, stores, value_of_width, turn_of, with_slot, with_timer, with_top, with_truths, with_two}
+use Rattle.il_image.specs.Machine.{State, Turn, Goes, Halts, Traps, MissingSlot, MissingTimer, WrongKind, ZeroDivisor, Ending, Unfinished, act, as_number, as_span, as_truth, divides, ending_of, goes, is_comparable, pushes, run_from, stores, value_of_width, turn_of, with_slot, with_timer, with_top, with_truths, with_two, most_cells}
 use Rattle.bay_base.specs.Types.{same_type}
 use Rattle.il_image.specs.Arithmetic.{comparison_holds, computation_of, wider_value}
 use Rattle.il_image.specs.Values.{number_of, type_of}
@@ -119,7 +119,7 @@ module _ (P : ℕ → Type 0) where
   lands-if false x y h g = g
 
   lands-pushes : (v : Value) (to : ℕ) (s : State) → P to → Lands P (pushes v to s)
-  lands-pushes v to s h = lands-if (ltb (length s.cells) 32) _ _ h tt
+  lands-pushes v to s h = lands-if (ltb (length s.cells) most_cells) _ _ h tt
 
   lands-top : (cells : List Value) (f : Value → List Value → Turn)
       → ((v : Value) (below : List Value) → Lands P (f v below)) → Lands P (with_top cells f)

@@ -24,7 +24,7 @@ use Rattle.il_image.specs.declared.opcode.Version.TheVariants.{One, Two}
 use Rattle.il_image.specs.declared.value.Value.{Value}
 use Rattle.il_image.specs.Cuts.{IsInstrOf, IsShortOf}
 use Rattle.il_image.specs.Decoding.{code_at, code_fault, code_of_length, fault_behind, unless}
-use Rattle.il_image.specs.Octets.{AreOctets, number_octets, octet_count, size_of}
+use Rattle.il_image.specs.Octets.{AreOctets, number_octets, octet_count, size_of, most_counted}
 use Rattle.il_image.specs.Opcodes.{is_known, opcode_of, width_of}
 use Rattle.il_image.specs.Reading.{Read, instr_from, known_value, known_opcode, number_at, operand_from, value_at}
 use Rattle.il_image.specs.Spelling.{spelling}
@@ -440,7 +440,7 @@ module _ (version : Version) (n : ℕ) (octets : List ℕ) (fits : AreOctets oct
 -- Code behind its length, with others behind it or cut short within an instruction.
 pub record CodeCut (version : Version) (octets : List ℕ) : Type 0 where
   pub size : ℕ
-  pub small : size ≤ 65_535
+  pub small : size ≤ most_counted
   pub rest : List ℕ
   pub parts : octets ≡ number_octets size ++ rest
   pub is : Past version size rest ⊎ Part version size rest

@@ -14,7 +14,7 @@ use Rattle.il_image.specs.declared.value.Value.{Value}
 use Rattle.il_image.specs.Cuts.{EndsInInstr, EndsInValue, HasOthers, IsImageOf, IsRightSoFar}
 use Rattle.il_image.specs.Decoding.{behind, code_at, code_fault, counted_at, image_spelled, items_at, point_at, timer_at, variable_at, version_at}
 use Rattle.il_image.specs.Images.{HasName, Image, IsValue, count_and_items, each_spelled, image_octets, mark, point_octets, timer_octets, variable_octets, version_octet}
-use Rattle.il_image.specs.Octets.{AreOctets, number_octets}
+use Rattle.il_image.specs.Octets.{AreOctets, number_octets, most_counted}
 use Rattle.il_image.specs.Reading.{Read}
 use Rattle.il_image.proofs.EndLemmas.{Ends, EndsIn, Never, are-more, are-none, ends-here, join-octets, ok-start, pass, through}
 use Rattle.il_image.proofs.InstrLemmas.{behind-octets}
@@ -41,7 +41,7 @@ record InItem {A : Type 0} (spell : A → List ℕ) (item : List ℕ → Read A)
 record InCounted {A : Type 0} (spell : A → List ℕ) (item : List ℕ → Read A) (C : List ℕ → Type 0)
     (octets : List ℕ) : Type 0 where
   n : ℕ
-  small : n ≤ 65_535
+  small : n ≤ most_counted
   xs : List A
   cut : List ℕ
   parts : octets ≡ number_octets n ++ (each_spelled spell xs ++ cut)
@@ -399,7 +399,7 @@ others-behind a b d f g others =
 reads-none : {A : Type 0} (spell : A → List ℕ) (item : List ℕ → Read A) → ReadsAll spell item []
 reads-none spell item more = rw (back-number 0 more (omega arith)) refl
 
-reads-code : (version : Version) (code : List ℕ) → length code ≤ 65_535
+reads-code : (version : Version) (code : List ℕ) → length code ≤ most_counted
     → code_fault version (length code) code ≡ None
     → code_at version (number_octets (length code) ++ code) ≡ Ok code
 unfolding code_at
@@ -468,7 +468,7 @@ module _ (octets : List ℕ) (version : Version) (rest1 : List ℕ)
         (v ∙ ap (λ (ys : List ℕ). count_and_items (variable_octets version) variables ++ ys)
         (t ∙ ap (λ (ys : List ℕ). count_and_items (timer_octets version) timers ++ ys) is)))
 
-    good-image : (code : List ℕ) → length code ≤ 65_535
+    good-image : (code : List ℕ) → length code ≤ most_counted
         → code_fault version (length code) code ≡ None
         → IsImageOf version (image_of points variables timers code)
     good-image code small whole =

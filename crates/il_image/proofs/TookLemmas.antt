@@ -17,7 +17,7 @@ use Rattle.bay_base.specs.declared.types.TimerKind.{TimerKind}
 use Rattle.bay_base.specs.declared.types.TimerKind.TheVariants.{OnDelay}
 use Rattle.il_image.specs.Decoding.{access_at, access_of, behind, code_at, code_fault, code_of_length, counted_at, items_at, kind_of_octet, name_at, name_of_length, point_at, timer_at, type_at, type_of_octet, unless, variable_at, version_at}
 use Rattle.il_image.specs.Images.{Each, HasName, IsCode, IsName, IsValue, count_and_items, each_spelled, is_name_octet, mark, point_octets, timer_octets, type_octet, value_size, variable_octets, version_octet}
-use Rattle.il_image.specs.Octets.{AreOctets, number_octets, signed_octets}
+use Rattle.il_image.specs.Octets.{AreOctets, number_octets, signed_octets, most_counted}
 use Rattle.il_image.specs.Reading.{Read, known_value, number_at, octet_at}
 use Rattle.il_image.specs.Values.{number_of, type_of, value_of}
 use Rattle.il_image.proofs.ReadLemmas.{bind-ok, ok-same, took-octet, took-number}
@@ -75,7 +75,7 @@ pub record TookCounted {A : Type 0} (spell : A → List ℕ) (P : A → Type 0) 
     (xs : List A) (rest : List ℕ) : Type 0 where
   pub parts : octets ≡ count_and_items spell xs ++ rest
   pub good : Each P xs
-  pub size : length xs ≤ 65_535
+  pub size : length xs ≤ most_counted
 
 pub took-counted : {A : Type 0} (spell : A → List ℕ) (P : A → Type 0) (item : List ℕ → Read A)
     → Takes spell P item → (octets : List ℕ) (xs : List A) (rest : List ℕ) → AreOctets octets
@@ -288,7 +288,7 @@ took-timer Two octets kind rest fits e =
 
 pub record TookCode (octets code : List ℕ) : Type 0 where
   pub parts : octets ≡ number_octets (length code) ++ code
-  pub size : length code ≤ 65_535
+  pub size : length code ≤ most_counted
   pub good : IsCode code
 
 sized-code : (version : Version) (n : ℕ) (octets code : List ℕ) → AreOctets octets

@@ -5,7 +5,7 @@ use Rattle.il_image.specs.declared.opcode.Version.{Version}
 use Rattle.il_image.specs.declared.value.Value.{Value}
 use Rattle.il_image.specs.Decoding.{image_spelled, variable_at}
 use Rattle.il_image.specs.Images.{Image, count_and_items, each_spelled, image_octets, mark, point_octets, timer_octets, variable_octets, version_octet}
-use Rattle.il_image.specs.Octets.{AreOctets, number_octets}
+use Rattle.il_image.specs.Octets.{AreOctets, number_octets, most_counted}
 use Rattle.il_image.specs.Reading.{instr_from}
 use Rattle.il_image.specs.Spelling.{spelling}
 
@@ -50,7 +50,7 @@ pub record EndsInValue (octets : List ℕ) : Type 0 where
   pub part : List ℕ
   pub reads : IsImageOf version image
   pub few : length image.variables < count
-  pub small : count ≤ 65_535
+  pub small : count ≤ most_counted
   pub begins : (v : Value) × IsValueOf version v × IsShortOf part (variable_octets version v)
   pub none : (v : Value) (rest : List ℕ) → AreOctets rest → IsValueOf version v
       → part ++ rest ≡ variable_octets version v → ⊥
@@ -68,7 +68,7 @@ pub record EndsInInstr (octets : List ℕ) : Type 0 where
   pub part : List ℕ
   pub reads : IsImageOf version image
   pub few : length image.code < size
-  pub small : size ≤ 65_535
+  pub small : size ≤ most_counted
   pub begins : (i : Instr) × IsInstrOf version i
       × IsShortOf (take (size - length image.code) part) (spelling i)
   pub none : (i : Instr) (rest : List ℕ) → AreOctets rest → IsInstrOf version i

@@ -12,7 +12,7 @@ use Rattle.bay_base.specs.declared.types.TimerKind.TheVariants.{OnDelay, OffDela
 use Rattle.il_image.specs.declared.value.Value.{Value}
 use Rattle.il_image.specs.declared.write.Size.{Size}
 use Rattle.il_image.specs.declared.write.Size.TheVariants as size
-use Rattle.il_image.specs.Octets.{number_octets, signed_octets}
+use Rattle.il_image.specs.Octets.{number_octets, signed_octets, most_counted}
 use Rattle.il_image.specs.Spelling.{IsInstr, spelling}
 use Rattle.il_image.specs.Values.{number_of, type_of, value_of}
 
@@ -65,10 +65,10 @@ pub record IsCode (code : List ℕ) : Type 0 where
 -- What the format can say: counts of 16 bits, names, values of their types, and code of
 -- instructions.
 pub record IsImage (i : Image) : Type 0 where
-  pub points : length i.points ≤ 65_535
-  pub variables : length i.variables ≤ 65_535
-  pub timers : length i.timers ≤ 65_535
-  pub size : length i.code ≤ 65_535
+  pub points : length i.points ≤ most_counted
+  pub variables : length i.variables ≤ most_counted
+  pub timers : length i.timers ≤ most_counted
+  pub size : length i.code ≤ most_counted
   pub names : Each HasName i.points
   pub values : Each IsValue i.variables
   pub code : IsCode i.code

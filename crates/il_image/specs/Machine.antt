@@ -48,6 +48,17 @@ pub data Turn : Type 0 where
   Halts : Turn
   Traps : Trap → Turn
 
+-- ---- the size of a machine: the most cells of its operand stack, and the most slots and timers
+
+abbrev pub most_cells : ℕ
+most_cells = 32
+
+abbrev pub most_slots : ℕ
+most_slots = 512
+
+abbrev pub most_timers : ℕ
+most_timers = 64
+
 -- ---- what steps are made of; what an instruction wants is looked at in this order: slot or timer,
 -- cells, kinds, divisor, room
 
@@ -55,9 +66,10 @@ pub data Turn : Type 0 where
 abbrev pub goes : ℕ → List Value → State → Turn
 goes to cells s = Goes (record s { place = to; cells = cells })
 
--- one more cell, of at most 32
+-- one more cell, where there is room
 abbrev pub pushes : Value → ℕ → State → Turn
-pushes v to s = if nat_lt (length s.cells) 32 then goes to (v ∷ s.cells) s else Traps FullStack
+pushes v to s =
+    if nat_lt (length s.cells) most_cells then goes to (v ∷ s.cells) s else Traps FullStack
 
 -- the top, and the cells below it
 abbrev pub with_top : List Value → (Value → List Value → Turn) → Turn

@@ -32,7 +32,11 @@ size_of elementary.Dint = Four
 size_of elementary.Lint = Eight
 size_of elementary.Time = Four
 
--- a number of 16 bits without a sign
+-- the greatest number of 16 bits without a sign
+abbrev pub most_counted : ℕ
+most_counted = 65_535
+
+-- such a number
 abbrev pub number_octets : ℕ → List ℕ
 number_octets n = to_be_bytes w16 n
 

@@ -11,6 +11,7 @@ use Rattle.il_image.specs.Kinds.{AreWithin}
 pub use Rattle.il_image.specs.Places.{behind_place, place_of, IsPlace}
 use Rattle.il_image.specs.Reading.{instr_at}
 use Rattle.il_image.specs.Values.{type_of}
+use Rattle.il_image.specs.Machine.{most_cells}
 
 -- the types of the slots: the points, and then the variables
 abbrev pub slot_types : Image → List ElementaryType
@@ -63,14 +64,15 @@ pub record IsAllowed (image : Image) (table : Table) (place : ℕ) (kinds : List
   pub enters : (to : ℕ) → LeadsTo instr next to → Enters table to after
 
 -- The table agrees with the code: it has kinds exactly at the places of the code, none of them
--- before the first instruction and at most 32 anywhere; each instruction is allowed on them; and
--- each place but the first is a successor of another.
+-- before the first instruction and no more than a stack may have anywhere; each instruction is
+-- allowed on them; and each place but the first is a successor of another.
 pub record Agrees (image : Image) (table : Table) : Type 0 where
   pub starts : table 0 ≡ Some []
   pub places : (place : ℕ) → IsSome (table place) ↔ IsPlace image.code place
   pub allowed : (place : ℕ) (kinds : List CellKind) → table place ≡ Some kinds
       → IsAllowed image table place kinds
-  pub room : (place : ℕ) (kinds : List CellKind) → table place ≡ Some kinds → length kinds ≤ 32
+  pub room : (place : ℕ) (kinds : List CellKind) → table place ≡ Some kinds
+      → length kinds ≤ most_cells
   pub reached : (place : ℕ) → IsPlace image.code place → place ≢ 0
       → (from : ℕ) × IsPlace image.code from × IsSuccessor image.code from place
 

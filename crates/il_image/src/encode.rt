@@ -2,6 +2,7 @@
 ghost use Rattle.std.specs.Prelude.{◌≡◌, ◌++◌, ◌≤◌, IfOk, OnOk, length};
 ghost use Rattle.il_image.specs.Images.{Each, HasName, count_and_items, image_octets, point_octets, timer_octets, variable_octets};
 ghost use Rattle.il_image.specs.Images as spec;
+ghost use Rattle.il_image.specs.Octets.{most_counted};
 
 use crate::image::{Image, ImagePoint};
 use crate::opcode::Version;
@@ -38,7 +39,7 @@ fn push_point(octets: &mut Vec<u8>, point: &ImagePoint) -> Result<(), AllocError
 
 // Appends the points behind their count.
 fn push_points(octets: &mut Vec<u8>, points: &[ImagePoint]) -> Result<(), AllocError>
-    requires few { length points.now ≤ 65_535 }
+    requires few { length points.now ≤ most_counted }
     requires names { Each HasName points.now }
     ensures { OnOk result (octets.new.items
         ≡ octets.old.items ++ count_and_items point_octets points.now) }
@@ -60,7 +61,7 @@ fn push_variable(octets: &mut Vec<u8>, value: Value) -> Result<(), AllocError>
 
 // Appends the variables behind their count.
 fn push_variables(octets: &mut Vec<u8>, values: &[Value]) -> Result<(), AllocError>
-    requires { length values.now ≤ 65_535 }
+    requires { length values.now ≤ most_counted }
     ensures { OnOk result (octets.new.items
         ≡ octets.old.items ++ count_and_items (variable_octets Version.Two) values.now) }
 {
@@ -83,7 +84,7 @@ fn push_timer(octets: &mut Vec<u8>, kind: TimerKind) -> Result<(), AllocError>
 
 // Appends the timers behind their count.
 fn push_timers(octets: &mut Vec<u8>, kinds: &[TimerKind]) -> Result<(), AllocError>
-    requires { length kinds.now ≤ 65_535 }
+    requires { length kinds.now ≤ most_counted }
     ensures { OnOk result (octets.new.items
         ≡ octets.old.items ++ count_and_items (timer_octets Version.Two) kinds.now) }
 {

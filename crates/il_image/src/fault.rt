@@ -46,7 +46,7 @@ impl ImageFault {
 impl From<AllocError> for ImageFault {
     ghost from_gives = { λ _ e. e ≡ OutOfMemory };
 
-    fn from(_e: AllocError) -> ImageFault {
+    fn from(_error: AllocError) -> ImageFault {
         ImageFault::OutOfMemory
     }
 }
@@ -54,7 +54,7 @@ impl From<AllocError> for ImageFault {
 impl<T: Drop> From<AllocFailed<T>> for ImageFault {
     ghost from_gives = { λ _ e. e ≡ OutOfMemory };
 
-    fn from(_e: AllocFailed<T>) -> ImageFault {
+    fn from(_error: AllocFailed<T>) -> ImageFault {
         ImageFault::OutOfMemory
     }
 }
