@@ -1,5 +1,5 @@
 -- The size of a TPDU that is agreed, and what comes to nothing.
-use Rattle.std.proofs.Common.{◌≡◌, ℕ, true, false, cond, List, [], ◌∷◌, ◌++◌, drop, Option, Some, None, Result, Ok, Err, refl, ◌==◌, IsSome}
+use Rattle.std.proofs.Common.{◌≡◌, ℕ, true, false, cond, List, [], ◌∷◌, ◌++◌, drop, Option, Some, None, Result, Ok, Err, refl, subst, ◌==◌, IsSome}
 use Rattle.bay_transport.specs.declared.fault.TransportFault.{TransportFault}
 use Rattle.bay_transport.specs.declared.fault.TransportFault.TheVariants.{BadCotp}
 use Rattle.bay_transport.specs.declared.frame.Front.{Front}
@@ -8,7 +8,7 @@ use Rattle.bay_transport.specs.declared.frame.Tpdu.{Tpdu}
 use Rattle.bay_transport.specs.declared.frame.Tpdu.TheVariants.{Request, Data, Release, Unknown}
 use Rattle.bay_transport.specs.Frame.{front_of, tpdu_of, cut_of}
 use Rattle.bay_transport.specs.Connect.{Confirmation}
-use Rattle.bay_transport.specs.Doings.{Doing, Delivers, TransportConnection, Left, Going, Over, Broken, Run, TpduEffect, Joins, Finishes, Agrees, Closes, Refuses, connect_effect, data_effect, kind_effect, tpdu_effect, effect_of, connection_after, on_effect, at_rest, frames_run, run_of, Stream, doings, after}
+use Rattle.bay_transport.specs.Doings.{Doing, Answers, Delivers, Ends, Fails, TransportConnection, Left, Going, Over, Broken, Run, TpduEffect, Joins, Finishes, Agrees, Closes, Refuses, connect_effect, data_effect, kind_effect, tpdu_effect, effect_of, connection_after, on_effect, at_rest, frames_run, run_of, Stream, doings, after}
 use Rattle.bay_transport.specs.Feeding.{IsGoing, agreed_from, size_agreed, size_after}
 
 -- ---- one TPDU
@@ -94,48 +94,55 @@ after-size s octets = left-size s.number s.left octets
 
 -- ---- a TSDU
 
-rest-delivers : (front : Front) (connection : TransportConnection) (rest tsdu : List ℕ)
-    (more : List Doing) → (at_rest front connection rest).doings ≡ Delivers tsdu ∷ more
-    → IsSome connection.size
-rest-delivers Begun connection rest tsdu more e = cc
-rest-delivers NoFrame connection rest tsdu more e = cc
-rest-delivers (Whole frame) connection rest tsdu more e = cc
+-- Each TSDU of these doings comes where a size is agreed, before them or among them.
+abbrev pub AreSized : Option ℕ → List Doing → Type 0
+AreSized size [] = Unit {0}
+AreSized size (Answers n reply ∷ later) = AreSized (Some n) later
+AreSized size (Delivers tsdu ∷ later) = IsSome size × AreSized size later
+AreSized size (Ends ∷ later) = Unit {0}
+AreSized size (Fails fault ∷ later) = Unit {0}
 
-effect-delivers : (effect : TpduEffect) (connection : TransportConnection) (later : Run)
-    (tsdu : List ℕ) (more : List Doing) → (Gathers effect → IsSome connection.size)
-    → (on_effect effect later).doings ≡ Delivers tsdu ∷ more
-    → (later.doings ≡ Delivers tsdu ∷ more → IsSome (connection_after effect connection).size)
-    → IsSome connection.size
-effect-delivers (Joins group) connection later tsdu more sized e some = some e
-effect-delivers (Finishes group) connection later tsdu more sized e some = sized tt
-effect-delivers (Agrees size reply) connection later tsdu more sized e some = cc
-effect-delivers Closes connection later tsdu more sized e some = cc
-effect-delivers (Refuses fault) connection later tsdu more sized e some = cc
+rest-sized : (front : Front) (connection : TransportConnection) (rest : List ℕ)
+    → AreSized connection.size (at_rest front connection rest).doings
+rest-sized Begun connection rest = tt
+rest-sized NoFrame connection rest = tt
+rest-sized (Whole frame) connection rest = tt
 
-frames-deliver : (number : ℕ) (connection : TransportConnection) (frames : List (List ℕ))
-    (rest tsdu : List ℕ) (more : List Doing)
-    → (frames_run number connection frames rest).doings ≡ Delivers tsdu ∷ more
-    → IsSome connection.size
-frames-deliver number connection [] rest tsdu more e =
-    rest-delivers (front_of rest) connection rest tsdu more e
-frames-deliver number connection (frame ∷ frames) rest tsdu more e =
-    let next = connection_after (effect_of number connection frame) connection in
-    effect-delivers (effect_of number connection frame) connection
-    (frames_run number next frames rest) tsdu more (tpdu-sized number connection (drop 4 frame))
-    e (frames-deliver number next frames rest tsdu more)
+effect-sized : (effect : TpduEffect) (connection : TransportConnection) (later : Run)
+    → (Gathers effect → IsSome connection.size)
+    → AreSized (connection_after effect connection).size later.doings
+    → AreSized connection.size (on_effect effect later).doings
+effect-sized (Joins group) connection later some rest = rest
+effect-sized (Finishes group) connection later some rest = (some tt, rest)
+effect-sized (Agrees size reply) connection later some rest = rest
+effect-sized Closes connection later some rest = tt
+effect-sized (Refuses fault) connection later some rest = tt
 
-left-delivers : (number : ℕ) (left : Left) (octets tsdu : List ℕ) (more : List Doing)
-    → (run_of number left octets).doings ≡ Delivers tsdu ∷ more → IsSome (agreed_from left)
-left-delivers number (Going connection rest) octets tsdu more e =
-    frames-deliver number connection (cut_of (rest ++ octets)).frames (cut_of (rest ++ octets)).rest
-    tsdu
-    more e
-left-delivers number Over octets tsdu more e = cc
-left-delivers number Broken octets tsdu more e = cc
+frames-sized : (number : ℕ) (connection : TransportConnection) (frames : List (List ℕ))
+    (rest : List ℕ) → AreSized connection.size (frames_run number connection frames rest).doings
+frames-sized number connection [] rest = rest-sized (front_of rest) connection rest
+frames-sized number connection (frame ∷ frames) rest =
+    let next : TransportConnection =
+    connection_after (effect_of number connection frame) connection in
+    effect-sized (effect_of number connection frame) connection (frames_run number next frames rest)
+    (tpdu-sized number connection (drop 4 frame)) (frames-sized number next frames rest)
+
+left-sized : (number : ℕ) (left : Left) (octets : List ℕ)
+    → AreSized (agreed_from left) (run_of number left octets).doings
+left-sized number (Going connection rest) octets =
+    frames-sized number connection (cut_of (rest ++ octets)).frames (cut_of (rest ++ octets)).rest
+left-sized number Over octets = tt
+left-sized number Broken octets = tt
+
+pub doings-sized : (s : Stream) (octets : List ℕ) → AreSized (size_agreed s) (doings s octets)
+doings-sized s octets = left-sized s.number s.left octets
 
 pub delivers-size : (s : Stream) (octets tsdu : List ℕ) (later : List Doing)
     → doings s octets ≡ Delivers tsdu ∷ later → IsSome (size_agreed s)
-delivers-size s octets tsdu later e = left-delivers s.number s.left octets tsdu later e
+delivers-size s octets tsdu later e =
+    let sized : AreSized (size_agreed s) (Delivers tsdu ∷ later) =
+    subst (AreSized (size_agreed s)) e (doings-sized s octets) in
+    sized.0
 
 -- ---- what comes to nothing
 
