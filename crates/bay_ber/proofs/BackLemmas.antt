@@ -12,7 +12,7 @@ use Rattle.bay_base.specs.Options.{◌>>=◌}
 use Rattle.bay_ber.specs.Content.{IsInteger, IsBits, IsTruth, BitString, integer_in, is_integer, signed_of, are_unused, bits_in, truth_in}
 use Rattle.bay_ber.specs.Spelling.{Spells}
 use Rattle.bay_ber.specs.Tags.{same_class, same_tag}
-use Rattle.bay_ber.specs.Values.{Part, value, SpellAll, values_in, only_one, value_in, one_or_two, one_or_two_in, at_most_five, few_in, all_of, each_in, is_known, known_in, under}
+use Rattle.bay_ber.specs.Values.{Part, value, SpellAll, values_in, only_one, value_in, one_or_two, one_or_two_in, at_most_five, few_in, all_of, each_in, is_known, known_in, under, integer_under}
 use Rattle.bay_ber.proofs.ReadLemmas.{IsBytes}
 use Rattle.bay_ber.proofs.ContentLemmas.{integer-is, unused-yes, unused-is}
 pub use Rattle.bay_ber.proofs.ListingLemmas.{bind-some}
@@ -59,23 +59,12 @@ filter-bytes f (p ∷ ps) b = chosen-bytes (f p) p (filter f ps) b.0 (filter-byt
 
 -- ---- tags
 
-class-is : (a b : Class) → same_class a b ≡ true → a ≡ b
+pub class-is : (a b : Class) → same_class a b ≡ true → a ≡ b
 class-is Universal Universal e = refl
-class-is Universal Application e = absurd cc
-class-is Universal ContextSpecific e = absurd cc
-class-is Universal Private e = absurd cc
-class-is Application Universal e = absurd cc
 class-is Application Application e = refl
-class-is Application ContextSpecific e = absurd cc
-class-is Application Private e = absurd cc
-class-is ContextSpecific Universal e = absurd cc
-class-is ContextSpecific Application e = absurd cc
 class-is ContextSpecific ContextSpecific e = refl
-class-is ContextSpecific Private e = absurd cc
-class-is Private Universal e = absurd cc
-class-is Private Application e = absurd cc
-class-is Private ContextSpecific e = absurd cc
 class-is Private Private e = refl
+class-is a b e = absurd cc
 
 abbrev tag_with : Class → Bool → ℕ → Tag
 tag_with class constructed number =
@@ -83,9 +72,8 @@ tag_with class constructed number =
 
 same-truth : (a b : Bool) → beq a b ≡ true → a ≡ b
 same-truth true true e = refl
-same-truth true false e = absurd cc
-same-truth false true e = absurd cc
 same-truth false false e = refl
+same-truth a b e = absurd cc
 
 pub tag-is : (a b : Tag) → same_tag a b ≡ true → a ≡ b
 tag-is a b e =
@@ -98,16 +86,22 @@ tag-is a b e =
     ∙ ap (λ (f : Bool). tag_with b.class f a.number) form
     ∙ ap (λ (n : ℕ). tag_with b.class b.constructed n) number
 
-pub guard-false : {A : Type 0} (b : Bool) (x y : A) → cond b None (Some x) ≡ Some y
-    → (b ≡ false) × (x ≡ y)
-guard-false true x y e = absurd cc
-guard-false false x y e = (refl, cc)
+pub unguarded : {A : Type 0} (b : Bool) (o : Option A) (x : A) → cond b None o ≡ Some x
+    → (b ≡ false) × (o ≡ Some x)
+unguarded true o x e = absurd cc
+unguarded false o x e = (refl, e)
 
 pub under-is : (tag : Tag) (p : Part) (content : List ℕ) → under tag p ≡ Some content
     → p ≡ value tag content
 under-is tag p content e =
     let g = cond_some (same_tag p.tag tag) p.content content e in
     ap (λ (t : Tag). value t p.content) (tag-is p.tag tag g.0) ∙ ap (value tag) g.1
+
+pub under-bytes : (tag : Tag) (p : Part) (content : List ℕ) → IsBytes p.content
+    → under tag p ≡ Some content → (p ≡ value tag content) × IsBytes content
+under-bytes tag p content b e =
+    let same = under-is tag p content e in
+    (same, subst IsBytes (ap (λ (q : Part). q.content) same) b)
 
 -- ---- integers
 
@@ -116,6 +110,13 @@ integer-back content z e =
     let g = cond_some (is_integer content) (signed_of content) z e in
     subst (IsInteger content) g.1 (integer-is content g.0)
 
+pub number-back : (tag : Tag) (p : Part) (z : ℤ) → integer_under tag p ≡ Some z
+    → (content : List ℕ) × (p ≡ value tag content) × IsInteger content z
+unfolding integer_under
+number-back tag p z e =
+    let x = bind-some (under tag p) integer_in z e in
+    (x.0, under-is tag p x.0 x.1, integer-back x.0 z x.2)
+
 -- ---- one value, few values and known ones
 
 pub all-back : (octets : List ℕ) (parts : List Part) → IsBytes octets
@@ -123,9 +124,8 @@ pub all-back : (octets : List ℕ) (parts : List Part) → IsBytes octets
 all-back octets parts b e = let s = values-take octets parts b e in (s, all-bytes octets parts b s)
 
 only-is : (parts : List Part) (p : Part) → only_one parts ≡ Some p → parts ≡ p ∷ []
-only-is [] p e = absurd cc
 only-is (q ∷ []) p e = let same : q ≡ p = cc in ap (λ (x : Part). x ∷ []) same
-only-is (q ∷ r ∷ parts) p e = absurd cc
+only-is parts p e = absurd cc
 
 pub one-back : (octets : List ℕ) (p : Part) → IsBytes octets → value_in octets ≡ Some p
     → SpellAll octets (p ∷ []) × IsBytes p.content
@@ -135,17 +135,24 @@ one-back octets p b e =
     let s = all-back octets (p ∷ []) b (x.1 ∙ ap (λ (ps : List Part). Some ps) parts) in
     (s.0, s.1.0)
 
+-- one value in the one under a tag
+pub under-one : (tag : Tag) (p q : Part) → IsBytes p.content → (under tag p >>= value_in) ≡ Some q
+    → (octets : List ℕ) × (p ≡ value tag octets) × SpellAll octets (q ∷ []) × IsBytes q.content
+under-one tag p q b e =
+    let x = bind-some (under tag p) value_in q e in
+    let outer = under-bytes tag p x.0 b x.1 in
+    let one = one-back x.0 q outer.1 x.2 in
+    (x.0, outer.0, one.0, one.1)
+
 -- one value under a tag
 pub one-under : (tag : Tag) (octets content : List ℕ) → IsBytes octets
     → (value_in octets >>= under tag) ≡ Some content
     → SpellAll octets (value tag content ∷ []) × IsBytes content
 one-under tag octets content b e =
     let x = bind-some (value_in octets) (under tag) content e in
-    let same = under-is tag x.0 content x.2 in
-    let one = one-back octets x.0 b x.1 in (
-      subst (λ (p : Part). SpellAll octets (p ∷ [])) same one.0,
-      subst IsBytes (ap (λ (p : Part). p.content) same) one.1,
-    )
+    let one = one-back octets x.0 b x.1 in
+    let inner = under-bytes tag x.0 content one.1 x.2 in
+    (subst (λ (p : Part). SpellAll octets (p ∷ [])) inner.0 one.0, inner.1)
 
 -- a second value, where there is one
 abbrev pub listed : Option Part → List Part
@@ -154,14 +161,13 @@ listed None = []
 
 two-is : (parts : List Part) (found : Part × Option Part) → one_or_two parts ≡ Some found
     → parts ≡ found.0 ∷ listed found.1
-two-is [] found e = absurd cc
 two-is (p ∷ []) found e =
     let one : Part × Option Part = (p, None) in
     subst (λ (x : Part × Option Part). p ∷ [] ≡ x.0 ∷ listed x.1) (same_Some one found e) refl
 two-is (p ∷ q ∷ []) found e =
     let two : Part × Option Part = (p, Some q) in
     subst (λ (x : Part × Option Part). p ∷ q ∷ [] ≡ x.0 ∷ listed x.1) (same_Some two found e) refl
-two-is (p ∷ q ∷ r ∷ parts) found e = absurd cc
+two-is parts found e = absurd cc
 
 -- one value, or two
 pub two-back : (octets : List ℕ) (found : Part × Option Part) → IsBytes octets
@@ -266,17 +272,14 @@ bits-again (unused ∷ behind) octets count is =
 truth-is : (octet : ℕ) (b c : Bool) → ltb 0 octet ≡ c → c ≡ b → IsTruth (octet ∷ []) b
 truth-is octet false false e same = let f = ltb-false 0 octet e in omega arith
 truth-is octet true true e same = ltb-true 0 octet e
-truth-is octet false true e same = absurd cc
-truth-is octet true false e same = absurd cc
+truth-is octet b c e same = absurd cc
 
 pub truth-back : (content : List ℕ) (b : Bool) → truth_in content ≡ Some b → IsTruth content b
-truth-back [] b e = absurd cc
 truth-back (octet ∷ []) b e = let same : ltb 0 octet ≡ b =
     cc in truth-is octet b (ltb 0 octet) refl same
-truth-back (octet ∷ next ∷ octets) b e = absurd cc
+truth-back content b e = absurd cc
 
 pub truth-again : (content : List ℕ) (b : Bool) → IsTruth content b → truth_in content ≡ Some b
-truth-again [] b is = absurd is
 truth-again (octet ∷ []) false is = rw is refl
 truth-again (octet ∷ []) true is = rw (lt-ltb 0 octet is) refl
-truth-again (octet ∷ next ∷ octets) b is = absurd is
+truth-again content b is = absurd is

@@ -159,13 +159,11 @@ within-takes : (most : ℕ) (octets : List ℕ) (parts : List Part) → IsBytes 
     → values_within most octets ≡ Some parts → SpellAll octets parts
 unfolding values_within
 within-takes zero [] [] fits e = refl
-within-takes zero [] (part ∷ parts) fits e = absurd cc
-within-takes zero (octet ∷ octets) parts fits e = absurd cc
 within-takes (suc most) [] [] fits e = refl
-within-takes (suc most) [] (part ∷ parts) fits e = absurd cc
 within-takes (suc most) (octet ∷ octets) parts fits e =
     front-takes (octet ∷ octets) most (tlv_at (octet ∷ octets)) parts refl fits e
     (λ r later. within-takes most r.rest later)
+within-takes most octets parts fits e = absurd cc
 
 pub values-take : (octets : List ℕ) (parts : List Part) → IsBytes octets
     → values_in octets ≡ Some parts → SpellAll octets parts

@@ -120,7 +120,6 @@ tag-same first class constructed low number below is =
 pub tag-again : (tag : List ℕ) (t : Tag) (rest : List ℕ) → IsTag tag t
     → tag_at (tag ++ rest) ≡ Ok (t, rest)
 unfolding tag_at
-tag-again [] t rest is = absurd is
 tag-again (first ∷ []) t rest is =
     let low : low_bits first ≡ t.number =
     rw is.1 (low_bits-identifier t.class t.constructed t.number (omega (arith, is.0))) in
@@ -141,7 +140,7 @@ tag-again (first ∷ second ∷ []) t rest is =
       is.2,
       tag-same first t.class t.constructed 31 second (omega arith) is.0,
     ) refl
-tag-again (first ∷ second ∷ third ∷ octets) t rest is = absurd is
+tag-again tag t rest is = absurd is
 
 -- ---- the length
 
@@ -415,9 +414,8 @@ tlv-fault octets d fits e =
 
 pub large-tag-again : (octets : List ℕ) → HasLargeTag octets → tlv_at octets ≡ Err TagTooLarge
 unfolding tlv_at tag_at
-large-tag-again [] h = absurd h
-large-tag-again (first ∷ []) h = absurd h
 large-tag-again (first ∷ second ∷ octets) h = rw (eq-eqb _ _ h.0, le-ltb second 128 h.1) refl
+large-tag-again octets h = absurd h
 
 length-octet-again : (octets : List ℕ) (octet : ℕ) (d : BerFault) → HasLengthOctet octets octet
     → ((rest : List ℕ) → length_at (octet ∷ rest) ≡ Err d) → tlv_at octets ≡ Err d

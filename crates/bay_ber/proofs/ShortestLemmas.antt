@@ -18,6 +18,19 @@ use Rattle.bay_ber.proofs.WriteLemmas.{octets_needed-1, octets_needed-2, octets_
 
 -- ---- lengths and values
 
+pub few-needed : (n : ℕ) → octets_needed n ≤ 4
+few-needed n =
+    elim (cases_lt n 256) [
+      | inl a ↦ omega (arith, octets_needed-1 n a)
+      | inr a ↦ elim (cases_lt n 65536) [
+        | inl b ↦ omega (arith, octets_needed-2 n a b)
+        | inr b ↦ elim (cases_lt n 16777216) [
+          | inl d ↦ omega (arith, octets_needed-3 n b d)
+          | inr d ↦ omega (arith, octets_needed-4 n d)
+        ]
+      ]
+    ]
+
 needed-within : (n k : ℕ) → 0 < k → k ≤ 4 → n < 256 ^ k → octets_needed n ≤ k
 needed-within n zero some few lt = absurd (omega arith)
 needed-within n (suc zero) some few lt = omega (arith, octets_needed-1 n (omega arith))
@@ -34,17 +47,7 @@ needed-within n (suc (suc (suc zero))) some few lt =
         | inr b ↦ omega (arith, octets_needed-3 n b (omega arith))
       ]
     ]
-needed-within n (suc (suc (suc (suc k)))) some few lt =
-    elim (cases_lt n 256) [
-      | inl a ↦ omega (arith, octets_needed-1 n a)
-      | inr a ↦ elim (cases_lt n 65536) [
-        | inl b ↦ omega (arith, octets_needed-2 n a b)
-        | inr b ↦ elim (cases_lt n 16777216) [
-          | inl d ↦ omega (arith, octets_needed-3 n b d)
-          | inr d ↦ omega (arith, octets_needed-4 n d)
-        ]
-      ]
-    ]
+needed-within n (suc (suc (suc (suc k)))) some few lt = omega (arith, few-needed n)
 
 length-bytes_high_first : (k n : ℕ) → length (bytes_high_first k n) ≡ k
 length-bytes_high_first zero n = refl

@@ -4,22 +4,9 @@ use Rattle.std.specs.Int.{w64, to_be_bytes, cast_unsigned}
 use Rattle.std.proofs.lemmas.Bool.{cases_lt, lt-ltb, le-ltb}
 use Rattle.std.proofs.lemmas.List.{length-append}
 use Rattle.bay_ber.specs.declared.tag.Tag.{Tag}
-use Rattle.bay_ber.specs.Writing.{octets_needed, length_octets, element, element_length, integer_octets, bit_octets}
-use Rattle.bay_ber.proofs.ShortestLemmas.{length-short, length-long}
-use Rattle.bay_ber.proofs.WriteLemmas.{octets_needed-1, octets_needed-2, octets_needed-3, octets_needed-4, length-without_needless, bit-string-is}
-
-few-needed : (n : ℕ) → octets_needed n ≤ 4
-few-needed n =
-    elim (cases_lt n 256) [
-      | inl a ↦ omega (arith, octets_needed-1 n a)
-      | inr a ↦ elim (cases_lt n 65536) [
-        | inl b ↦ omega (arith, octets_needed-2 n a b)
-        | inr b ↦ elim (cases_lt n 16777216) [
-          | inl d ↦ omega (arith, octets_needed-3 n b d)
-          | inr d ↦ omega (arith, octets_needed-4 n d)
-        ]
-      ]
-    ]
+use Rattle.bay_ber.specs.Writing.{length_octets, element, element_length, integer_octets, bit_octets}
+use Rattle.bay_ber.proofs.ShortestLemmas.{few-needed, length-short, length-long}
+use Rattle.bay_ber.proofs.WriteLemmas.{length-without_needless, bit-string-is}
 
 pub length-length_octets : (n : ℕ) → length (length_octets n) ≤ 5
 length-length_octets n =
@@ -61,6 +48,10 @@ length-element-is tag content =
 pub length-integer_octets : (value : ℤ) → length (integer_octets value) ≤ 8
 length-integer_octets value = let size =
     length-without_needless (to_be_bytes w64 (cast_unsigned w64 value)) (omega arith) in size.1
+
+pub length-integer : (tag : Tag) (value : ℤ) → length (element tag (integer_octets value)) ≤ 14
+length-integer tag value =
+    omega (arith, length-element tag (integer_octets value), length-integer_octets value)
 
 -- no octet without a bit
 pub length-bit_octets : (octets : List ℕ) (count : ℕ) → count ≤ 8 * length octets → count < 2 ^ 35

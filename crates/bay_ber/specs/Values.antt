@@ -1,9 +1,10 @@
 -- Values one after another.
-use Rattle.std.specs.Prelude.{ℕ, zero, suc, ◌≡◌, Bool, List, [], ◌∷◌, ◌++◌, length, filter, Option, Some, None, option_map, Result, Ok, Err, nat_lt, if◌then◌else◌}
+use Rattle.std.specs.Prelude.{ℕ, ℤ, zero, suc, ◌≡◌, Bool, List, [], ◌∷◌, ◌++◌, length, filter, Option, Some, None, option_map, Result, Ok, Err, nat_lt, if◌then◌else◌}
 use Rattle.std.specs.List.{list_any}
 use Rattle.bay_ber.specs.declared.fault.BerFault.{BerFault}
 use Rattle.bay_ber.specs.declared.tag.Tag.{Tag}
 use Rattle.bay_ber.specs.declared.values.Value.{Value}
+use Rattle.bay_ber.specs.Content.{integer_in}
 use Rattle.bay_ber.specs.Spelling.{Spells}
 use Rattle.bay_ber.specs.Reading.{Reading, Begins, IsSpelled, tlv_at}
 use Rattle.bay_ber.specs.Tags.{same_tag}
@@ -116,6 +117,10 @@ each_in f octets = values_in octets >>= all_of f
 -- the content of a value that has this tag
 abbrev pub under : Tag → Part → Option (List ℕ)
 under tag part = if same_tag part.tag tag then Some part.content else None
+
+-- the integer that stands under a tag
+unfoldable pub integer_under : Tag → Part → Option ℤ
+integer_under tag part = under tag part >>= integer_in
 
 -- what was read next of the values in octets, and which octets are left
 abbrev pub NextIn : List ℕ → Result (Option Value) BerFault → List ℕ → Type 0

@@ -5,6 +5,7 @@ ghost use Rattle.bay_ber.specs.Values.{Part, part_of, Next, NextIn, value_in, fe
 ghost use Rattle.bay_ber.specs.Values as spec;
 ghost use Rattle.bay_ber.specs.declared.tag.Tag.{Tag};
 
+use crate::content::int_of;
 use crate::fault::BerFault;
 use crate::tag::Tag;
 use crate::tlv::read_tlv;
@@ -29,6 +30,14 @@ impl<'a> Value<'a> {
         } else {
             None
         }
+    }
+
+    /// Returns the integer if the value has this tag and its content is one (X.690 8.3).
+    #[tactic(auto, unfolding(crate::specs::Values::integer_under))]
+    pub fn integer_under(&self, tag: Tag) -> Option<i64>
+        ensures { result ≡ spec.integer_under tag (part_of self.now) }
+    {
+        int_of(self.under(tag)?).ok()
     }
 }
 

@@ -30,6 +30,7 @@ pub fn octets_needed(length: usize) -> usize
 }
 
 // Appends octets, for which there is room.
+#[inline(always)]
 fn extend(octets: &mut Vec<u8>, more: &[u8])
     requires { length octets.old.items + length more.now ≤ vec_capacity octets.old }
     ensures items { octets.new.items ≡ octets.old.items ++ more.now }
@@ -228,6 +229,7 @@ impl Writer {
     }
 
     /// Appends octets.
+    #[inline(always)]
     pub fn append(&mut self, octets: &[u8])
         ensures { self.new ≡ sheet_with self.old octets.now }
     {
