@@ -187,10 +187,8 @@ whole-part (v ∷ r ∷ h ∷ l ∷ tpdu) more k w all =
 -- ---- cutting
 
 pub cut_behind-is : (k : ℕ) (octets : List ℕ) → cut_behind k octets ≡ cut_of (drop k octets)
-cut_behind-is zero [] = refl
-cut_behind-is (suc k) [] = refl
-cut_behind-is zero (x ∷ octets) = refl
 cut_behind-is (suc k) (x ∷ octets) = cut_behind-is k octets
+cut_behind-is k octets = refl
 
 -- one frame, and what stands behind it
 abbrev pub first_cut : List ℕ → Cut → Cut

@@ -5,7 +5,7 @@ use Rattle.bay_transport.specs.declared.fault.TransportFault.TheVariants.{BadCot
 use Rattle.bay_transport.specs.declared.frame.Front.{Front}
 use Rattle.bay_transport.specs.declared.frame.Front.TheVariants.{Begun, NoFrame, Whole}
 use Rattle.bay_transport.specs.declared.frame.Tpdu.{Tpdu}
-use Rattle.bay_transport.specs.declared.frame.Tpdu.TheVariants.{Request, Data, Release, Unknown}
+use Rattle.bay_transport.specs.declared.frame.Tpdu.TheVariants.{Request, Data}
 use Rattle.bay_transport.specs.Frame.{front_of, tpdu_of, cut_of}
 use Rattle.bay_transport.specs.Connect.{Confirmation}
 use Rattle.bay_transport.specs.Doings.{Doing, Answers, Delivers, Ends, Fails, TransportConnection, Left, Going, Over, Broken, Run, TpduEffect, Joins, Finishes, Agrees, Closes, Refuses, connect_effect, data_effect, kind_effect, tpdu_effect, effect_of, connection_after, on_effect, at_rest, frames_run, run_of, Stream, doings, after}
@@ -41,15 +41,13 @@ kind-sized : (number : ℕ) (connection : TransportConnection) (kind : Tpdu) (in
 kind-sized number connection Request indicator octets h = absurd (connected-not _ h)
 kind-sized number connection Data indicator octets h =
     data-sized connection.size connection.group indicator octets h
-kind-sized number connection Release indicator octets h = absurd h
-kind-sized number connection Unknown indicator octets h = absurd h
+kind-sized number connection kind indicator octets h = absurd h
 
 pub tpdu-sized : (number : ℕ) (connection : TransportConnection) (tpdu : List ℕ)
     → Gathers (tpdu_effect number connection tpdu) → IsSome connection.size
-tpdu-sized number connection [] h = absurd h
-tpdu-sized number connection (indicator ∷ []) h = absurd h
 tpdu-sized number connection (indicator ∷ code ∷ octets) h =
     kind-sized number connection (tpdu_of code) indicator octets h
+tpdu-sized number connection tpdu h = absurd h
 
 -- ---- the size that is left
 
@@ -155,10 +153,7 @@ rest-going (Whole frame) connection rest e = tt
 effect-going : (effect : TpduEffect) (later : Run) → (on_effect effect later).doings ≡ []
     → (later.doings ≡ [] → IsGoing later.left) → IsGoing (on_effect effect later).left
 effect-going (Joins group) later e going = going e
-effect-going (Finishes group) later e going = cc
-effect-going (Agrees size reply) later e going = cc
-effect-going Closes later e going = cc
-effect-going (Refuses fault) later e going = cc
+effect-going effect later e going = cc
 
 frames-going : (number : ℕ) (connection : TransportConnection) (frames : List (List ℕ))
     (rest : List ℕ) → (frames_run number connection frames rest).doings ≡ []
