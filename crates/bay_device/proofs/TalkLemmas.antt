@@ -1,17 +1,14 @@
 -- The terms on which a PDU of a client is answered: a size of TPDUs is agreed, and one of PDUs, of
 -- at most 65,000 octets.
-use Rattle.std.proofs.Common.{◌≡◌, ◌≤◌, ℕ, ℤ, pos, negsuc, Bool, true, false, cond, nat_lt, min, List, [], ◌∷◌, ◌++◌, drop, Option, Some, None, Result, Ok, Err, IsSome, refl, arith}
+use Rattle.std.proofs.Common.{◌≡◌, ◌≤◌, ℕ, ℤ, pos, negsuc, Bool, true, false, cond, nat_lt, min, List, [], ◌∷◌, Option, Some, None, Result, Ok, Err, IsSome, refl, arith}
 use Rattle.bay_base.specs.Options.{◌>>=◌}
 use Rattle.bay_mms.specs.declared.request.Proposal.{Proposal}
 use Rattle.bay_mms.specs.declared.response.Agreed.{Agreed}
 use Rattle.bay_mms.specs.Grammar.{initiate_in}
 use Rattle.bay_base.specs.Results.{◌>>=◌ as ◌>>◌}
-use Rattle.bay_transport.specs.declared.frame.Front.{Front}
-use Rattle.bay_transport.specs.declared.frame.Front.TheVariants.{Begun, NoFrame, Whole}
-use Rattle.bay_transport.specs.Frame.{front_of, cut_of}
-use Rattle.bay_transport.specs.Doings.{Doing, Answers, Delivers, Ends, Fails, TransportConnection, Left, Going, Over, Broken, Run, TpduEffect, Joins, Finishes, Agrees, Closes, Refuses, effect_of, connection_after, on_effect, at_rest, frames_run, run_of, Stream, doings, after}
-use Rattle.bay_transport.specs.Feeding.{agreed_from, size_agreed}
-use Rattle.bay_transport.proofs.SizeLemmas.{Gathers, tpdu-sized}
+use Rattle.bay_transport.specs.Doings.{Doing, Answers, Delivers, Ends, Fails, Stream, doings, after}
+use Rattle.bay_transport.specs.Feeding.{size_agreed}
+use Rattle.bay_transport.proofs.SizeLemmas.{AreSized, doings-sized}
 use Rattle.bay_assoc.specs.declared.fault.AssocFault.{AssocFault}
 use Rattle.bay_assoc.specs.declared.fault.AssocFault.TheVariants as fault
 use Rattle.bay_assoc.specs.declared.hearing.Accepted.{Accepted}
@@ -27,48 +24,6 @@ use Rattle.bay_assoc.specs.Session.{Spdu, connect, accept, finish, disconnect, a
 use Rattle.bay_mms.specs.Sizes.{IsPduSize, agreed_size}
 use Rattle.bay_assoc.specs.Sized.{IsSized}
 use Rattle.bay_connection.specs.Talk.{Indication, Talk, Told, answers, tells, releases, ends, fails, comes_to, indications, left_by, on_heard, on_hearing, talk_after}
-
--- ---- a TSDU comes where a size is agreed
-
--- each TSDU of these doings comes where a size is agreed, before them or among them
-abbrev AreSized : Option ℕ → List Doing → Type 0
-AreSized size [] = Unit {0}
-AreSized size (Answers n reply ∷ ds) = AreSized (Some n) ds
-AreSized size (Delivers tsdu ∷ ds) = IsSome size × AreSized size ds
-AreSized size (Ends ∷ ds) = Unit {0}
-AreSized size (Fails fault ∷ ds) = Unit {0}
-
-rest-sized : (front : Front) (connection : TransportConnection) (rest : List ℕ)
-    → AreSized connection.size (at_rest front connection rest).doings
-rest-sized Begun connection rest = tt
-rest-sized NoFrame connection rest = tt
-rest-sized (Whole frame) connection rest = tt
-
-effect-sized : (effect : TpduEffect) (connection : TransportConnection) (later : Run)
-    → (Gathers effect → IsSome connection.size)
-    → AreSized (connection_after effect connection).size later.doings
-    → AreSized connection.size (on_effect effect later).doings
-effect-sized (Joins group) connection later some rest = rest
-effect-sized (Finishes group) connection later some rest = (some tt, rest)
-effect-sized (Agrees size reply) connection later some rest = rest
-effect-sized Closes connection later some rest = tt
-effect-sized (Refuses fault) connection later some rest = tt
-
-frames-sized : (number : ℕ) (connection : TransportConnection) (frames : List (List ℕ))
-    (rest : List ℕ) → AreSized connection.size (frames_run number connection frames rest).doings
-frames-sized number connection [] rest = rest-sized (front_of rest) connection rest
-frames-sized number connection (frame ∷ frames) rest =
-    let next : TransportConnection =
-    connection_after (effect_of number connection frame) connection in
-    effect-sized (effect_of number connection frame) connection (frames_run number next frames rest)
-    (tpdu-sized number connection (drop 4 frame)) (frames-sized number next frames rest)
-
-left-sized : (number : ℕ) (left : Left) (octets : List ℕ)
-    → AreSized (agreed_from left) (run_of number left octets).doings
-left-sized number (Going connection rest) octets =
-    frames-sized number connection (cut_of (rest ++ octets)).frames (cut_of (rest ++ octets)).rest
-left-sized number Over octets = tt
-left-sized number Broken octets = tt
 
 -- ---- what is heard leaves a size of PDUs
 
@@ -245,7 +200,7 @@ told-so s (Fails fault ∷ ds) size phase sized is = record { all = (tt, tt); le
 comes-told : (t : Talk) (octets : List ℕ) → IsSized t.phase → IsTold (comes_to t octets)
 comes-told t octets is =
     told-so (after t.stream octets) (doings t.stream octets) (size_agreed t.stream) t.phase
-    (left-sized t.stream.number t.stream.left octets) is
+    (doings-sized t.stream octets) is
 
 pub can-answer : (t : Talk) (octets : List ℕ) → IsSized t.phase
     → CanAnswerAll (indications t octets)

@@ -14,7 +14,7 @@ use Rattle.bay_transport.specs.Feeding.{IsGoing, agreed_from, size_agreed, size_
 -- ---- one TPDU
 
 -- its data join a group or complete it
-abbrev pub Gathers : TpduEffect → Type 0
+abbrev Gathers : TpduEffect → Type 0
 Gathers (Joins group) = Unit {0}
 Gathers (Finishes group) = Unit {0}
 Gathers (Agrees size reply) = ⊥
@@ -43,7 +43,7 @@ kind-sized number connection Data indicator octets h =
     data-sized connection.size connection.group indicator octets h
 kind-sized number connection kind indicator octets h = absurd h
 
-pub tpdu-sized : (number : ℕ) (connection : TransportConnection) (tpdu : List ℕ)
+tpdu-sized : (number : ℕ) (connection : TransportConnection) (tpdu : List ℕ)
     → Gathers (tpdu_effect number connection tpdu) → IsSome connection.size
 tpdu-sized number connection (indicator ∷ code ∷ octets) h =
     kind-sized number connection (tpdu_of code) indicator octets h
