@@ -69,10 +69,7 @@ impl Model for Device {
 fn closed_by(association: u16, why: Option<Why>) -> Option<(u16, Why)>
     ensures { result ≡ spec.closed_by association why }
 {
-    match why {
-        Some(why) => Some((association, why)),
-        None => None,
-    }
+    Some((association, why?))
 }
 
 impl Device {

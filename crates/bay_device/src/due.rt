@@ -23,13 +23,10 @@ pub struct Due {
 fn sent_to(association: u16, octets: Option<Outgoing>) -> Option<Sent>
     ensures { result ≡ spec.sent_to association octets }
 {
-    match octets {
-        Some(octets) => Some(Sent {
-            association,
-            octets,
-        }),
-        None => None,
-    }
+    Some(Sent {
+        association,
+        octets: octets?,
+    })
 }
 
 /// Reports that the switch has reached its position. Nothing is due afterwards.
@@ -37,10 +34,8 @@ pub fn reached(due: &mut Option<Due>) -> Option<Sent>
     ensures sent { result ≡ spec.reached_report due.old }
     ensures none { due.new ≡ None }
 {
-    match due.take() {
-        Some(due) => sent_to(due.association, due.positive),
-        None => None,
-    }
+    let due = due.take()?;
+    sent_to(due.association, due.positive)
 }
 
 /// Reports that the switch has not reached its position in time. Nothing is due afterwards.
@@ -48,10 +43,8 @@ pub fn missed(due: &mut Option<Due>) -> Option<Sent>
     ensures sent { result ≡ spec.missed_report due.old }
     ensures none { due.new ≡ None }
 {
-    match due.take() {
-        Some(due) => sent_to(due.association, due.negative),
-        None => None,
-    }
+    let due = due.take()?;
+    sent_to(due.association, due.negative)
 }
 
 /// Forgets what was due to a closed association.

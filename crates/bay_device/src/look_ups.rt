@@ -61,10 +61,8 @@ impl DeviceState {
         ensures { option_map (λ id. id.now) result
             ≡ option_map (λ s. s.id) (slice_get (switches_of self.now.bay.switches) switch) }
     {
-        match self.bay.switches.as_slice().get(switch) {
-            Some(bound) => Some(bound.switch.id.as_str()),
-            None => None,
-        }
+        let bound = self.bay.switches.as_slice().get(switch)?;
+        Some(bound.switch.id.as_str())
     }
 
     /// Returns whether the switch at an index may be opened, and whether it may be closed.
