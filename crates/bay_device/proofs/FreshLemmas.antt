@@ -30,8 +30,8 @@ use Rattle.bay_device.specs.declared.event.Event.TheVariants.{Open, Recv, Close,
 use Rattle.bay_device.specs.declared.event.Step.{Step}
 use Rattle.bay_device.specs.declared.fault.StepFault.{StepFault}
 use Rattle.bay_device.specs.declared.fault.StepFault.TheVariants.{MomentTooLarge, TimeWentBack}
-use Rattle.bay_device.proofs.CommandLemmas.{Notes, step-commanded}
-use Rattle.bay_device.proofs.SameLemmas.{Same, same-event}
+use Rattle.bay_device.proofs.CommandLemmas.{step-commanded}
+use Rattle.bay_device.proofs.SameLemmas.{Parts, Same, same-event}
 
 -- ---- what the process tells
 
@@ -54,13 +54,14 @@ record Still (s t : State) : Type 0 where
 
 still-same : (s t : State) → Same s t → Still s t
 still-same s t same = record {
-  scans = ap (λ (n : Notes). n.last_scan) same.notes;
-  stale = λ h. sym (ap (λ (n : Notes). n.is_stale) same.notes) ∙ h;
-  rows = λ h. same.rows;
-  inputs = λ h. ap (λ (n : Notes). n.inputs) same.notes;
+  scans = ap (λ (p : Parts). p.scans) same;
+  stale = λ h. sym (ap (λ (p : Parts). p.stale) same) ∙ h;
+  rows = λ h. ap (λ (p : Parts). p.rows) same;
+  inputs = λ h. ap (λ (p : Parts). p.inputs) same;
 }
 
-same-truth : (a b : Bool) → beq a b ≡ true → a ≡ b
+-- two truths that compare as one
+pub same-truth : (a b : Bool) → beq a b ≡ true → a ≡ b
 same-truth true true h = refl
 same-truth true false h = absurd cc
 same-truth false true h = absurd cc

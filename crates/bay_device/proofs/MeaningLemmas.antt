@@ -1,5 +1,5 @@
 -- A device that runs a text does what the text means.
-use Rattle.std.proofs.Common.{◌≡◌, ℕ, zero, suc, Bool, true, false, not, cond, nat_lt, List, [], ◌∷◌, ◌++◌, length, map, take, drop, slice_get, Option, Some, None, Result, IfOk, refl, sym, ap, ap₂, subst, ◌∙◌, arith}
+use Rattle.std.proofs.Common.{◌≡◌, ℕ, Bool, true, false, not, cond, nat_lt, List, [], ◌∷◌, ◌++◌, length, map, take, drop, slice_get, Option, Some, None, Result, IfOk, refl, sym, ap, ap₂, subst, ◌∙◌, arith}
 use Rattle.std.proofs.lemmas.List.{length-map, take-append-drop}
 use Rattle.std.proofs.Math.Seq.{drop-append_seam, take-append_seam}
 use Rattle.bay_base.specs.declared.types.ElementaryType.{ElementaryType}
@@ -31,13 +31,10 @@ use Rattle.bay_device.specs.Load.{initial_device}
 use Rattle.bay_process.proofs.SourceLemmas.{IsTyped, bay-typed, points-fit, reads-typed}
 use Rattle.il_compile.specs.Meaning.{Memory}
 use Rattle.il_scan.specs.Scans.{Held, first_input, first_slots, outputs_of, read_only, type_of_point, with_inputs}
-use Rattle.bay_connection.specs.Talk.{Talk, Indication, indications, left_by, answers, tells, releases, ends as ends-heard, fails}
 use Rattle.bay_device.specs.Device.{State, Ran, device_at, ending_at, inputs_of, point_value, ran_at, ran_of, after_scan}
-use Rattle.bay_device.specs.Hearing.{Done, AllHeard, after_indications, on_heard}
-use Rattle.bay_device.specs.Outcomes.{Outcome, close_outcome, connection_at, contact_outcome, event_outcome, input_outcome, last_moment, measure_outcome, nothing_done, octets_outcome, open_outcome, outcome, place_of, recv_after, recv_outcome, refusal_of, with_connection}
-use Rattle.bay_device.specs.Steps.{Steps}
+use Rattle.bay_device.specs.Outcomes.{Outcome, contact_outcome, event_outcome, input_outcome, last_moment, measure_outcome, outcome, refusal_of}
+use Rattle.bay_device.specs.Steps.{OfAssociation, Steps}
 use Rattle.bay_device.specs.declared.event.Step.{Step}
-use Rattle.bay_device.specs.declared.event.Why.{Why}
 use Rattle.bay_device.specs.declared.fault.StepFault.{StepFault}
 use Rattle.bay_device.specs.declared.fault.StepFault.TheVariants.{MomentTooLarge, TimeWentBack}
 use Rattle.bay_process.specs.Values.{with_outputs}
@@ -45,6 +42,7 @@ use Rattle.bay_device.specs.Meaning.{Means, MeansAt, Runs, memory_before, memory
 use Rattle.bay_process.specs.Sources.{type_of_source}
 use Rattle.bay_device.specs.declared.event.Event.{Event}
 use Rattle.bay_device.specs.declared.event.Event.TheVariants.{Open, Recv, Close, Contact, Input, Measure, Scan}
+use Rattle.bay_device.proofs.SameLemmas.{Parts, Same, same-event}
 
 -- ---- inputs have the types of what they stand for
 
@@ -244,78 +242,17 @@ runs-as c s t r machine reads = record {
       ∙ sym (ap (λ (h : Held). map type_of_point (read_only h.image.points)) machine);
 }
 
--- what a client does leaves the program as it is
-pub record SameProgram (s t : State) : Type 0 where
-  pub machine : t.machine ≡ s.machine
-  pub reads : t.reads ≡ s.reads
-
-connected : (o : Option ℕ) (talk : Option Talk) (s t : State) → SameProgram s t
-    → SameProgram s (with_connection o talk t)
-connected None talk s t same = same
-connected (Some place) talk s t same = record { machine = same.machine; reads = same.reads }
-
-on-heard : (now a : ℕ) (i : Indication) (s : State) (d : Done) (later : Done → AllHeard)
-    → SameProgram s d.state
-    → ((e : Done) → SameProgram s e.state → SameProgram s (later e).done.state)
-    → SameProgram s (on_heard now a i d later).done.state
-on-heard now a (answers octets) s d later same rest = rest _ same
-on-heard now a (tells terms pdu) s d later same rest =
-    rest _ (record { machine = same.machine; reads = same.reads })
-on-heard now a (releases octets) s d later same rest = same
-on-heard now a ends-heard s d later same rest = same
-on-heard now a (fails code) s d later same rest = same
-
-same-heard : (choice : Option ℕ) (now a : ℕ) (is : List Indication) (s : State) (d : Done)
-    → SameProgram s d.state → SameProgram s (after_indications choice now a is d).done.state
-same-heard None now a [] s d same = same
-same-heard None now a (i ∷ is) s d same =
-    on-heard now a i s d (after_indications None now a is) same
-    (λ e h. same-heard None now a is s e h)
-same-heard (Some zero) now a [] s d same = same
-same-heard (Some zero) now a (i ∷ is) s d same = same
-same-heard (Some (suc n)) now a [] s d same = same
-same-heard (Some (suc n)) now a (i ∷ is) s d same =
-    on-heard now a i s d (after_indications (Some n) now a is) same
-    (λ e h. same-heard (Some n) now a is s e h)
-
-same-after : (a : ℕ) (left : Talk) (s t : State) (why : Option Why) → SameProgram s t
-    → SameProgram s (recv_after a left t why)
-same-after a left s t None same = connected (place_of a) (Some left) s t same
-same-after a left s t (Some why) same =
-    connected (place_of a) None s _ (record { machine = same.machine; reads = same.reads })
-
-same-octets : (choice : Option ℕ) (now a : ℕ) (s : State) (talk : Talk) (octets : List ℕ)
-    → SameProgram s (octets_outcome choice now a s talk octets).after
-same-octets choice now a s talk [] = record { machine = refl; reads = refl }
-same-octets choice now a s talk (octet ∷ octets) =
-    same-after a (left_by talk (octet ∷ octets)) s _ _
-    (same-heard choice now a (indications talk (octet ∷ octets)) s
-    (nothing_done (device_at now s)) (record { machine = refl; reads = refl }))
-
-same-recv : (choice : Option ℕ) (now a : ℕ) (octets : List ℕ) (s : State) (talk : Option Talk)
-    → SameProgram s (recv_outcome choice now a octets s talk).after
-same-recv choice now a octets s None = record { machine = refl; reads = refl }
-same-recv choice now a octets s (Some talk) = same-octets choice now a s talk octets
-
-same-open : (now a : ℕ) (s : State) (o : Option ℕ) (talk : Option Talk)
-    → SameProgram s (open_outcome now a s o talk).after
-same-open now a s None talk = record { machine = refl; reads = refl }
-same-open now a s (Some place) (Some talk) = record { machine = refl; reads = refl }
-same-open now a s (Some place) None =
-    connected (place_of a) _ s (device_at now s) (record { machine = refl; reads = refl })
-
-same-close : (now a : ℕ) (s : State) (talk : Option Talk)
-    → SameProgram s (close_outcome now a s talk).after
-same-close now a s None = record { machine = refl; reads = refl }
-same-close now a s (Some talk) =
-    connected (place_of a) None s _ (record { machine = refl; reads = refl })
-
 module _ (c : Checked) (s : State) (r : Runs c s) (now : ℕ) where
   runs-advanced : Runs c (device_at now s)
   runs-advanced = runs-as c s (device_at now s) r refl refl
 
-  runs-same : (t : State) → SameProgram s t → Runs c t
-  runs-same t same = runs-as c s t r same.machine same.reads
+  -- clients leave it as it is
+  runs-same : (choice : Option ℕ) (event : Event) → OfAssociation event
+      → Runs c (event_outcome choice now event s).after
+  runs-same choice event of =
+      let same : Same s (event_outcome choice now event s).after =
+      same-event now s choice event of in
+      runs-as c s _ r (ap (λ (p : Parts). p.machine) same) (ap (λ (p : Parts). p.reads) same)
 
   runs-contact : (k : ℕ) (position : _) (o : Option Switch)
       → Runs c (contact_outcome now k position s o).after
@@ -333,11 +270,9 @@ module _ (c : Checked) (s : State) (r : Runs c s) (now : ℕ) where
   runs-measure k field value (Some id) = runs-as c s _ r refl refl
 
   runs-event : (choice : Option ℕ) (event : Event) → Runs c (event_outcome choice now event s).after
-  runs-event choice (Open a) =
-      runs-same _ (same-open now a s (place_of a) (connection_at (place_of a) s))
-  runs-event choice (Recv a octets) =
-      runs-same _ (same-recv choice now a octets.now s (connection_at (place_of a) s))
-  runs-event choice (Close a) = runs-same _ (same-close now a s (connection_at (place_of a) s))
+  runs-event choice (Open a) = runs-same choice (Open a) tt
+  runs-event choice (Recv a octets) = runs-same choice (Recv a octets) tt
+  runs-event choice (Close a) = runs-same choice (Close a) tt
   runs-event choice (Contact k position) = runs-contact k position (slice_get s.switches k)
   runs-event choice (Input k value) = runs-input k value (slice_get s.input_values k)
   runs-event choice (Measure k field value) = runs-measure k field value (slice_get s.meters k)
@@ -364,7 +299,8 @@ module _ (c : Checked) (s : State) (r : Runs c s) (now : ℕ) where
   left-scan choice =
       let m = means-scan c (device_at now s) runs-advanced now in
       left-if (nat_lt last_moment now) (refusal_of MomentTooLarge s) _ tt
-      (left-if (nat_lt now s.moment) (refusal_of TimeWentBack s) (event_outcome choice now Scan s) tt
+      (left-if (nat_lt now s.moment) (refusal_of TimeWentBack s) (event_outcome choice now Scan s)
+      tt
       (record { after = m.after; is = m.is; keeps = m.keeps; rows = m.rows }))
 
 -- a step on a device that runs the program

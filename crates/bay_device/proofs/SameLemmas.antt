@@ -1,68 +1,124 @@
--- What the events of associations leave as it is: the values of the process, and what the device
--- notes of its scans.
-use Rattle.std.proofs.Common.{◌≡◌, ℕ, Bool, true, false, cond, nat_lt, List, [], ◌∷◌, Option, Some, None, refl}
-use Rattle.bay_connection.specs.Talk.{Indication, Talk, indications, left_by}
-use Rattle.bay_device.specs.Device.{State, device_at}
-use Rattle.bay_device.specs.Hearing.{AllHeard, after_indications}
+-- What clients leave as it is: the program, the process, the interlocking values, and what the
+-- device notes of its scans.
+use Rattle.std.proofs.Common.{◌≡◌, ℕ, zero, suc, Bool, true, false, cond, nat_lt, List, [], ◌∷◌, Option, Some, None, refl, ap₂, ◌∙◌}
+use Rattle.bay_config.specs.declared.bay.Source.{Source}
+use Rattle.bay_connection.specs.Talk.{Indication, Talk, Terms, answers, tells, releases, ends, fails, indications, left_by}
+use Rattle.bay_nodes.specs.declared.switch.Switch.{Switch}
+use Rattle.bay_services.proofs.AcceptedLemmas.{alike-after}
+use Rattle.bay_services.proofs.ReleaseLemmas.{request-leaves}
+use Rattle.bay_tree.specs.declared.row.Row.{Row}
+use Rattle.il_scan.specs.Scans.{Held}
+use Rattle.bay_device.specs.Device.{State, bay_of, device_at}
+use Rattle.bay_device.specs.Hearing.{AllHeard, Done, after_indications, after_pdu, client_at, on_heard, with_sent}
 use Rattle.bay_device.specs.Outcomes.{Outcome, close_outcome, connection_at, event_outcome, first_talk, last_moment, nothing_done, octets_outcome, open_outcome, outcome, place_of, recv_after, recv_outcome, refusal_of, with_connection, without_owner}
 use Rattle.bay_device.specs.Steps.{OfAssociation}
 use Rattle.bay_device.specs.declared.event.Event.{Event}
 use Rattle.bay_device.specs.declared.event.Event.TheVariants.{Open, Recv, Close, Contact, Input, Measure, Scan}
 use Rattle.bay_device.specs.declared.event.Why.{Why}
 use Rattle.bay_device.specs.declared.fault.StepFault.TheVariants.{MomentTooLarge, TimeWentBack}
-use Rattle.bay_device.proofs.CommandLemmas.{Makes, begins, makes-heard, notes_of}
 
--- the values in the tree, the inputs and what is noted of scans are the same
-pub record Same (s t : State) : Type 0 where
-  pub notes : notes_of t ≡ notes_of s
-  pub rows : t.rows ≡ s.rows
+pub record Parts : Type 0 where
+  pub machine : Held
+  pub switches : List Switch
+  pub meters : List (List ℕ)
+  pub reads : List Source
+  pub writes : List Source
+  pub rows : List Row
+  pub inputs : List Bool
+  pub scans : Option ℕ
+  pub stale : Bool
+  pub age : ℕ
+
+abbrev pub parts_of : State → Parts
+parts_of s = record {
+  machine = s.machine;
+  switches = s.switches;
+  meters = s.meters;
+  reads = s.reads;
+  writes = s.writes;
+  rows = s.rows;
+  inputs = s.input_values;
+  scans = s.last_scan;
+  stale = s.is_stale;
+  age = s.scan_max_age_ms;
+}
+
+-- all of this is the same
+abbrev pub Same : State → State → Type 0
+Same s t = parts_of t ≡ parts_of s
 
 same-with : (s : State) (o : Option ℕ) (x : Option Talk) (t : State) → Same s t
     → Same s (with_connection o x t)
 same-with s None x t same = same
-same-with s (Some place) x t same = record { notes = same.notes; rows = same.rows }
+same-with s (Some place) x t same = same
 
-same-recv : (a : ℕ) (left : Talk) (s t : State) (why : Option Why) → Same s t
+-- ---- octets
+
+same-said : (now a : ℕ) (terms : Terms) (pdu : List ℕ) (d : Done)
+    → Same d.state (after_pdu now a terms pdu d).state
+same-said now a terms pdu d =
+    let c = client_at now a terms d.state in
+    let b = bay_of d.state in
+    ap₂ (λ (switches : List Switch) (rows : List Row).
+    record (parts_of d.state) { switches = switches; rows = rows })
+    (alike-after b c pdu b (record { domain = refl; switches = refl; names = refl })).switches
+    (request-leaves c pdu b).rows
+
+same-one : (now a : ℕ) (i : Indication) (s : State) (d : Done) (later : Done → AllHeard)
+    → Same s d.state → ((e : Done) → Same s e.state → Same s (later e).done.state)
+    → Same s (on_heard now a i d later).done.state
+same-one now a (answers octets) s d later same rest = rest (with_sent a octets d) same
+same-one now a (tells terms pdu) s d later same rest =
+    rest (after_pdu now a terms pdu d) (same-said now a terms pdu d ∙ same)
+same-one now a (releases octets) s d later same rest = same
+same-one now a ends s d later same rest = same
+same-one now a (fails code) s d later same rest = same
+
+same-indications : (choice : Option ℕ) (now a : ℕ) (is : List Indication) (s : State) (d : Done)
+    → Same s d.state → Same s (after_indications choice now a is d).done.state
+same-indications None now a [] s d same = same
+same-indications None now a (i ∷ is) s d same =
+    same-one now a i s d (after_indications None now a is) same
+    (λ e p. same-indications None now a is s e p)
+same-indications (Some zero) now a [] s d same = same
+same-indications (Some zero) now a (i ∷ is) s d same = same
+same-indications (Some (suc n)) now a [] s d same = same
+same-indications (Some (suc n)) now a (i ∷ is) s d same =
+    same-one now a i s d (after_indications (Some n) now a is) same
+    (λ e p. same-indications (Some n) now a is s e p)
+
+same-left : (a : ℕ) (left : Talk) (s t : State) (why : Option Why) → Same s t
     → Same s (recv_after a left t why)
-same-recv a left s t None same = same-with s (place_of a) (Some left) t same
-same-recv a left s t (Some why) same =
-    same-with s (place_of a) None (without_owner a t)
-    (record { notes = same.notes; rows = same.rows })
+same-left a left s t None same = same-with s (place_of a) (Some left) t same
+same-left a left s t (Some why) same = same-with s (place_of a) None (without_owner a t) same
+
+-- ---- events
 
 module _ (now : ℕ) (s : State) where
-  same-none : Same s s
-  same-none = record { notes = refl; rows = refl }
-
-  same-at : Same s (device_at now s)
-  same-at = record { notes = refl; rows = refl }
-
   same-open : (a : ℕ) (o : Option ℕ) (talk : Option Talk)
       → Same s (open_outcome now a s o talk).after
-  same-open a None talk = same-none
-  same-open a (Some place) (Some talk) = same-none
+  same-open a None talk = refl
+  same-open a (Some place) (Some talk) = refl
   same-open a (Some place) None =
-      same-with s (place_of a) (Some (first_talk a)) (device_at now s) same-at
+      same-with s (place_of a) (Some (first_talk a)) (device_at now s) refl
 
   same-close : (a : ℕ) (talk : Option Talk) → Same s (close_outcome now a s talk).after
-  same-close a None = same-none
+  same-close a None = refl
   same-close a (Some talk) =
-      same-with s (place_of a) None (without_owner a (device_at now s))
-      (record { notes = refl; rows = refl })
+      same-with s (place_of a) None (without_owner a (device_at now s)) refl
 
   same-octets : (choice : Option ℕ) (a : ℕ) (talk : Talk) (octets : List ℕ)
       → Same s (octets_outcome choice now a s talk octets).after
-  same-octets choice a talk [] = same-at
+  same-octets choice a talk [] = refl
   same-octets choice a talk (octet ∷ octets) =
       let is : List Indication = indications talk (octet ∷ octets) in
       let h : AllHeard = after_indications choice now a is (nothing_done (device_at now s)) in
-      let makes : Makes now s h.done =
-      makes-heard choice now a is s (nothing_done (device_at now s)) (begins now s) in
-      same-recv a (left_by talk (octet ∷ octets)) s h.done.state h.why
-      (record { notes = makes.notes; rows = makes.leaves.rows })
+      same-left a (left_by talk (octet ∷ octets)) s h.done.state h.why
+      (same-indications choice now a is s (nothing_done (device_at now s)) refl)
 
   same-heard : (choice : Option ℕ) (a : ℕ) (octets : List ℕ) (talk : Option Talk)
       → Same s (recv_outcome choice now a octets s talk).after
-  same-heard choice a octets None = same-none
+  same-heard choice a octets None = refl
   same-heard choice a octets (Some talk) = same-octets choice a talk octets
 
   pub same-event : (choice : Option ℕ) (event : Event) → OfAssociation event
@@ -87,4 +143,4 @@ module _ (now : ℕ) (s : State) where
       → Same s (outcome choice now event s).after
   same-outcome choice event of =
       if-refused (Same s) (nat_lt last_moment now) (nat_lt now s.moment)
-      (event_outcome choice now event s) same-none (same-event choice event of)
+      (event_outcome choice now event s) refl (same-event choice event of)

@@ -219,9 +219,9 @@ before-octets now line script h front choice a octets back readings offers split
 
 pub same-events : (now : ℕ) (es : List ChosenEvent) (s : State) → OfAssociations es
     → Same s (done_at now es s).after
-same-events now [] s of = record { notes = refl; rows = refl }
+same-events now [] s of = refl
 same-events now (e ∷ es) s of =
     let t : State = (outcome e.0 now e.1 s).after in
     let one : Same s t = same-outcome now s e.0 e.1 (All-head IsOf e es of) in
     let more : Same t (done_at now es t).after = same-events now es t (All-tail IsOf e es of) in
-    record { notes = more.notes ∙ one.notes; rows = more.rows ∙ one.rows }
+    more ∙ one

@@ -8,9 +8,8 @@ use Rattle.bay_tree.specs.declared.leaf.Leaf.TheVariants as leaf
 use Rattle.bay_device.specs.Commands.{IsReleasedAt}
 use Rattle.bay_device.specs.Device.{State}
 use Rattle.bay_device.specs.Fresh.{Past}
-use Rattle.bay_device.proofs.CommandLemmas.{Notes}
 use Rattle.bay_device.proofs.FreshLemmas.{ScannedAt, Since, Tracks, fresh-at, has-since, process-same}
-use Rattle.bay_device.proofs.SameLemmas.{Same}
+use Rattle.bay_device.proofs.SameLemmas.{Parts, Same}
 use Rattle.bay_serving_laws.specs.Orders.{IsReleasedBy}
 
 -- A switch that may be operated, on a device that has changed only for its clients since, is
@@ -21,16 +20,16 @@ pub released-by : (past : List Past) (old s : State) (now age : ℕ) (command : 
 released-by past old s now age command tracks same aged released =
     let r : ScannedAt now s = fresh-at now s released.fresh in
     let w : Since r.at past old =
-    tracks.since_scan r.at (sym (ap (λ (n : Notes). n.last_scan) same.notes) ∙ r.is)
-    (sym (ap (λ (n : Notes). n.is_stale) same.notes) ∙ r.fresh) in
+    tracks.since_scan r.at (sym (ap (λ (p : Parts). p.scans) same) ∙ r.is)
+    (sym (ap (λ (p : Parts). p.stale) same) ∙ r.fresh) in
     let within : now ≤ r.at + s.scan_max_age_ms = r.within in
     let near : now ≤ r.at + age = omega arith in
-    let rows : s.rows ≡ w.scan.after.rows = same.rows ∙ w.rows in
+    let rows : s.rows ≡ w.scan.after.rows = ap (λ (p : Parts). p.rows) same ∙ w.rows in
     record {
       scan = has-since now age r.at past old w near;
       enabled =
           ap (λ rows. is_truth true (leaf_of (releasing command.switch command.operation) rows))
           (sym rows) ∙ released.enabled;
       unchanged = process-same w.scan.after s rows
-          (ap (λ (n : Notes). n.inputs) same.notes ∙ w.inputs);
+          (ap (λ (p : Parts). p.inputs) same ∙ w.inputs);
     }
