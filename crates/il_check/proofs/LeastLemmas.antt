@@ -4,7 +4,7 @@ use Rattle.std.proofs.lemmas.Option.{same_Some}
 use Rattle.std.specs.Prelude.{Contains, unwrap_or}
 use Rattle.std.proofs.lemmas.Bool.{cases_eq, cases_lt, eq-eqb, le-ltb, lt-ltb, ltb-false, ne_eqb}
 use Rattle.il_check.specs.Code.{code_of, line_of}
-use Rattle.il_check.specs.Faults.{IsLeast, is_before, least_fault, least_of, lesser}
+use Rattle.il_check.specs.Faults.{IsLeast, is_before, least_fault, least_of, first_of}
 use Rattle.il_check.specs.declared.fault.CheckFault.{CheckFault}
 
 abbrev number : CheckFault → ℕ
@@ -86,8 +86,8 @@ most-then : (f g h : CheckFault) → AtMost f g → AtMost g h → AtMost f h
 most-then f g h a b =
     then-most (line_of f) (number f) (line_of g) (number g) (line_of h) (number h) a b
 
--- the lesser of two
-record IsLesser (f g m : CheckFault) : Type 0 where
+-- the first of two
+record IsFirst (f g m : CheckFault) : Type 0 where
   one : (m ≡ f) ⊎ (m ≡ g)
   over : AtMost m f
   under : AtMost m g
@@ -95,10 +95,10 @@ record IsLesser (f g m : CheckFault) : Type 0 where
 self : (f : CheckFault) → AtMost f f
 self f = inr (refl, omega arith)
 
-lesser-is : (f g : CheckFault) → IsLesser f g (lesser f g)
-lesser-is f g = go (is_before g f) refl
+first-of-two : (f g : CheckFault) → IsFirst f g (first_of f g)
+first-of-two f g = go (is_before g f) refl
   where
-    go : (b : Bool) → is_before g f ≡ b → IsLesser f g (cond b g f)
+    go : (b : Bool) → is_before g f ≡ b → IsFirst f g (cond b g f)
     go true e =
         record {
           one = inr refl;
@@ -129,7 +129,7 @@ of-front : (g x : CheckFault) (gs : List CheckFault) → Contains (g ∷ gs) x �
 of-front g x gs (zero, lt, is) = inl is
 of-front g x gs (suc k, lt, is) = inr (k, (let le = lt in omega arith), is)
 
-one-more : (f g : CheckFault) (gs : List CheckFault) (m r : CheckFault) → IsLesser f g m
+one-more : (f g : CheckFault) (gs : List CheckFault) (m r : CheckFault) → IsFirst f g m
     → Least m gs r → Least f (g ∷ gs) r
 one-more f g gs m r l s = record {
   among = elim s.among [
@@ -149,8 +149,8 @@ least_is : (f : CheckFault) (gs : List CheckFault) → Least f gs (least_of f gs
 least_is f [] =
     record { among = inl refl; over = self f; each = λ g c. absurd (let lt = c.1 in omega arith) }
 least_is f (g ∷ gs) =
-    one-more f g gs (lesser f g) (least_of (lesser f g) gs) (lesser-is f g)
-    (least_is (lesser f g) gs)
+    one-more f g gs (first_of f g) (least_of (first_of f g) gs) (first-of-two f g)
+    (least_is (first_of f g) gs)
 
 pub answered-is-least : (faults : List CheckFault) (f : CheckFault) → least_fault faults ≡ Some f
     → IsLeast f faults

@@ -1,12 +1,12 @@
 -- Faults noted one after another.
 use Rattle.std.proofs.Common.{◌≡◌, List, [], ◌∷◌, ◌++◌, Option, Some, None, refl, ap, sym, ◌∙◌}
-use Rattle.il_check.specs.Faults.{lesser, least_of, least_fault, first_fault_of}
+use Rattle.il_check.specs.Faults.{first_of, least_of, least_fault, first_fault_of}
 use Rattle.il_check.specs.declared.fault.CheckFault.{CheckFault}
 
 least_of-append : (f : CheckFault) (xs ys : List CheckFault)
     → least_of f (xs ++ ys) ≡ least_of (least_of f xs) ys
 least_of-append f [] ys = refl
-least_of-append f (x ∷ xs) ys = least_of-append (lesser f x) xs ys
+least_of-append f (x ∷ xs) ys = least_of-append (first_of f x) xs ys
 
 pub noted-append : (found : Option CheckFault) (xs ys : List CheckFault)
     → first_fault_of found (xs ++ ys) ≡ first_fault_of (first_fault_of found xs) ys

@@ -8,23 +8,21 @@ use Rattle.il_check.specs.declared.fault.CheckFault.{CheckFault}
 abbrev pub fault_if : Bool → CheckFault → List CheckFault
 fault_if test fault = if test then fault ∷ [] else []
 
--- of two numbers the first is the lower; what has none comes before all
-abbrev pub is_lower : Option ℕ → Option ℕ → Bool
-is_lower first second = nat_lt (unwrap_or first 0) (unwrap_or second 0)
-
--- a fault comes before another: its line is less, or it has a lower number on the same line
+-- a fault comes before another: its line is less, or it has a lower number on the same line; want
+-- of memory, which has no number, comes before all
 abbrev pub is_before : CheckFault → CheckFault → Bool
 is_before f g =
-    nat_lt (line_of f) (line_of g) || (line_of f == line_of g && is_lower (code_of f) (code_of g))
+    nat_lt (line_of f) (line_of g)
+    || (line_of f == line_of g && nat_lt (unwrap_or (code_of f) 0) (unwrap_or (code_of g) 0))
 
--- the one that comes first
-abbrev pub lesser : CheckFault → CheckFault → CheckFault
-lesser f g = if is_before g f then g else f
+-- the one of two that comes first
+abbrev pub first_of : CheckFault → CheckFault → CheckFault
+first_of f g = if is_before g f then g else f
 
 -- the first of a fault and of others
 abbrev pub least_of : CheckFault → List CheckFault → CheckFault
 least_of f [] = f
-least_of f (g ∷ gs) = least_of (lesser f g) gs
+least_of f (g ∷ gs) = least_of (first_of f g) gs
 
 -- the fault that is answered
 abbrev pub least_fault : List CheckFault → Option CheckFault

@@ -5,25 +5,18 @@ ghost use Rattle.il_check.specs.Faults.{fault_if, first_fault_of};
 
 use crate::fault::CheckFault;
 
-// Whether the first of two fault numbers is the lower one. Out of memory, which has no number and
-// is never noted, would come first.
-fn is_lower(first: Option<u8>, second: Option<u8>) -> bool
-    ensures { result ≡ spec.is_lower first second }
-{
-    first.unwrap_or(0) < second.unwrap_or(0)
-}
-
-// Whether a fault comes before another: by line, then by number.
+// Whether a fault comes before another: by line, then by number. Out of memory, which has no number
+// and is never noted, would come first.
 fn is_before(first: CheckFault, second: CheckFault) -> bool
     ensures { result ≡ spec.is_before first second }
 {
-    let is_same = first.line() == second.line();
-    first.line() < second.line() || (is_same && is_lower(first.code(), second.code()))
+    let is_lower = first.code().unwrap_or(0) < second.code().unwrap_or(0);
+    first.line() < second.line() || (first.line() == second.line() && is_lower)
 }
 
 // Returns whichever of two faults comes first.
-fn lesser(first: CheckFault, second: CheckFault) -> CheckFault
-    ensures { result ≡ spec.lesser first second }
+fn first_of(first: CheckFault, second: CheckFault) -> CheckFault
+    ensures { result ≡ spec.first_of first second }
 {
     if is_before(second, first) {
         second
@@ -44,7 +37,7 @@ pub(crate) fn note_if(
         return found;
     }
     match found {
-        Some(first) => Some(lesser(first, fault)),
+        Some(first) => Some(first_of(first, fault)),
         None => Some(fault),
     }
 }
