@@ -27,6 +27,7 @@ use Rattle.il_image.specs.declared.value.Value.{Value}
 use Rattle.il_image.specs.declared.value.Value.TheVariants as value
 use Rattle.il_image.proofs.KindLemmas.{same-is}
 use Rattle.il_image.proofs.ValueLemmas.{default-typed, value_is}
+use Rattle.il_image.specs.Machine.{most_slots, most_timers}
 use Rattle.il_check.specs.Declaring.{may_stand, is_name, point_of, of_type, literal_value, initial_in, is_typed, is_external, is_writable, external_at, external_in, variable_at, variable_in, timer_in, externals_of, variables_of, timers_of, counts_of, meaning_at, meanings_of, looked_up, is_full, declaration_faults, declarations_faults}
 use Rattle.il_check.specs.Given.{typed_value}
 use Rattle.il_check.specs.Rules.{number_in}
@@ -165,16 +166,16 @@ each-more P (x ∷ xs) ys h k = (h.0, each-more P xs ys h.1 k)
 -- what a declaration adds to lists, and what its name means
 record IsAdded (es es2 : List External) (vs vs2 : List Variable) (ts ts2 : List Timer) (m : Meaning)
     : Type 0 where
-  slots : length (es ++ es2) + length (vs ++ vs2) ≤ 512
-  timers : length (ts ++ ts2) ≤ 64
+  slots : length (es ++ es2) + length (vs ++ vs2) ≤ most_slots
+  timers : length (ts ++ ts2) ≤ most_timers
   names : Each HasName es2
   initial : Each BeginsRight vs2
   meant : IsMeant (es ++ es2) (vs ++ vs2) (ts ++ ts2) m
 
 external_added : (name : List ℕ) (kind : ElementaryType) (o : Option Point) (es : List External)
     (vs : List Variable) (ts : List Timer) → is_none o ≡ false
-    → ((p : Point) → o ≡ Some p → IsName (upper name)) → length es + length vs < 512
-    → length ts ≤ 64
+    → ((p : Point) → o ≡ Some p → IsName (upper name)) → length es + length vs < most_slots
+    → length ts ≤ most_timers
     → IsAdded es (option_to_list (external_at name kind o)) vs [] ts []
     (meaning.Variable (slot.External (length es)) kind (is_writable o))
 external_added name kind None es vs ts there named few timers = absurd (cc)
@@ -191,8 +192,9 @@ external_added name kind (Some p) es vs ts there named few timers =
 
 variable_added : (name : List ℕ) (kind : ElementaryType) (o : Option Value) (es : List External)
     (vs : List Variable) (ts : List Timer) → is_some o ≡ true
-    → ((v : Value) → o ≡ Some v → IsValue v × (type_of v ≡ kind)) → length es + length vs < 512
-    → length ts ≤ 64
+    → ((v : Value) → o ≡ Some v → IsValue v × (type_of v ≡ kind))
+    → length es + length vs < most_slots
+    → length ts ≤ most_timers
     → IsAdded es [] vs (option_to_list (variable_at name o)) ts []
     (meaning.Variable (slot.Variable (length vs)) kind true)
 variable_added name kind None es vs ts there right few timers = absurd (cc)
@@ -208,7 +210,7 @@ variable_added name kind (Some w) es vs ts there right few timers =
     }
 
 timer_added : (t : Timer) (es : List External) (vs : List Variable) (ts : List Timer)
-    → length es + length vs ≤ 512 → length ts < 64
+    → length es + length vs ≤ most_slots → length ts < most_timers
     → IsAdded es [] vs [] ts (t ∷ []) (meaning.Timer (length ts))
 timer_added t es vs ts slots few = record {
   slots = let a = length-append es [] in let b = length-append vs [] in omega arith;
@@ -218,10 +220,10 @@ timer_added t es vs ts slots few = record {
   meant = let a = length-append ts (t ∷ []) in omega arith;
 }
 
-few-slots : (n : ℕ) → nat_le 512 n ≡ false → n < 512
+few-slots : (n : ℕ) → nat_le most_slots n ≡ false → n < most_slots
 few-slots n h = grind (arith, nat_tests)
 
-few-timers : (n : ℕ) → nat_le 64 n ≡ false → n < 64
+few-timers : (n : ℕ) → nat_le most_timers n ≡ false → n < most_timers
 few-timers n h = grind (arith, nat_tests)
 
 added : (points : List Point) (d : text.Declared) (s : Scope) (k : DeclaredType)
@@ -230,7 +232,7 @@ added : (points : List Point) (d : text.Declared) (s : Scope) (k : DeclaredType)
     → is_typed s k (point_of points d.name) d.initial ≡ true
     → is_full (record { externals = length es; variables = length vs; timers = length ts }) k
     ≡ false
-    → length es + length vs ≤ 512 → length ts ≤ 64
+    → length es + length vs ≤ most_slots → length ts ≤ most_timers
     → IsAdded es (option_to_list (external_in points d s k)) vs (option_to_list (variable_in d s k))
     ts (option_to_list (timer_in d k))
     (meaning_at (record { externals = length es; variables = length vs; timers = length ts }) s k
@@ -251,8 +253,8 @@ added points d scope.Local (type.Timer kind) es vs ts there right room slots tim
 -- what is declared is right, and so is what names mean
 pub record AreDeclared (es : List External) (vs : List Variable) (ts : List Timer)
     (ms : List (List ℕ × Meaning)) : Type 0 where
-  pub slots : length es + length vs ≤ 512
-  pub timers : length ts ≤ 64
+  pub slots : length es + length vs ≤ most_slots
+  pub timers : length ts ≤ most_timers
   pub names : Each HasName es
   pub initial : Each BeginsRight vs
   pub meant : (key : List ℕ) (m : Meaning) → looked_up ms key ≡ Some m → IsMeant es vs ts m

@@ -1,4 +1,4 @@
--- Instructions that are right leave operations, jumps, returns and calls that are well typed.
+-- Instructions that are right leave operations that are well typed.
 use Rattle.std.proofs.Common.{◌≡◌, ℕ, zero, suc, ◌<◌, ℤ, pos, negsuc, Bool, true, false, not, cond, ◌&&◌, inl, inr, is_some, List, [], ◌∷◌, length, Option, None, Some, option_map, refl, ap, sym, subst, ◌∙◌}
 use Rattle.std.proofs.lemmas.Option.{same_Some, cond_some}
 use Rattle.std.proofs.lemmas.Bool.{and_parts, not-false, false_from_ne_true}
@@ -8,8 +8,6 @@ use Rattle.bay_base.specs.Types.{same_type}
 use Rattle.bay_base.specs.declared.types.ElementaryType.{ElementaryType}
 use Rattle.bay_base.specs.declared.types.ElementaryType.TheVariants as elementary
 use Rattle.il_text.specs.Listing as text
-use Rattle.il_text.specs.declared.program.Condition.{Condition}
-use Rattle.il_text.specs.declared.program.Condition.TheVariants.{Always, IfTrue, IfFalse}
 use Rattle.il_text.specs.declared.program.Input.{Input}
 use Rattle.il_text.specs.declared.program.Literal.{Literal}
 use Rattle.il_text.specs.declared.program.Literal.TheVariants as literal
@@ -23,12 +21,12 @@ use Rattle.il_image.specs.declared.value.Value.TheVariants as value
 use Rattle.il_image.proofs.KindLemmas.{same-is, same-self}
 use Rattle.il_image.proofs.ValueLemmas.{value_is}
 use Rattle.il_check.specs.Given.{Names, given_of, literal_given, variable_given, output_given, place_given, source_given, is_zero, is_nonzero_literal, is_nonzero, called_of, arguments_given, resolution_of}
-use Rattle.il_check.specs.Labelling.{Becomes, IsRight, coming_behind_action}
-use Rattle.il_check.specs.Program.{Checked, Item}
+use Rattle.il_check.specs.Labelling.{Becomes, IsRight}
+use Rattle.il_check.specs.Program.{Checked}
 use Rattle.il_check.specs.Rules as rules
-use Rattle.il_check.specs.Rules.{operand_in, number_in, own_type, load_type, fits, works, may_negate, is_plain, is_conditional, divides, gives, converted_from, input_type, argument_fits, arguments_fit, allows, uses_result, is_wrong, is_unset, type_after, goes_on}
-use Rattle.il_check.specs.TypedProgram.{slot_type, may_write, is_writable, IsOperand, is_divisor, IsOperation, IsArgument, AreArguments, Decides, has_label, IsTransfer, target_of, coming_behind_condition, coming_behind_transfer}
-use Rattle.il_check.specs.Typing.{load_operation, load_in, slot_in, target_slot, store_operation, combine_operation, operation_in, typed_argument, one_argument, two_arguments, arguments_in, call_with, transfer_in}
+use Rattle.il_check.specs.Rules.{operand_in, number_in, own_type, load_type, fits, works, may_negate, is_plain, divides, gives, converted_from, allows, uses_result, is_wrong, type_after, goes_on}
+use Rattle.il_check.specs.TypedProgram.{slot_type, may_write, is_writable, IsOperand, is_divisor, IsOperation, target_of}
+use Rattle.il_check.specs.Typing.{load_operation, load_in, slot_in, target_slot, store_operation, combine_operation, operation_in}
 use Rattle.il_check.specs.declared.given.Meaning.{Meaning}
 use Rattle.il_check.specs.declared.given.Meaning.TheVariants as meaning
 use Rattle.il_check.specs.declared.given.Given.{Given}
@@ -36,7 +34,6 @@ use Rattle.il_check.specs.declared.given.Given.TheVariants.{Missing, Misused, Kn
 use Rattle.il_check.specs.declared.given.KnownOperand.{KnownOperand}
 use Rattle.il_check.specs.declared.given.Called.{Called}
 use Rattle.il_check.specs.declared.given.Called.TheVariants as called
-use Rattle.il_check.specs.declared.given.GivenArgument.{GivenArgument}
 use Rattle.il_check.specs.declared.given.GivenArguments.{GivenArguments}
 use Rattle.il_check.specs.declared.given.GivenArguments.TheVariants as arguments
 use Rattle.il_check.specs.declared.given.Resolved.{Resolved}
@@ -46,13 +43,8 @@ use Rattle.il_check.specs.declared.typed.Variable.{Variable}
 use Rattle.il_check.specs.declared.typed.Slot.TheVariants as slot
 use Rattle.il_check.specs.declared.typed.TypedOperand.{TypedOperand}
 use Rattle.il_check.specs.declared.typed.TypedOperand.TheVariants as operand
-use Rattle.il_check.specs.declared.typed.TypedArgument.{TypedArgument}
-use Rattle.il_check.specs.declared.typed.TypedArguments.{TypedArguments}
-use Rattle.il_check.specs.declared.typed.TypedArguments.TheVariants as typed
 use Rattle.il_check.specs.declared.typed.SimpleOperation.{SimpleOperation}
 use Rattle.il_check.specs.declared.typed.SimpleOperation.TheVariants as op
-use Rattle.il_check.specs.declared.typed.Transfer.{Transfer}
-use Rattle.il_check.specs.declared.typed.Transfer.TheVariants as go
 use Rattle.il_check.proofs.DeclaredLemmas.{is_value, typed-is, number-is, IsMeant}
 use Rattle.il_check.proofs.FaultlessLemmas.{same-for-all, right-typed}
 
@@ -126,7 +118,8 @@ operand-case c kind z (Some v) x is e =
     subst (λ (y : TypedOperand). IsOperand c y kind) (same_Some (operand.Literal v) x e)
     (is_value kind z v (number-is kind z v is))
 
-operand-typed : (c : Checked) (kind : ElementaryType) (g : Given) (x : TypedOperand) → IsGiven c g
+pub operand-typed : (c : Checked) (kind : ElementaryType) (g : Given) (x : TypedOperand)
+    → IsGiven c g
     → operand_in kind g ≡ Some x → IsOperand c x kind
 operand-typed c kind Missing x given e = absurd (cc)
 operand-typed c kind Misused x given e = absurd (cc)
@@ -284,7 +277,7 @@ own-fits z g =
     own-fits-case z (is_some (number_in elementary.Int z)) (is_some (number_in elementary.Dint z))
     refl refl g
 
-mapped-some : {A B : Type 0} (f : A → B) (o : Option A) → is_some o ≡ true
+pub mapped-some : {A B : Type 0} (f : A → B) (o : Option A) → is_some o ≡ true
     → is_some (option_map f o) ≡ true
 mapped-some f None e = absurd (cc)
 mapped-some f (Some x) e = refl
@@ -317,7 +310,7 @@ pub combined-some : (operator : Operator) (kind : ElementaryType) (negated : Boo
 combined-some operator kind negated None e = absurd (cc)
 combined-some operator kind negated (Some x) e = refl
 
-none-some : {A : Type 0} (o : Option A) → o ≡ None → is_some o ≡ true → ⊥
+pub none-some : {A : Type 0} (o : Option A) → o ≡ None → is_some o ≡ true → ⊥
 none-some None e f = absurd (cc)
 none-some (Some x) e f = absurd (cc)
 
@@ -329,7 +322,8 @@ load-kind : (c : Checked) (negated : Bool) (g : Given) (t : Option ElementaryTyp
     → load_operation negated x ≡ Some o → IsOperation c o t (Some kind)
 load-kind c negated g t kind None o given may is e = absurd (cc)
 load-kind c negated g t kind (Some x) o given may is e =
-    subst (λ (y : SimpleOperation). IsOperation c y t (Some kind)) (same_Some (op.Load negated x) o e)
+    subst (λ (y : SimpleOperation). IsOperation c y t (Some kind))
+    (same_Some (op.Load negated x) o e)
     (kind, operand-typed c kind g x given is, may, refl)
 
 load-case : (c : Checked) (negated : Bool) (g : Given) (t k : Option ElementaryType)
@@ -448,167 +442,3 @@ operation-goes-on (Convert conversion) t o e = (refl, refl)
 operation-goes-on (Jump condition label) t o e = absurd (cc)
 operation-goes-on (Return condition) t o e = absurd (cc)
 operation-goes-on (Call what args) t o e = absurd (cc)
-
--- ---- jumps, returns and calls
-
-argument-case : (c : Checked) (a : GivenArgument) (w : Option TypedOperand) (x : TypedArgument)
-    → IsGiven c a.given → operand_in (input_type a.input) a.given ≡ w
-    → option_map (λ o. record { input = a.input; operand = o }) w ≡ Some x → IsArgument c x
-argument-case c a None x given is e = absurd (cc)
-argument-case c a (Some o) x given is e =
-    subst (IsArgument c) (same_Some (record { input = a.input; operand = o }) x e)
-    (operand-typed c (input_type a.input) a.given o given is)
-
-argument-typed : (c : Checked) (a : GivenArgument) (x : TypedArgument) → IsGiven c a.given
-    → typed_argument a ≡ Some x → IsArgument c x
-argument-typed c a x given e =
-    argument-case c a (operand_in (input_type a.input) a.given) x given refl e
-
-one-typed : (c : Checked) (a : GivenArgument) (w : Option TypedArgument) (xs : TypedArguments)
-    → IsGiven c a.given → typed_argument a ≡ w → one_argument w ≡ Some xs → AreArguments c xs
-one-typed c a None xs given is e = absurd (cc)
-one-typed c a (Some x) xs given is e =
-    subst (AreArguments c) (same_Some (typed.One x) xs e) (argument-typed c a x given is)
-
-two-typed : (c : Checked) (a b : GivenArgument) (v w : Option TypedArgument) (xs : TypedArguments)
-    → IsGiven c a.given → IsGiven c b.given → typed_argument a ≡ v → typed_argument b ≡ w
-    → two_arguments v w ≡ Some xs → AreArguments c xs
-two-typed c a b None w xs given more is also e = absurd (cc)
-two-typed c a b (Some x) None xs given more is also e = absurd (cc)
-two-typed c a b (Some x) (Some y) xs given more is also e =
-    subst (AreArguments c) (same_Some (typed.Two x y) xs e)
-    (argument-typed c a x given is, argument-typed c b y more also)
-
-arguments-typed : (c : Checked) (args : GivenArguments) (xs : TypedArguments) → AreGiven c args
-    → arguments_in args ≡ Some xs → AreArguments c xs
-arguments-typed c arguments.None xs given e = subst (AreArguments c) (same_Some typed.None xs e) tt
-arguments-typed c (arguments.One a) xs given e = one-typed c a (typed_argument a) xs given refl e
-arguments-typed c (arguments.Two a b) xs given e =
-    two-typed c a b (typed_argument a) (typed_argument b) xs given.0 given.1 refl refl e
-
-decides-jump : (condition : Condition) (label : Option ℕ) (t : Option ElementaryType)
-    → is_wrong (Jump condition label) t ≡ false → is_unset (Jump condition label) t ≡ false
-    → Decides condition t
-decides-jump Always label t ok set = tt
-decides-jump IfTrue label None ok set = absurd (cc)
-decides-jump IfTrue label (Some kind) ok set =
-    ap Some (sym (same-is elementary.Bool kind (not-false _ ok)))
-decides-jump IfFalse label None ok set = absurd (cc)
-decides-jump IfFalse label (Some kind) ok set =
-    ap Some (sym (same-is elementary.Bool kind (not-false _ ok)))
-
-decides-return : (condition : Condition) (t : Option ElementaryType)
-    → is_wrong (Return condition) t ≡ false → is_unset (Return condition) t ≡ false
-    → Decides condition t
-decides-return Always t ok set = tt
-decides-return IfTrue None ok set = absurd (cc)
-decides-return IfTrue (Some kind) ok set =
-    ap Some (sym (same-is elementary.Bool kind (not-false _ ok)))
-decides-return IfFalse None ok set = absurd (cc)
-decides-return IfFalse (Some kind) ok set =
-    ap Some (sym (same-is elementary.Bool kind (not-false _ ok)))
-
-behind-same : (condition : Condition) (t : Option ElementaryType)
-    → coming_behind_condition condition t ≡ cond (is_conditional condition) (Some t) None
-behind-same Always t = refl
-behind-same IfTrue t = refl
-behind-same IfFalse t = refl
-
--- a jump, a return or a call that is left, above these items
-pub record IsMoved (c : Checked) (below : List Item) (r : Resolved) (t : Option ElementaryType)
-    (x : Transfer) : Type 0 where
-  pub right : IsTransfer c below x t
-  pub target : target_of x ≡ rules.target_of r
-  pub goes : coming_behind_transfer x t ≡ coming_behind_action r t
-
-call-case : (c : Checked) (below : List Item) (n : ℕ) (args : GivenArguments)
-    (w : Option TypedArguments) (t : Option ElementaryType) (x : Transfer) → n < length c.timers
-    → AreGiven c args → arguments_in args ≡ w → call_with n w ≡ Some x
-    → IsMoved c below (Call (called.Timer n) args) t x
-call-case c below n args None t x timer given is e = absurd (cc)
-call-case c below n args (Some xs) t x timer given is e =
-    subst (IsMoved c below (Call (called.Timer n) args) t) (same_Some (go.Call n xs) x e)
-    (record { right = (timer, arguments-typed c args xs given is); target = refl; goes = refl })
-
-pub transfer-typed : (c : Checked) (below : List Item) (passed : ℕ) (r : Resolved)
-    (t : Option ElementaryType) (x : Transfer) → IsFound c r → IsRight passed r t
-    → ((n : ℕ) → rules.target_of r ≡ Some n → has_label below n ≡ true)
-    → transfer_in r ≡ Some x → IsMoved c below r t x
-transfer-typed c below passed (Load negated g) t x is ok there e = absurd (cc)
-transfer-typed c below passed (Store how g) t x is ok there e = absurd (cc)
-transfer-typed c below passed (Combine operator negated g nonzero) t x is ok there e = absurd (cc)
-transfer-typed c below passed Not t x is ok there e = absurd (cc)
-transfer-typed c below passed (Convert conversion) t x is ok there e = absurd (cc)
-transfer-typed c below passed (Jump condition None) t x is ok there e = absurd (cc)
-transfer-typed c below passed (Jump condition (Some n)) t x is ok there e =
-    subst (IsMoved c below (Jump condition (Some n)) t) (same_Some (go.Jump condition n) x e)
-    (record {
-      right = (decides-jump condition (Some n) t ok.allowed ok.set, there n refl);
-      target = refl;
-      goes = behind-same condition t;
-    })
-transfer-typed c below passed (Return condition) t x is ok there e =
-    subst (IsMoved c below (Return condition) t) (same_Some (go.Return condition) x e)
-    (record {
-      right = decides-return condition t ok.allowed ok.set;
-      target = refl;
-      goes = behind-same condition t;
-    })
-transfer-typed c below passed (Call called.Missing args) t x is ok there e = absurd (cc)
-transfer-typed c below passed (Call called.Misused args) t x is ok there e = absurd (cc)
-transfer-typed c below passed (Call (called.Timer n) args) t x is ok there e =
-    call-case c below n args (arguments_in args) t x is.0 is.1 refl e
-
-one-some : (o : Option TypedArgument) → is_some o ≡ true → is_some (one_argument o) ≡ true
-one-some None e = absurd (cc)
-one-some (Some x) e = refl
-
-two-some : (o p : Option TypedArgument) → is_some o ≡ true → is_some p ≡ true
-    → is_some (two_arguments o p) ≡ true
-two-some None p e f = absurd (cc)
-two-some (Some x) None e f = absurd (cc)
-two-some (Some x) (Some y) e f = refl
-
-argument-some : (a : GivenArgument) → argument_fits a ≡ true → is_some (typed_argument a) ≡ true
-argument-some a e =
-    mapped-some (λ o. record { input = a.input; operand = o })
-    (operand_in (input_type a.input) a.given) e
-
-pub arguments-some : (args : GivenArguments) → arguments_fit args ≡ true
-    → is_some (arguments_in args) ≡ true
-arguments-some arguments.None e = refl
-arguments-some (arguments.One a) e = one-some (typed_argument a) (argument-some a e)
-arguments-some (arguments.Two a b) e = let both = and_parts (argument_fits a) (argument_fits b) e in
-    two-some (typed_argument a) (typed_argument b) (argument-some a both.0) (argument-some b both.1)
-
-call-some : (n : ℕ) (o : Option TypedArguments) → is_some o ≡ true → is_some (call_with n o) ≡ true
-call-some n None e = absurd (cc)
-call-some n (Some x) e = refl
-
--- where nothing at all is left of an instruction that is right, it goes on with the same result,
--- and jumps nowhere
-pub nothing-left : (c : Checked) (passed : ℕ) (r : Resolved) (t : Option ElementaryType)
-    → IsFound c r → IsRight passed r t → transfer_in r ≡ None → operation_in r t ≡ None
-    → (rules.target_of r ≡ None) × (coming_behind_action r t ≡ Some t)
-nothing-left c passed (Load negated g) t is ok none e =
-    absurd (none-some _ e (load-some c negated g is
-    (allows-any (Load negated g) t refl ok.allowed)))
-nothing-left c passed (Store how g) t is ok none e = (refl, refl)
-nothing-left c passed (Combine operator negated g nonzero) None is ok none e =
-    absurd (let k = ok.set in cc)
-nothing-left c passed (Combine operator negated g nonzero) (Some kind) is ok none e =
-    absurd (none-some _ e (combined-some operator kind negated (operand_in kind g)
-    (and_parts (works operator negated kind) (fits kind g) (not-false _ ok.allowed)).1))
-nothing-left c passed Not t is ok none e = absurd (cc)
-nothing-left c passed (Convert conversion) t is ok none e = absurd (cc)
-nothing-left c passed (Jump condition None) t is ok none e = absurd (let k = ok.labelled in cc)
-nothing-left c passed (Jump condition (Some n)) t is ok none e = absurd (cc)
-nothing-left c passed (Return condition) t is ok none e = absurd (cc)
-nothing-left c passed (Call called.Missing args) t is ok none e =
-    absurd (let k = allows-any (Call called.Missing args) t refl ok.allowed in cc)
-nothing-left c passed (Call called.Misused args) t is ok none e =
-    absurd (let k = allows-any (Call called.Misused args) t refl ok.allowed in cc)
-nothing-left c passed (Call (called.Timer n) args) t is ok none e =
-    absurd (none-some _ none
-    (call-some n (arguments_in args)
-    (arguments-some args (allows-any (Call (called.Timer n) args) t refl ok.allowed))))

@@ -1,5 +1,7 @@
 pub mod ApartLemmas
+pub mod ArrivalLemmas
 pub mod CheckedLemmas
+pub mod DeclarationKeepingLemmas
 pub mod DeclarationsViewLemmas
 pub mod DeclaredLemmas
 pub mod EntryLemmas
@@ -14,6 +16,7 @@ pub mod NotedLemmas
 pub mod OwnLemmas
 pub mod RightLemmas
 pub mod TakenLemmas
+pub mod TransferLemmas
 pub mod TypedLemmas
 pub mod ViewLemmas
 pub mod WalkLemmas

@@ -28,10 +28,13 @@ use Rattle.il_check.specs.declared.typed.SimpleOperation.{SimpleOperation}
 use Rattle.il_check.specs.declared.typed.SimpleOperation.TheVariants as op
 use Rattle.il_check.specs.declared.typed.Transfer.{Transfer}
 use Rattle.il_check.proofs.DeclaredLemmas.{declares}
-use Rattle.il_check.proofs.GivenLemmas.{AreNamed, IsFound, found, named-from, operation-typed, operation-goes-on, left-same, transfer-typed, nothing-left}
+use Rattle.il_check.proofs.GivenLemmas.{AreNamed, IsFound, found, named-from, operation-typed, operation-goes-on, left-same}
+use Rattle.il_check.proofs.TransferLemmas.{transfer-typed, nothing-left}
 use Rattle.il_check.proofs.FaultlessLemmas.{both-none, or-true, no-zero, right-from, entry-reached, entry-from}
-use Rattle.il_check.proofs.LabellingLemmas.{same-number, InRange, target-in, target-ahead, Brought, least, AreLeast, Exact, exact-now, exact-behind-label, exact-behind-action, exact-behind-block, least-behind-label, jumps-out, flows-from, first-labels, none-arrived, mapped-length}
+use Rattle.il_check.proofs.LabellingLemmas.{least, AreLeast, Exact, exact-now, exact-behind-label, exact-behind-action, exact-behind-block, least-behind-label, jumps-out, flows-from, first-labels}
+use Rattle.il_check.proofs.ArrivalLemmas.{same-number, InRange, target-in, target-ahead, Brought, none-arrived, mapped-length}
 use Rattle.il_check.proofs.NotedLemmas.{least_fault-none}
+use Rattle.il_check.specs.Limits.{most_nested}
 
 -- ---- within a parenthesis
 
@@ -258,12 +261,12 @@ item-case c labels passed named now r t is None None known ok at jumps there goe
 
 block-case : (c : Checked) (labels : Labelling) (passed : ℕ) (named : List ℕ) (now : Coming)
     (t u : Option ElementaryType) (is : List Item) (o : Option Entry)
-    → now ≡ Some t → option_depth o ≤ 16 → IsBlock c o t u
+    → now ≡ Some t → option_depth o ≤ most_nested → IsBlock c o t u
     → AreItems c labels is (carry_of passed named (Some u))
     → AreItems c labels (cons_option (option_map plain o) is) (carry_of passed named now)
 block-case c labels passed named now t u is o at depth b more =
-    let deep : entry_depth b.what ≤ 16 =
-    subst (λ (x : Option Entry). option_depth x ≤ 16) b.is depth in
+    let deep : entry_depth b.what ≤ most_nested =
+    subst (λ (x : Option Entry). option_depth x ≤ most_nested) b.is depth in
     subst (λ (x : Option Entry). AreItems c labels (cons_option (option_map plain x) is)
     (carry_of passed named now)) (sym b.is) (t, u, (at, b.right, deep), more)
 
@@ -305,14 +308,15 @@ module _ (c : Checked) (names : Names) (meant : AreNamed c names) (labels : Labe
       let b = text.block line operator negated items end in
       let h = both-none _ _ none in
       let reached =
-      entry-reached names 16 s.now.is_reached s.passed line operator negated items end
+      entry-reached names most_nested s.now.is_reached s.passed line operator negated items end
       s.now.kind h.0 in
-      let right = entry-from names 16 s.now.is_reached s.passed b s.now.kind h.0 in
+      let right = entry-from names most_nested s.now.is_reached s.passed b s.now.kind h.0 in
       block-case c labels s.passed named now s.now.kind (option_map (gives operator) s.now.kind)
-      (items_left names es (behind names b s)) (entry_left names 16 b s.now.kind)
+      (items_left names es (behind names b s)) (entry_left names most_nested b s.now.kind)
       (exact-now count named s now x reached)
-      (entry-within names 16 s.passed b s.now.kind right)
-      (block-left c names meant 16 s.passed line operator negated items end s.now.kind right)
+      (entry-within names most_nested s.passed b s.now.kind right)
+      (block-left c names meant most_nested s.passed line operator negated items end s.now.kind
+      right)
       (items-typed es (behind names b s) named (Some (option_map (gives operator) s.now.kind)) same
       h.1 (exact-behind-block names count line operator negated items end s named now reached x)
       size)

@@ -17,6 +17,7 @@ use Rattle.il_text.specs.declared.program.Scope.TheVariants.{Local, External}
 use Rattle.il_image.specs.declared.value.Value.{Value}
 use Rattle.il_image.specs.Images.{is_name_octet}
 use Rattle.il_image.specs.Values.{default_value, type_of}
+use Rattle.il_image.specs.Machine.{most_slots, most_timers}
 use Rattle.il_check.specs.Faults.{fault_if}
 use Rattle.il_check.specs.Given.{Names, typed_value}
 use Rattle.il_check.specs.Rules.{number_in}
@@ -175,10 +176,10 @@ names_in points program = record {
   label = λ name. looked_up (labels_from 0 program.items) (upper name);
 }
 
--- one variable or timer more is too many: there are 512 externals and variables, or 64 timers
+-- one variable or timer more is too many: a machine has no slot or no timer for it
 abbrev pub is_full : Counts → DeclaredType → Bool
-is_full counts (Elementary kind) = nat_le 512 (counts.externals + counts.variables)
-is_full counts (Timer kind) = nat_le 64 counts.timers
+is_full counts (Elementary kind) = nat_le most_slots (counts.externals + counts.variables)
+is_full counts (Timer kind) = nat_le most_timers counts.timers
 
 -- the faults of a declaration, of which it is known whether its name is declared before, and
 -- whether it is one too many

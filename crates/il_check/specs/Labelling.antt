@@ -8,6 +8,7 @@ use Rattle.il_check.specs.Given.{Names, resolution_of}
 use Rattle.il_check.specs.Rules.{is_wrong, is_unset, type_after, combines_wrong, combines_unset, misses_name, jumps_back, misses_label, writes_fixed, may_divide_by_zero, divides, gives, goes_on, target_of}
 use Rattle.il_check.specs.WellTyped.{Progress, behind, is_first, type_behind, type_behind_all}
 use Rattle.il_check.specs.declared.given.Resolved.{Resolved}
+use Rattle.il_check.specs.Limits.{most_labels, most_nested}
 
 -- the type of the current result at each label by its number, or none where it is unset
 abbrev pub Labelling : Type 0
@@ -117,10 +118,11 @@ behind_action r t c =
 abbrev pub behind_block : Operator → Option ElementaryType → Carried → Carried
 behind_block operator t c = carry_of c.passed c.named (Some (option_map (gives operator) t))
 
--- A label is the first of its name and one of 256 at most, and what falls into it brings its type.
+-- A label is the first of its name and not too many, and what falls into it brings its type.
 abbrev pub LabelFlows : Names → Labelling → List ℕ → Carried → Type 0
 LabelFlows names labels name c =
-    (is_first c.passed (names.label name) ≡ true) × (c.passed < 256) × Falls labels c.passed c.now
+    (is_first c.passed (names.label name) ≡ true) × (c.passed < most_labels)
+    × Falls labels c.passed c.now
 
 -- An instruction is reached by a result of this type, is right on it, and brings it where it jumps.
 abbrev pub ActionFlows : Labelling → Resolved → Option ElementaryType → Carried → Type 0
@@ -128,7 +130,7 @@ ActionFlows labels r t c = (c.now ≡ Some t) × IsRight c.passed r t × Jumps l
 
 -- A parenthesis is reached by a result of this type, and is right on it.
 abbrev pub BlockFlows : Names → text.Entry → Option ElementaryType → Carried → Type 0
-BlockFlows names b t c = (c.now ≡ Some t) × IsRightEntry names 16 c.passed b t
+BlockFlows names b t c = (c.now ≡ Some t) × IsRightEntry names most_nested c.passed b t
 
 -- Each instruction is reached, and right on the result that comes to it; and each way to a label
 -- brings the label's type, or the label is unset.

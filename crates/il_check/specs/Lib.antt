@@ -19,8 +19,8 @@
 -- `Program` is a checked program as plain data, `Typing` what is left of a right instruction.
 -- `TypedProgram` says which are well typed, without a word of names; `Sound` what holds of each;
 -- `Keeping` that a check keeps all that the text says; `OwnPlaces` that a name means its own
--- declaration. `Contents` and `ProgramViews` map the code's values to plain data; `Code` numbers
--- the faults.
+-- declaration. `Limits`: how many labels and parentheses there may be. `Contents` and
+-- `ProgramViews` map the code's values to plain data; `Code` numbers the faults.
 
 -- What public clauses cite of the crates below.
 pub use Rattle.bay_base.specs.Exact
@@ -35,6 +35,7 @@ pub mod Faults
 pub mod Given
 pub mod Keeping
 pub mod Labelling
+pub mod Limits
 pub mod OwnPlaces
 pub mod Program
 pub mod ProgramViews

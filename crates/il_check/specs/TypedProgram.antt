@@ -8,6 +8,7 @@ use Rattle.il_text.specs.declared.program.Condition.{Condition}
 use Rattle.il_text.specs.declared.program.Condition.TheVariants.{Always, IfTrue, IfFalse}
 use Rattle.il_image.specs.Images.{Each, IsName, IsValue}
 use Rattle.il_image.specs.Values.{number_of, type_of}
+use Rattle.il_image.specs.Machine.{most_slots, most_timers}
 use Rattle.il_check.specs.Given.{output_type}
 use Rattle.il_check.specs.Labelling.{Labelling, Coming, Carried, carry_of, beginning, Falls, Jumps, with_target, behind_label}
 use Rattle.il_check.specs.Program.{Entry, operation, block, Entries, no_entries, entry, Item, label, transfer, plain, Checked}
@@ -25,6 +26,7 @@ use Rattle.il_check.specs.declared.typed.SimpleOperation.{SimpleOperation}
 use Rattle.il_check.specs.declared.typed.SimpleOperation.TheVariants as op
 use Rattle.il_check.specs.declared.typed.Transfer.{Transfer}
 use Rattle.il_check.specs.declared.typed.Transfer.TheVariants as go
+use Rattle.il_check.specs.Limits.{most_labels, most_nested}
 
 -- ---- what is read and written
 
@@ -159,10 +161,10 @@ behind_transfer x t k =
 abbrev pub behind_entry : Option ElementaryType → Carried → Carried
 behind_entry u k = carry_of k.passed k.named (Some u)
 
--- A label stands in the order of the numbers and is one of 256 at most, and what falls into it
+-- A label stands in the order of the numbers and is not too many, and what falls into it
 -- brings its type.
 abbrev pub IsLabel : Labelling → ℕ → Carried → Type 0
-IsLabel labels n k = (n ≡ k.passed) × (k.passed < 256) × Falls labels k.passed k.now
+IsLabel labels n k = (n ≡ k.passed) × (k.passed < most_labels) × Falls labels k.passed k.now
 
 -- A jump, return or call is reached by a result of this type, is right on it, and brings it where
 -- it jumps.
@@ -175,7 +177,7 @@ TransferFlows c labels below x t k =
 -- second.
 abbrev pub EntryFlows : Checked → Entry → Option ElementaryType → Option ElementaryType → Carried
     → Type 0
-EntryFlows c e t u k = (k.now ≡ Some t) × IsEntry c e t u × (entry_depth e ≤ 16)
+EntryFlows c e t u k = (k.now ≡ Some t) × IsEntry c e t u × (entry_depth e ≤ most_nested)
 
 -- Each item is reached and right on what is known before it.
 abbrev pub AreItems : Checked → Labelling → List Item → Carried → Type 0
@@ -197,11 +199,11 @@ HasName e = IsName e.name
 abbrev pub BeginsRight : Variable → Type 0
 BeginsRight v = IsValue v.initial
 
--- There are 512 slots and 64 timers at most, and with some labelling each item is reached and
--- right.
+-- There are no more slots and timers than a machine may have, and with some labelling each item is
+-- reached and right.
 pub record IsTyped (c : Checked) : Type 0 where
-  pub slots : length c.externals + length c.variables ≤ 512
-  pub timers : length c.timers ≤ 64
+  pub slots : length c.externals + length c.variables ≤ most_slots
+  pub timers : length c.timers ≤ most_timers
   pub names : Each HasName c.externals
   pub initial : Each BeginsRight c.variables
   pub labels : Labelling

@@ -15,6 +15,7 @@ use Rattle.il_check.specs.declared.reach.Reach.{Reach}
 use Rattle.il_check.specs.declared.given.Resolved.{Resolved}
 use Rattle.il_check.specs.declared.fault.CheckFault.{CheckFault}
 use Rattle.il_check.specs.declared.fault.CheckFault.TheVariants.{UnknownName, DuplicateName, TypeMismatch, UnsetResult, BackwardJump, UnknownLabel, Unreachable, ReadOnly, ZeroDivisor, TooMany}
+use Rattle.il_check.specs.Limits.{most_labels, most_nested}
 
 -- the faults of what names mean and of types: in an instruction that can't be reached no type is
 -- judged
@@ -181,15 +182,16 @@ is_first passed (Some number) = not (nat_lt number passed)
 abbrev pub label_faults : ℕ → Option ℕ → ℕ → List CheckFault
 label_faults line number passed =
     fault_if (not (is_first passed number)) (DuplicateName line)
-    ++ fault_if (nat_le 256 passed) (TooMany line)
+    ++ fault_if (nat_le most_labels passed) (TooMany line)
 
--- 16 parentheses at most stand within one another
+-- the faults of an item, behind what is known before it
 abbrev pub item_faults : Names → text.Entry → Progress → List CheckFault
 item_faults names (text.label line name) s = label_faults line (names.label name) s.passed
 item_faults names (text.action line a) s =
     instruction_faults s.now.is_reached s.passed line (resolution_of names a) s.now.kind
 item_faults names (text.block line operator negated items end) s =
-    entry_faults names 16 s.now.is_reached s.passed (text.block line operator negated items end)
+    entry_faults names most_nested s.now.is_reached s.passed
+    (text.block line operator negated items end)
     s.now.kind
 
 -- the faults of items behind what is known before them
@@ -202,7 +204,8 @@ abbrev pub item_left : Names → text.Entry → Progress → Option plain.Item
 item_left names (text.label line name) s = Some (plain.label s.passed)
 item_left names (text.action line a) s = item_in (resolution_of names a) s.now.kind
 item_left names (text.block line operator negated items end) s =
-    option_map plain.plain (entry_left names 16 (text.block line operator negated items end)
+    option_map plain.plain (entry_left names most_nested
+    (text.block line operator negated items end)
     s.now.kind)
 
 -- what is left of items

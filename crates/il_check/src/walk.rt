@@ -11,6 +11,7 @@ ghost use Rattle.il_check.specs.Given.{resolution_of};
 ghost use Rattle.il_check.specs.Typing as typing;
 ghost use Rattle.il_check.specs.WalkView.{standing_of};
 ghost use Rattle.il_check.specs.WellTyped as spec;
+ghost use Rattle.il_check.specs.Limits.{most_nested};
 
 use crate::fault::CheckFault;
 use crate::given::Resolved;
@@ -314,7 +315,7 @@ impl Walk {
     // Returns the context of the next item, which is in no parenthesis.
     fn context(&self) -> Context
         ensures { result ≡ record
-            { is_reached = self.now.reach.is_reached; passed = self.now.passed; room = 16 } }
+            { is_reached = self.now.reach.is_reached; passed = self.now.passed; room = most_nested } }
     {
         Context {
             is_reached: self.reach.is_reached,
@@ -509,10 +510,12 @@ impl Judge {
         ensures items { OnOk result (map item_view walk.new.items.items
             ≡ map item_view walk.old.items.items
             ++ option_to_list (option_map plain.plain
-            (spec.entry_left (names_of names.now) 16 (entry_of item.now) walk.old.reach.kind))) }
+            (spec.entry_left (names_of names.now) most_nested (entry_of item.now)
+            walk.old.reach.kind))) }
         ensures found { OnOk result (self.new.found
             ≡ first_fault_of self.old.found
-            (spec.entry_faults (names_of names.now) 16 walk.old.reach.is_reached walk.old.passed
+            (spec.entry_faults (names_of names.now) most_nested walk.old.reach.is_reached
+            walk.old.passed
             (entry_of item.now) walk.old.reach.kind)) }
     {
         let left = self.entry(names, walk.context(), item, walk.reach.kind)?;

@@ -1,0 +1,193 @@
+-- Instructions that are right leave jumps, returns and calls that are well typed.
+use Rattle.std.proofs.Common.{◌≡◌, ℕ, ◌<◌, Bool, true, false, cond, is_some, List, length, Option, None, Some, option_map, refl, ap, sym, subst}
+use Rattle.std.proofs.lemmas.Option.{same_Some}
+use Rattle.std.proofs.lemmas.Bool.{and_parts, not-false}
+use Rattle.bay_base.specs.declared.types.ElementaryType.{ElementaryType}
+use Rattle.bay_base.specs.declared.types.ElementaryType.TheVariants as elementary
+use Rattle.il_text.specs.declared.program.Condition.{Condition}
+use Rattle.il_text.specs.declared.program.Condition.TheVariants.{Always, IfTrue, IfFalse}
+use Rattle.il_image.proofs.KindLemmas.{same-is}
+use Rattle.il_check.specs.Labelling.{IsRight, coming_behind_action}
+use Rattle.il_check.specs.Program.{Checked, Item}
+use Rattle.il_check.specs.Rules as rules
+use Rattle.il_check.specs.Rules.{operand_in, fits, works, is_conditional, input_type, argument_fits, arguments_fit, is_wrong, is_unset}
+use Rattle.il_check.specs.TypedProgram.{IsArgument, AreArguments, Decides, has_label, IsTransfer, target_of, coming_behind_condition, coming_behind_transfer}
+use Rattle.il_check.specs.Typing.{operation_in, typed_argument, one_argument, two_arguments, arguments_in, call_with, transfer_in}
+use Rattle.il_check.specs.declared.given.Given.TheVariants.{Missing, Misused}
+use Rattle.il_check.specs.declared.given.Called.TheVariants as called
+use Rattle.il_check.specs.declared.given.GivenArgument.{GivenArgument}
+use Rattle.il_check.specs.declared.given.GivenArguments.{GivenArguments}
+use Rattle.il_check.specs.declared.given.GivenArguments.TheVariants as arguments
+use Rattle.il_check.specs.declared.given.Resolved.{Resolved}
+use Rattle.il_check.specs.declared.given.Resolved.TheVariants.{Load, Store, Combine, Not, Convert, Jump, Return, Call}
+use Rattle.il_check.specs.declared.typed.TypedOperand.{TypedOperand}
+use Rattle.il_check.specs.declared.typed.TypedArgument.{TypedArgument}
+use Rattle.il_check.specs.declared.typed.TypedArguments.{TypedArguments}
+use Rattle.il_check.specs.declared.typed.TypedArguments.TheVariants as typed
+use Rattle.il_check.specs.declared.typed.Transfer.{Transfer}
+use Rattle.il_check.specs.declared.typed.Transfer.TheVariants as go
+use Rattle.il_check.proofs.GivenLemmas.{IsGiven, operand-typed, AreGiven, IsFound, allows-any, mapped-some, load-some, combined-some, none-some}
+
+-- ---- jumps, returns and calls
+
+argument-case : (c : Checked) (a : GivenArgument) (w : Option TypedOperand) (x : TypedArgument)
+    → IsGiven c a.given → operand_in (input_type a.input) a.given ≡ w
+    → option_map (λ o. record { input = a.input; operand = o }) w ≡ Some x → IsArgument c x
+argument-case c a None x given is e = absurd (cc)
+argument-case c a (Some o) x given is e =
+    subst (IsArgument c) (same_Some (record { input = a.input; operand = o }) x e)
+    (operand-typed c (input_type a.input) a.given o given is)
+
+argument-typed : (c : Checked) (a : GivenArgument) (x : TypedArgument) → IsGiven c a.given
+    → typed_argument a ≡ Some x → IsArgument c x
+argument-typed c a x given e =
+    argument-case c a (operand_in (input_type a.input) a.given) x given refl e
+
+one-typed : (c : Checked) (a : GivenArgument) (w : Option TypedArgument) (xs : TypedArguments)
+    → IsGiven c a.given → typed_argument a ≡ w → one_argument w ≡ Some xs → AreArguments c xs
+one-typed c a None xs given is e = absurd (cc)
+one-typed c a (Some x) xs given is e =
+    subst (AreArguments c) (same_Some (typed.One x) xs e) (argument-typed c a x given is)
+
+two-typed : (c : Checked) (a b : GivenArgument) (v w : Option TypedArgument) (xs : TypedArguments)
+    → IsGiven c a.given → IsGiven c b.given → typed_argument a ≡ v → typed_argument b ≡ w
+    → two_arguments v w ≡ Some xs → AreArguments c xs
+two-typed c a b None w xs given more is also e = absurd (cc)
+two-typed c a b (Some x) None xs given more is also e = absurd (cc)
+two-typed c a b (Some x) (Some y) xs given more is also e =
+    subst (AreArguments c) (same_Some (typed.Two x y) xs e)
+    (argument-typed c a x given is, argument-typed c b y more also)
+
+arguments-typed : (c : Checked) (args : GivenArguments) (xs : TypedArguments) → AreGiven c args
+    → arguments_in args ≡ Some xs → AreArguments c xs
+arguments-typed c arguments.None xs given e = subst (AreArguments c) (same_Some typed.None xs e) tt
+arguments-typed c (arguments.One a) xs given e = one-typed c a (typed_argument a) xs given refl e
+arguments-typed c (arguments.Two a b) xs given e =
+    two-typed c a b (typed_argument a) (typed_argument b) xs given.0 given.1 refl refl e
+
+decides-jump : (condition : Condition) (label : Option ℕ) (t : Option ElementaryType)
+    → is_wrong (Jump condition label) t ≡ false → is_unset (Jump condition label) t ≡ false
+    → Decides condition t
+decides-jump Always label t ok set = tt
+decides-jump IfTrue label None ok set = absurd (cc)
+decides-jump IfTrue label (Some kind) ok set =
+    ap Some (sym (same-is elementary.Bool kind (not-false _ ok)))
+decides-jump IfFalse label None ok set = absurd (cc)
+decides-jump IfFalse label (Some kind) ok set =
+    ap Some (sym (same-is elementary.Bool kind (not-false _ ok)))
+
+decides-return : (condition : Condition) (t : Option ElementaryType)
+    → is_wrong (Return condition) t ≡ false → is_unset (Return condition) t ≡ false
+    → Decides condition t
+decides-return Always t ok set = tt
+decides-return IfTrue None ok set = absurd (cc)
+decides-return IfTrue (Some kind) ok set =
+    ap Some (sym (same-is elementary.Bool kind (not-false _ ok)))
+decides-return IfFalse None ok set = absurd (cc)
+decides-return IfFalse (Some kind) ok set =
+    ap Some (sym (same-is elementary.Bool kind (not-false _ ok)))
+
+behind-same : (condition : Condition) (t : Option ElementaryType)
+    → coming_behind_condition condition t ≡ cond (is_conditional condition) (Some t) None
+behind-same Always t = refl
+behind-same IfTrue t = refl
+behind-same IfFalse t = refl
+
+-- a jump, a return or a call that is left, above these items
+pub record IsMoved (c : Checked) (below : List Item) (r : Resolved) (t : Option ElementaryType)
+    (x : Transfer) : Type 0 where
+  pub right : IsTransfer c below x t
+  pub target : target_of x ≡ rules.target_of r
+  pub goes : coming_behind_transfer x t ≡ coming_behind_action r t
+
+call-case : (c : Checked) (below : List Item) (n : ℕ) (args : GivenArguments)
+    (w : Option TypedArguments) (t : Option ElementaryType) (x : Transfer) → n < length c.timers
+    → AreGiven c args → arguments_in args ≡ w → call_with n w ≡ Some x
+    → IsMoved c below (Call (called.Timer n) args) t x
+call-case c below n args None t x timer given is e = absurd (cc)
+call-case c below n args (Some xs) t x timer given is e =
+    subst (IsMoved c below (Call (called.Timer n) args) t) (same_Some (go.Call n xs) x e)
+    (record { right = (timer, arguments-typed c args xs given is); target = refl; goes = refl })
+
+pub transfer-typed : (c : Checked) (below : List Item) (passed : ℕ) (r : Resolved)
+    (t : Option ElementaryType) (x : Transfer) → IsFound c r → IsRight passed r t
+    → ((n : ℕ) → rules.target_of r ≡ Some n → has_label below n ≡ true)
+    → transfer_in r ≡ Some x → IsMoved c below r t x
+transfer-typed c below passed (Load negated g) t x is ok there e = absurd (cc)
+transfer-typed c below passed (Store how g) t x is ok there e = absurd (cc)
+transfer-typed c below passed (Combine operator negated g nonzero) t x is ok there e = absurd (cc)
+transfer-typed c below passed Not t x is ok there e = absurd (cc)
+transfer-typed c below passed (Convert conversion) t x is ok there e = absurd (cc)
+transfer-typed c below passed (Jump condition None) t x is ok there e = absurd (cc)
+transfer-typed c below passed (Jump condition (Some n)) t x is ok there e =
+    subst (IsMoved c below (Jump condition (Some n)) t) (same_Some (go.Jump condition n) x e)
+    (record {
+      right = (decides-jump condition (Some n) t ok.allowed ok.set, there n refl);
+      target = refl;
+      goes = behind-same condition t;
+    })
+transfer-typed c below passed (Return condition) t x is ok there e =
+    subst (IsMoved c below (Return condition) t) (same_Some (go.Return condition) x e)
+    (record {
+      right = decides-return condition t ok.allowed ok.set;
+      target = refl;
+      goes = behind-same condition t;
+    })
+transfer-typed c below passed (Call called.Missing args) t x is ok there e = absurd (cc)
+transfer-typed c below passed (Call called.Misused args) t x is ok there e = absurd (cc)
+transfer-typed c below passed (Call (called.Timer n) args) t x is ok there e =
+    call-case c below n args (arguments_in args) t x is.0 is.1 refl e
+
+one-some : (o : Option TypedArgument) → is_some o ≡ true → is_some (one_argument o) ≡ true
+one-some None e = absurd (cc)
+one-some (Some x) e = refl
+
+two-some : (o p : Option TypedArgument) → is_some o ≡ true → is_some p ≡ true
+    → is_some (two_arguments o p) ≡ true
+two-some None p e f = absurd (cc)
+two-some (Some x) None e f = absurd (cc)
+two-some (Some x) (Some y) e f = refl
+
+argument-some : (a : GivenArgument) → argument_fits a ≡ true → is_some (typed_argument a) ≡ true
+argument-some a e =
+    mapped-some (λ o. record { input = a.input; operand = o })
+    (operand_in (input_type a.input) a.given) e
+
+pub arguments-some : (args : GivenArguments) → arguments_fit args ≡ true
+    → is_some (arguments_in args) ≡ true
+arguments-some arguments.None e = refl
+arguments-some (arguments.One a) e = one-some (typed_argument a) (argument-some a e)
+arguments-some (arguments.Two a b) e = let both = and_parts (argument_fits a) (argument_fits b) e in
+    two-some (typed_argument a) (typed_argument b) (argument-some a both.0) (argument-some b both.1)
+
+call-some : (n : ℕ) (o : Option TypedArguments) → is_some o ≡ true → is_some (call_with n o) ≡ true
+call-some n None e = absurd (cc)
+call-some n (Some x) e = refl
+
+-- where nothing at all is left of an instruction that is right, it goes on with the same result,
+-- and jumps nowhere
+pub nothing-left : (c : Checked) (passed : ℕ) (r : Resolved) (t : Option ElementaryType)
+    → IsFound c r → IsRight passed r t → transfer_in r ≡ None → operation_in r t ≡ None
+    → (rules.target_of r ≡ None) × (coming_behind_action r t ≡ Some t)
+nothing-left c passed (Load negated g) t is ok none e =
+    absurd (none-some _ e (load-some c negated g is
+    (allows-any (Load negated g) t refl ok.allowed)))
+nothing-left c passed (Store how g) t is ok none e = (refl, refl)
+nothing-left c passed (Combine operator negated g nonzero) None is ok none e =
+    absurd (let k = ok.set in cc)
+nothing-left c passed (Combine operator negated g nonzero) (Some kind) is ok none e =
+    absurd (none-some _ e (combined-some operator kind negated (operand_in kind g)
+    (and_parts (works operator negated kind) (fits kind g) (not-false _ ok.allowed)).1))
+nothing-left c passed Not t is ok none e = absurd (cc)
+nothing-left c passed (Convert conversion) t is ok none e = absurd (cc)
+nothing-left c passed (Jump condition None) t is ok none e = absurd (let k = ok.labelled in cc)
+nothing-left c passed (Jump condition (Some n)) t is ok none e = absurd (cc)
+nothing-left c passed (Return condition) t is ok none e = absurd (cc)
+nothing-left c passed (Call called.Missing args) t is ok none e =
+    absurd (let k = allows-any (Call called.Missing args) t refl ok.allowed in cc)
+nothing-left c passed (Call called.Misused args) t is ok none e =
+    absurd (let k = allows-any (Call called.Misused args) t refl ok.allowed in cc)
+nothing-left c passed (Call (called.Timer n) args) t is ok none e =
+    absurd (none-some _ none
+    (call-some n (arguments_in args)
+    (arguments-some args (allows-any (Call (called.Timer n) args) t refl ok.allowed))))
