@@ -11,9 +11,13 @@ CONSTANT = re.compile(r'[A-Z_]+')
 
 
 def place_of(crate, folder, ending, cell):
-    """The file that a cell names, below crates/, with what the cell says stands there."""
+    """The file that a cell names, below crates/, with what the cell says stands there.
+
+    A file of another crate than the row's has its name before it, as in `il_image/Machine`.
+    """
     file, _, said = cell.strip(' `').partition(': ')
-    return f'{crate.strip()}/{folder}/{file}.{ending}: {said}' if file else ''
+    other, _, file = file.rpartition('/')
+    return f'{other or crate.strip()}/{folder}/{file}.{ending}: {said}' if file else ''
 
 
 def rows():

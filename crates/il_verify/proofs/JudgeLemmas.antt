@@ -23,7 +23,7 @@ use Rattle.il_image.specs.Arithmetic.{type_of_width}
 use Rattle.il_image.specs.Effects.{below, effect, looks_at, second_kind, two, with_timer, with_truth}
 use Rattle.il_image.specs.Images.{Image}
 use Rattle.il_image.specs.Kinds.{is_within}
-use Rattle.il_image.specs.Machine.{divides}
+use Rattle.il_image.specs.Machine.{divides, most_cells}
 use Rattle.il_image.specs.Tables.{slot_types}
 use Rattle.il_image.proofs.KindLemmas.{same-self, within-along}
 use Rattle.il_verify.specs.declared.fault.VerifyFault.{VerifyFault}
@@ -241,11 +241,11 @@ allowed-behind slots timers i kinds gives r e last =
 pub allowed-faultless : (slots : List SlotType) (timers : ℕ) (i : Instr)
     (kinds gives : List CellKind)
     → effect (types_of slots) timers i kinds ≡ Some gives → writes_read_only slots i ≡ false
-    → length gives ≤ 32
+    → length gives ≤ most_cells
     → fault_of slots timers i kinds ≡ None
 allowed-faultless slots timers i kinds gives e writes room =
     allowed-behind slots timers i kinds gives None e
-    (rw (writes, le-ltb 32 (length gives) room) refl)
+    (rw (writes, le-ltb most_cells (length gives) room) refl)
 
 pub write-fault : (slots : List SlotType) (timers : ℕ) (i : Instr) (kinds gives : List CellKind)
     → effect (types_of slots) timers i kinds ≡ Some gives → writes_read_only slots i ≡ true
@@ -255,11 +255,11 @@ write-fault slots timers i kinds gives e writes =
 
 pub room-fault : (slots : List SlotType) (timers : ℕ) (i : Instr) (kinds gives : List CellKind)
     → effect (types_of slots) timers i kinds ≡ Some gives → writes_read_only slots i ≡ false
-    → 32 < length gives
+    → most_cells < length gives
     → fault_of slots timers i kinds ≡ Some StackFull
 room-fault slots timers i kinds gives e writes many =
     allowed-behind slots timers i kinds gives (Some StackFull) e
-    (rw (writes, lt-ltb 32 (length gives) many) refl)
+    (rw (writes, lt-ltb most_cells (length gives) many) refl)
 
 -- ---- the first faults
 
@@ -285,11 +285,11 @@ pub record IsFine (slots : List SlotType) (timers : ℕ) (i : Instr) (kinds : Li
     : Type 0 where
   pub writes : writes_read_only slots i ≡ false
   pub room : (gives : List CellKind) → effect (types_of slots) timers i kinds ≡ Some gives
-      → length gives ≤ 32
+      → length gives ≤ most_cells
 
-few : (n : ℕ) → nat_lt 32 n ≡ false → n ≤ 32
-few n e = elim (cases_lt 32 n) [
-  | inl h ↦ absurd (let yes : nat_lt 32 n ≡ true = lt-ltb 32 n h in cc)
+few : (n : ℕ) → nat_lt most_cells n ≡ false → n ≤ most_cells
+few n e = elim (cases_lt most_cells n) [
+  | inl h ↦ absurd (let yes : nat_lt most_cells n ≡ true = lt-ltb most_cells n h in cc)
   | inr h ↦ h
 ]
 

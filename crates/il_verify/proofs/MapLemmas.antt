@@ -7,7 +7,7 @@ use Rattle.std.proofs.lemmas.Option.{slice_get-get_or}
 use Rattle.il_image.specs.declared.instr.Instr.{Instr}
 use Rattle.il_image.specs.declared.kind.CellKind.{CellKind}
 use Rattle.il_verify.specs.declared.frame.Frame.{Frame}
-use Rattle.il_verify.proofs.OrderLemmas.{set-elsewhere, set-here}
+use Rattle.il_image.proofs.SetLemmas.{set-elsewhere, set-here}
 use Rattle.il_verify.specs.Frames.{Clashing, Falls, Grows, PlainFrame, Pends, beside, frame_at, goes_on, plain_frame, plain_frames}
 
 here-is : (p q : ℕ) → q ≡ p → (q == p) ≡ true

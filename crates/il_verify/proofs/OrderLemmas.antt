@@ -14,6 +14,7 @@ use Rattle.il_image.specs.Spelling.{IsInstr, spelling}
 use Rattle.il_image.specs.Tables.{IsPlace, behind_place, place_of}
 use Rattle.il_image.proofs.InstrLemmas.{back-instr}
 use Rattle.il_image.proofs.PlaceLemmas.{Forward, forward, goes-forward}
+use Rattle.il_image.proofs.SetLemmas.{set-here, set-elsewhere}
 use Rattle.il_verify.specs.Frames.{MarksPlaces}
 use Rattle.il_verify.proofs.EffectLemmas.{not-both}
 
@@ -169,18 +170,6 @@ is_there code c n place e within =
     there-case code place (instr_at code place) refl (always-there code c n place e within)
 
 -- ---- the marks of places
-
-pub set-here : {A : Type 0} (xs : List A) (i : ℕ) (v : A) → i < length xs
-    → slice_get (set xs i v) i ≡ Some v
-set-here [] i v h = absurd (omega arith)
-set-here (x ∷ xs) zero v h = refl
-set-here (x ∷ xs) (suc i) v h = set-here xs i v (omega arith)
-
-pub set-elsewhere : {A : Type 0} (xs : List A) (i j : ℕ) (v : A) → (j ≡ i → ⊥)
-    → slice_get (set xs i v) j ≡ slice_get xs j
-set-elsewhere (x ∷ xs) zero zero v ne = absurd (ne refl)
-set-elsewhere (x ∷ xs) (suc i) (suc j) v ne = set-elsewhere xs i j v (λ e. ne (ap suc e))
-set-elsewhere i x y v ne = refl
 
 never-true : (n q : ℕ) → slice_get (replicate n false) q ≡ Some true → ⊥
 never-true zero q e = cc

@@ -24,6 +24,7 @@ use Rattle.il_verify.proofs.StepLemmas.{Framed, Standing, at_place, leads-join, 
 use Rattle.il_verify.proofs.TableLemmas.{agrees, first-place, is-depth, keeps-read-only, leads-on, join-room}
 use Rattle.il_verify.proofs.WithinLemmas.{within-length}
 use Rattle.il_image.specs.Effects.{effect}
+use Rattle.il_image.specs.Machine.{most_cells}
 use Rattle.bay_base.specs.declared.types.ElementaryType.{ElementaryType}
 
 -- The lists of the table so far have at most this length, and one has it, or it is 0.
@@ -119,7 +120,7 @@ passing-first image frames come some is empty one none = record {
 
 pub here-short : (image : Image) (place budget depth : ℕ) (frames : PlainFrames) (come : PlainFrame)
     → Passing image place budget depth frames → frames place ≡ Some come
-    → (come.longest ≤ place + 1) × (length come.kinds ≤ 32)
+    → (come.longest ≤ place + 1) × (length come.kinds ≤ most_cells)
 here-short image place budget depth frames come p was = (
   path-short image.code come.longest place (p.lengths.paths place come (omega arith) was),
   join-room image p.standing.table place p.standing.front place place come.kinds

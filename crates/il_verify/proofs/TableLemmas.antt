@@ -16,6 +16,7 @@ use Rattle.il_image.specs.Kinds.{AreWithin}
 use Rattle.il_image.specs.Reading.{instr_at}
 use Rattle.il_image.specs.Tables.{Agrees, Enters, HasTable, IsAllowed, IsPlace, IsSuccessor, LeadsTo, Table, slot_types}
 use Rattle.il_image.proofs.PlaceLemmas.{goes-forward}
+use Rattle.il_image.specs.Machine.{most_cells}
 use Rattle.il_verify.specs.declared.fault.VerifyFault.{VerifyFault}
 use Rattle.il_verify.specs.declared.fault.VerifyFault.TheVariants.{StackEmpty, StackFull, WrongKind, ZeroDivisor, NoSlot, NoTimer, BadTarget, Unreachable, DepthClash, NoHalt, BadBinding, OutOfMemory}
 use Rattle.il_verify.specs.Binding.{fits}
@@ -92,7 +93,7 @@ passed-fault image table place i next kinds p here known =
 few-behind : (image : Image) (table : Table) (place : ℕ) (i : Instr) (next : ℕ)
     (kinds gives : List CellKind) → Passes image table place
     → instr_at image.code place ≡ Some (i, next) → table place ≡ Some kinds
-    → after image i kinds ≡ Some gives → length gives ≤ 32
+    → after image i kinds ≡ Some gives → length gives ≤ most_cells
 few-behind image table place i next kinds gives p here known effect_is =
     (faultless-fine (slots_of image) (length image.timers) i kinds
     (passed-fault image table place i next kinds p here known)).room gives
@@ -101,7 +102,8 @@ few-behind image table place i next kinds gives p here known effect_is =
 
 -- What comes to a place together has at most 32 kinds.
 pub join-room : (image : Image) (table : Table) (done : ℕ) → IsFront image table done
-    → (bound to : ℕ) (kinds : List CellKind) → IsJoin image table bound to kinds → length kinds ≤ 32
+    → (bound to : ℕ) (kinds : List CellKind) → IsJoin image table bound to kinds
+    → length kinds ≤ most_cells
 join-room image table done front bound to kinds m =
     let size : length m.some.0 ≡ length kinds =
     within-length m.some.0 kinds (m.above m.some.0 m.some.1) in
@@ -110,7 +112,7 @@ join-room image table done front bound to kinds m =
       | inr c ↦
           (let f = c.2 in
           let o = front.only c.0 f.before f.known in
-          let least : length m.some.0 ≤ 32 =
+          let least : length m.some.0 ≤ most_cells =
           few-behind image table c.0 f.instr f.next f.before m.some.0 (front.passes c.0 o.0 o.1)
           f.here f.known f.gives in
           omega arith)
@@ -154,7 +156,8 @@ module _ (image : Image) (table : Table) (front : IsFront image table (length im
         enters = enters-next place p;
       }
 
-  room-there : (place : ℕ) (kinds : List CellKind) → table place ≡ Some kinds → length kinds ≤ 32
+  room-there : (place : ℕ) (kinds : List CellKind) → table place ≡ Some kinds
+      → length kinds ≤ most_cells
   room-there place kinds is =
       join-room image table (length image.code) front place place kinds
       (front.joined place kinds is)
@@ -256,7 +259,7 @@ module _ (image : Image) (table : Table) (done : ℕ) (front : IsFront image tab
     gives : List CellKind
     effect_is : after image a.instr a.kinds ≡ Some gives
     enters : (to : ℕ) → LeadsTo a.instr a.next to → Enters other to gives
-    room : length gives ≤ 32
+    room : length gives ≤ most_cells
 
   halts-small : (i : Instr) (kinds gives : List CellKind) → i ≡ Halt
       → after image i kinds ≡ Some gives
@@ -288,12 +291,12 @@ module _ (image : Image) (table : Table) (done : ℕ) (front : IsFront image tab
               halts-small a.instr a.kinds l.lower halts effect-there in
               let size : length a.kinds ≡ length e.0 = within-length a.kinds e.0 e.2 in
               let more : length a.kinds ≡ length l.lower = ap length equal in
-              let most : length e.0 ≤ 32 = agrees_so.room place e.0 e.1 in
+              let most : length e.0 ≤ most_cells = agrees_so.room place e.0 e.1 in
               omega arith)
           | inr way ↦
               (let g = enters_there way.0 way.1 in
               let size : length l.lower ≡ length g.0 = within-length l.lower g.0 g.2 in
-              let most : length g.0 ≤ 32 = agrees_so.room way.0 g.0 g.1 in
+              let most : length g.0 ≤ most_cells = agrees_so.room way.0 g.0 g.1 in
               omega arith)
         ];
       }

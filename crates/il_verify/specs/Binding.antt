@@ -8,6 +8,7 @@ use Rattle.bay_base.specs.Types.{same_type}
 use Rattle.bay_config.specs.declared.bay.Point.{Point}
 use Rattle.il_image.specs.declared.image.ImagePoint.{ImagePoint}
 use Rattle.il_image.specs.Images.{Image}
+use Rattle.il_image.specs.Machine.{most_slots, most_timers}
 
 -- An image's point and a point of the bay have one name, as Instruction List compares names, one
 -- type and one writability.
@@ -22,8 +23,9 @@ are_points bay (p ∷ points) =
     (list_any (λ b. is_point p b) bay && not (list_any (λ q. bytes_eq q.name p.name) points))
     && are_points bay points
 
--- There are at most 512 slots and 64 timers, and the points are the bay's.
+-- There are no more slots and timers than a machine may have, and the points are the bay's.
 unfoldable pub fits : List Point → Image → Bool
 fits bay image =
-    (nat_le (length image.points + length image.variables) 512 && nat_le (length image.timers) 64)
+    (nat_le (length image.points + length image.variables) most_slots
+    && nat_le (length image.timers) most_timers)
     && are_points bay image.points

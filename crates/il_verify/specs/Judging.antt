@@ -13,6 +13,7 @@ use Rattle.il_image.specs.declared.opcode.When.TheVariants.{Always, IfTrue, IfFa
 use Rattle.il_image.specs.declared.opcode.TimerUse.TheVariants.{SetInput, SetPreset, Run, LoadOutput, LoadElapsed}
 use Rattle.il_image.specs.Arithmetic.{type_of_width}
 use Rattle.il_image.specs.Effects.{effect, second_kind, two}
+use Rattle.il_image.specs.Machine.{most_cells}
 use Rattle.il_verify.specs.declared.fault.VerifyFault.{VerifyFault}
 use Rattle.il_verify.specs.declared.fault.VerifyFault.TheVariants.{StackEmpty, StackFull, WrongKind, ZeroDivisor, NoSlot, NoTimer, BadBinding}
 use Rattle.il_verify.specs.declared.slots.SlotType.{SlotType}
@@ -89,10 +90,10 @@ writes_read_only slots (Slot SetIf n) = is_read_only slots n
 writes_read_only slots (Slot ResetIf n) = is_read_only slots n
 writes_read_only slots other = false
 
--- more than 32 values lie on the stack behind the instruction
+-- more values lie on the stack behind the instruction than it may have
 abbrev pub is_full : Option (List CellKind) → Bool
 is_full None = false
-is_full (Some kinds) = nat_lt 32 (length kinds)
+is_full (Some kinds) = nat_lt most_cells (length kinds)
 
 -- the first fault of two tests
 infixr 5 ◌or_else◌

@@ -5,13 +5,14 @@ ghost use Rattle.il_image.specs.Machine as spec_machine;
 ghost use Rattle.il_image.specs.Effects.{below, compares, effect, looks_at, second_kind, two, type_of_kind, widens, with_truth};
 ghost use Rattle.il_image.specs.Effects as spec;
 ghost use Rattle.il_image.specs.declared.kind.CellKind.{CellKind};
+ghost use Rattle.il_image.specs.Machine.{most_cells};
 ghost use Rattle.il_verify.specs.Judging.{computes, truth, unfit};
 ghost use Rattle.il_verify.specs.Judging.{fault_of, is_read_only, misfit, missing};
 ghost use Rattle.il_verify.specs.Judging as spec_judging;
 ghost use Rattle.il_verify.specs.Slots.{types_of};
 
 use crate::fault::VerifyFault;
-use crate::frame::Stack;
+use crate::frame::{MAX_KINDS, Stack};
 use crate::slots::SlotType;
 use bay_base::types::ElementaryType;
 use il_image::arithmetic::{Comparison, Operation, Width};
@@ -22,7 +23,7 @@ use il_image::value::Value;
 
 // Puts a kind on the stack.
 fn put(kinds: &mut Stack, kind: CellKind)
-    requires { length kinds.old.items ≤ 32 }
+    requires { length kinds.old.items ≤ most_cells }
     ensures { reverse kinds.new.items ≡ kind ∷ reverse kinds.old.items }
 {
     kinds.push(kind);
@@ -91,7 +92,7 @@ fn divides(operation: Operation) -> bool
 
 // Two numbers of a width become one. A divisor has to be not zero.
 fn compute(kinds: &mut Stack, operation: Operation, width: Width) -> Result<(), VerifyFault>
-    requires room { length kinds.old.items ≤ 32 }
+    requires room { length kinds.old.items ≤ most_cells }
     ensures ok { OnOk result
         (computes operation width (reverse kinds.old.items) ≡ Some (reverse kinds.new.items)) }
     ensures err { IfErr result (λ f. unfit (computes Operation.Add width (reverse kinds.old.items))
@@ -112,7 +113,7 @@ fn compute(kinds: &mut Stack, operation: Operation, width: Width) -> Result<(), 
 
 // Two BOOLs become one.
 fn combine(kinds: &mut Stack) -> Result<(), VerifyFault>
-    requires room { length kinds.old.items ≤ 32 }
+    requires room { length kinds.old.items ≤ most_cells }
     ensures ok { OnOk result
         (two truth truth truth (reverse kinds.old.items) ≡ Some (reverse kinds.new.items)) }
     ensures err { IfErr result
@@ -153,11 +154,11 @@ fn are_compared(comparison: Comparison, first: ElementaryType, second: Elementar
 
 // Two values that show one type become a BOOL.
 fn compare(kinds: &mut Stack, comparison: Comparison) -> Result<(), VerifyFault>
-    requires room { length kinds.old.items ≤ 32 }
+    requires room { length kinds.old.items ≤ most_cells }
     ensures ok { OnOk result
         (compares comparison (reverse kinds.old.items) ≡ Some (reverse kinds.new.items)) }
-    ensures err { IfErr result
-        (λ f. (f ≡ VerifyFault.WrongKind) × (compares comparison (reverse kinds.old.items) ≡ None)) }
+    ensures err { IfErr result (λ f. (f ≡ VerifyFault.WrongKind)
+        × (compares comparison (reverse kinds.old.items) ≡ None)) }
 {
     let Some((top, second)) = take_two(kinds) else {
         return Err(VerifyFault::WrongKind);
@@ -173,7 +174,7 @@ fn compare(kinds: &mut Stack, comparison: Comparison) -> Result<(), VerifyFault>
 
 // The top becomes one of a wider type, and stays not zero.
 fn widen(kinds: &mut Stack, from: Width, to: Width) -> Result<(), VerifyFault>
-    requires room { length kinds.old.items ≤ 32 }
+    requires room { length kinds.old.items ≤ most_cells }
     ensures ok { OnOk result
         (widens from to (reverse kinds.old.items) ≡ Some (reverse kinds.new.items)) }
     ensures err { IfErr result
@@ -192,8 +193,8 @@ fn widen(kinds: &mut Stack, from: Width, to: Width) -> Result<(), VerifyFault>
     }
 }
 
-// A BOOL on top is set or reset into a slot, which has to be a BOOL.
-fn look_at_truth(slots: &[SlotType], number: u16, kinds: &[CellKind]) -> Result<(), VerifyFault>
+// Checks that a slot that is set or reset is a BOOL's, and the top a BOOL.
+fn check_bools(slots: &[SlotType], number: u16, kinds: &[CellKind]) -> Result<(), VerifyFault>
     ensures ok { OnOk result
         (with_truth (types_of slots.now) number (reverse kinds.now) ≡ Some (reverse kinds.now)) }
     ensures err { IfErr result
@@ -215,7 +216,7 @@ fn use_slot(
     number: u16,
     kinds: &mut Stack,
 ) -> Result<(), VerifyFault>
-    requires room { length kinds.old.items ≤ 32 }
+    requires room { length kinds.old.items ≤ most_cells }
     ensures ok { OnOk result
         (effect (types_of slots.now) 0 (Instr.Slot slot_use number) (reverse kinds.old.items)
         ≡ Some (reverse kinds.new.items)) }
@@ -235,13 +236,13 @@ fn use_slot(
             Some(slot) => look(kinds, CellKind::Plain(slot.elementary)),
             None => Err(VerifyFault::WrongKind),
         },
-        SlotUse::SetIf | SlotUse::ResetIf => look_at_truth(slots, number, kinds),
+        SlotUse::SetIf | SlotUse::ResetIf => check_bools(slots, number, kinds),
     }
 }
 
 // What an instruction does with a timer that is there.
 fn use_timer(timer_use: TimerUse, kinds: &mut Stack) -> Result<(), VerifyFault>
-    requires room { length kinds.old.items ≤ 32 }
+    requires room { length kinds.old.items ≤ most_cells }
     ensures ok { OnOk result
         (effect [] 1 (Instr.Timer timer_use 0) (reverse kinds.old.items)
         ≡ Some (reverse kinds.new.items)) }
@@ -271,7 +272,7 @@ fn apply(
     kinds: &mut Stack,
 ) -> Result<(), VerifyFault>
     requires named { missing (length slots.now) timers instr ≡ None }
-    requires room { length kinds.old.items ≤ 32 }
+    requires room { length kinds.old.items ≤ most_cells }
     ensures ok { OnOk result
         (effect (types_of slots.now) timers instr (reverse kinds.old.items)
         ≡ Some (reverse kinds.new.items)) }
@@ -301,8 +302,8 @@ fn apply(
     }
 }
 
-// Whether the slot or the timer that an instruction names is there.
-fn find_named(slots: usize, timers: usize, instr: Instr) -> Result<(), VerifyFault>
+// Checks that the slot or the timer that an instruction names is there.
+fn check_slot_or_timer(slots: usize, timers: usize, instr: Instr) -> Result<(), VerifyFault>
     ensures { MatchResult result (λ _. missing slots timers instr ≡ None)
         (λ f. missing slots timers instr ≡ Some f) }
 {
@@ -352,17 +353,17 @@ pub(crate) fn transfer(
     instr: Instr,
     kinds: &mut Stack,
 ) -> Result<(), VerifyFault>
-    requires room { length kinds.old.items ≤ 32 }
+    requires room { length kinds.old.items ≤ most_cells }
     ensures ok { OnOk result
         (effect (types_of slots.now) timers instr (reverse kinds.old.items)
         ≡ Some (reverse kinds.new.items)) }
     ensures faultless { OnOk result
         (fault_of slots.now timers instr (reverse kinds.old.items) ≡ None) }
-    ensures few { OnOk result (length kinds.new.items ≤ 32) }
+    ensures few { OnOk result (length kinds.new.items ≤ most_cells) }
     ensures err { IfErr result
         (λ f. fault_of slots.now timers instr (reverse kinds.old.items) ≡ Some f) }
 {
-    find_named(slots.len(), timers, instr)?;
+    check_slot_or_timer(slots.len(), timers, instr)?;
     if kinds.len() < operands(instr) {
         return Err(VerifyFault::StackEmpty);
     }
@@ -370,7 +371,7 @@ pub(crate) fn transfer(
     if writes_read_only(slots, instr) {
         return Err(VerifyFault::BadBinding);
     }
-    if kinds.len() > 32 {
+    if kinds.len() > MAX_KINDS {
         return Err(VerifyFault::StackFull);
     }
     Ok(())

@@ -77,7 +77,7 @@ impl VerifyFault {
 impl From<AllocError> for VerifyFault {
     ghost from_gives = { λ _ e. e ≡ OutOfMemory };
 
-    fn from(_e: AllocError) -> VerifyFault {
+    fn from(_error: AllocError) -> VerifyFault {
         VerifyFault::OutOfMemory
     }
 }
@@ -85,7 +85,7 @@ impl From<AllocError> for VerifyFault {
 impl<T: Drop> From<AllocFailed<T>> for VerifyFault {
     ghost from_gives = { λ _ e. e ≡ OutOfMemory };
 
-    fn from(_e: AllocFailed<T>) -> VerifyFault {
+    fn from(_error: AllocFailed<T>) -> VerifyFault {
         VerifyFault::OutOfMemory
     }
 }

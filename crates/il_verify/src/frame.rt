@@ -4,6 +4,7 @@ ghost use Rattle.il_verify.specs.declared.frame.Frame.{Frame};
 ghost use Rattle.il_verify.specs.Frames.{Clashing, Falls, Grows, JumpClash, Jumps, PlainFrame, Pends, beside, frame_at, join_all, plain_frame, plain_frames};
 ghost use Rattle.il_verify.specs.Frames as spec;
 ghost use Rattle.il_verify.specs.Refusals.{JumpsTo};
+ghost use Rattle.il_image.specs.Machine.{most_cells};
 
 use crate::fault::VerifyFault;
 use arrayvec::ArrayVec;
@@ -12,8 +13,14 @@ use il_image::kind::{CellKind, join};
 use il_image::opcode::When;
 use std::alloc::{AllocError, Global};
 
+/// The most kinds on a stack.
+pub(crate) const MAX_KINDS: usize = 32;
+
+// What an instruction leaves before it is refused: one kind more.
+const ROOM: usize = MAX_KINDS + 1;
+
 /// The kinds on a stack, the top last. It holds one more than the stack may.
-pub(crate) type Stack = ArrayVec<CellKind, 33>;
+pub(crate) type Stack = ArrayVec<CellKind, ROOM>;
 
 /// What is known of the stack before an instruction, and the length of the longest path to it.
 #[derive(Drop)]
@@ -26,7 +33,7 @@ pub(crate) struct Frame {
 
 // A copy of the kinds on a stack.
 fn copy_of(kinds: &[CellKind]) -> Stack
-    requires { length kinds.now ≤ 32 }
+    requires { length kinds.now ≤ most_cells }
     ensures { result.items ≡ kinds.now }
 {
     let mut copy = ArrayVec::new();
@@ -79,7 +86,7 @@ pub(crate) fn grow(pending: &mut Vec<Option<Frame>>, place: usize) -> Result<(),
 
 // A path comes to a place where a frame may be pending.
 fn arrive(slot: &mut Option<Frame>, kinds: &[CellKind], longest: u32) -> Result<(), VerifyFault>
-    requires { length kinds.now ≤ 32 }
+    requires { length kinds.now ≤ most_cells }
     ensures ok { OnOk result
         ((frame : Frame) × (slot.new ≡ Some frame)
         × Grows (record { kinds = reverse kinds.now; longest = longest })
@@ -105,7 +112,7 @@ fn pend(
     kinds: &[CellKind],
     longest: u32,
 ) -> Result<(), VerifyFault>
-    requires few { length kinds.now ≤ 32 }
+    requires few { length kinds.now ≤ most_cells }
     requires room { place < length pending.old.items }
     ensures size { length pending.new.items ≡ length pending.old.items }
     ensures ok { OnOk result
@@ -127,7 +134,7 @@ pub(crate) fn jump(
     pending: &mut Vec<Option<Frame>>,
 ) -> Result<(), VerifyFault>
     requires fits { next < 2 ^ 63 }
-    requires few { length kinds.now ≤ 32 }
+    requires few { length kinds.now ≤ most_cells }
     requires room { (to : ℕ) → JumpsTo instr next to → to < length pending.old.items }
     ensures size { length pending.new.items ≡ length pending.old.items }
     ensures ok { OnOk result

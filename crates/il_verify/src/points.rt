@@ -8,6 +8,12 @@ use bay_base::names::same_name;
 use bay_config::bay::Point;
 use il_image::image::{Image, ImagePoint};
 
+// The most slots of an image: its points and variables.
+const MAX_SLOTS: usize = 512;
+
+// The most timers of an image.
+const MAX_TIMERS: usize = 64;
+
 // Whether an image's point is this point of the bay.
 fn is_point(point: &ImagePoint, other: &Point) -> bool
     ensures { result ≡ spec.is_point point.now other.now }
@@ -50,7 +56,7 @@ fn are_points(bay: &[Point], points: &[ImagePoint]) -> bool
 pub(crate) fn fits(bay: &[Point], image: &Image) -> bool
     ensures { result ≡ spec.fits bay.now image.now }
 {
-    image.points().len() + image.variables().len() <= 512
-        && image.timers().len() <= 64
+    image.points().len() + image.variables().len() <= MAX_SLOTS
+        && image.timers().len() <= MAX_TIMERS
         && are_points(bay, image.points())
 }

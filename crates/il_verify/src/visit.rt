@@ -3,6 +3,7 @@
 ghost use Rattle.std.specs.Prelude.{◌≡◌, ◌<◌, ◌≤◌, ◌-◌, ◌^◌, ℕ, length, IfErr, IfOk, OnOk, option_map};
 ghost use Rattle.std.specs.Bool.{OnFalse, OnTrue};
 ghost use Rattle.il_image.specs.Tables.{IsPlace};
+ghost use Rattle.il_image.specs.Machine.{most_cells};
 ghost use Rattle.il_verify.specs.Frames.{FailsVisit, IsPlan, JumpsWrong, LeadsRight, LeadsWrong, MarksPlaces, Visits, beside, plain_frame, plain_frames};
 ghost use Rattle.il_verify.specs.Refusals.{JumpsTo};
 
@@ -55,7 +56,7 @@ pub(crate) fn visit(
     requires plan { IsPlan image.now plan.now }
     requires fits { next < 2 ^ 63 }
     requires short { frame.longest < 2 ^ 32 - 1 }
-    requires few { length frame.kinds.items ≤ 32 }
+    requires few { length frame.kinds.items ≤ most_cells }
     requires room { length image.now.code ≤ length pending.old.items }
     ensures size { length pending.new.items ≡ length pending.old.items }
     ensures ok { IfOk result

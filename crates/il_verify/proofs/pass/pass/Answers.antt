@@ -2,6 +2,7 @@ use Rattle.std.proofs.Common.{◌≡◌, ℕ, ◌+◌, ◌<◌, ◌≤◌, max, 
 use Rattle.std.specs.Prelude.{option_map}
 use Rattle.std.proofs.lemmas.List.{length-reverse}
 use Rattle.il_image.specs.Reading.{instr_at}
+use Rattle.il_image.specs.Machine.{most_cells}
 use Rattle.il_verify.specs.declared.frame.Frame.{Frame}
 use Rattle.il_verify.specs.Frames.{beside, plain_frame, plain_frames}
 use Rattle.il_verify.specs.Passing.{raised_budget}
@@ -60,7 +61,7 @@ overflow_cast-len c =
     let is : frames place ≡ Some come =
     beside-here place place (option_map plain_frame c.loop-place.frame)
     (plain_frames c.loop-place.pending.items) refl ∙ ap (option_map plain_frame) c.in-Some.is in
-    let short : length come.kinds ≤ 32 =
+    let short : length come.kinds ≤ most_cells =
     (here-short image place c.loop-place.budget c.loop-place.depth frames come
     c.loop-place.invariant.passing is).1 in
     let size : length come.kinds ≡ length c.in-Some.here.kinds.items =
@@ -79,7 +80,7 @@ visit-requires-clause-few c =
     let is : frames place ≡ Some come =
     beside-here place place (option_map plain_frame c.loop-place.frame)
     (plain_frames c.loop-place.pending.items) refl ∙ ap (option_map plain_frame) c.in-Some.is in
-    let short : length come.kinds ≤ 32 =
+    let short : length come.kinds ≤ most_cells =
     (here-short image place c.loop-place.budget c.loop-place.depth frames come
     c.loop-place.invariant.passing is).1 in
     let size : length come.kinds ≡ length c.in-Some.here.kinds.items =
