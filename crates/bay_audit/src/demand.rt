@@ -6,7 +6,7 @@ use bay_rules::rule::{Item, RuleKind};
 /// What a scan may come to.
 #[derive(Clone, Copy, Debug, PartialEq, Eq)]
 pub enum Goal {
-    /// The switch at this index of the bay is released, for closing or else for opening.
+    /// The switch at this index of the bay is released for this operation.
     Release { switch: usize, operation: Operation },
     /// No delay of the timer at this place of the image runs.
     Idle { timer: usize },

@@ -63,7 +63,7 @@ is_deep depth (token.Begin ∷ ts) = nat_le 64 depth || is_deep (depth + 1) ts
 is_deep depth (token.Link End ∷ ts) = is_deep (depth - 1) ts
 is_deep depth (other ∷ ts) = is_deep depth ts
 
--- the directions, each with whether it is to be closed
+-- the operations of the directions
 abbrev pub operations_of : Ways → List Operation
 operations_of Opening = operations.Open ∷ []
 operations_of Closing = operations.Close ∷ []
