@@ -2,7 +2,7 @@
 use Rattle.std.proofs.Common.{◌≡◌, ℕ, List, [], ◌∷◌, ◌++◌, refl, sym, ◌∙◌}
 use Rattle.std.proofs.lemmas.List.{append-nil, append_assoc}
 use Rattle.bay_mms.specs.declared.control.Operate.{Operate}
-use Rattle.bay_mms.specs.declared.report.ControlError.{ControlError}
+use Rattle.bay_mms.specs.declared.report.LastApplError.{LastApplError}
 use Rattle.bay_mms.specs.Data.{Datum, no_data, datum, datum_text}
 use Rattle.bay_mms.specs.Controls.{operate_datum}
 use Rattle.bay_mms.specs.ControlViews.{operating}
@@ -21,7 +21,7 @@ report_of names values =
 pub operate-is : (o : Operate) → datum_text (operate_datum (operating o)) ≡ operate_text o
 operate-is o = simp (append-nil, append_assoc)
 
-pub failure-is : (e : ControlError) → datum_text (failure_datum e) ≡ failure_data e
+pub failure-is : (e : LastApplError) → datum_text (failure_datum e) ≡ failure_data e
 failure-is e = simp (append-nil, append_assoc)
 
 one-report : (name text : List ℕ) (d : Datum) → datum_text d ≡ text
@@ -39,7 +39,7 @@ two-reports name other first second d e is then =
     let b : datum_text e ++ [] ≡ second = append-nil (datum_text e) ∙ then in
     rw (a, b, is) refl
 
-pub refused-is : (e : ControlError)
+pub refused-is : (e : LastApplError)
     → report_of (variable_text failure_name) (failure_data e) ≡ failure_text e
 refused-is e = sym (one-report failure_name (failure_data e) (failure_datum e) (failure-is e))
 
@@ -50,7 +50,7 @@ ended-is domain item o =
     sym (one-report (item_name domain item) (operate_text o) (operate_datum (operating o))
     (operate-is o))
 
-pub failed_is : (e : ControlError) (domain item : List ℕ) (o : Operate)
+pub failed_is : (e : LastApplError) (domain item : List ℕ) (o : Operate)
     → report_of (variable_text failure_name ++ variable_text (item_name domain item))
     (failure_data e ++ operate_text o) ≡ failed_text e domain item o
 failed_is e domain item o =

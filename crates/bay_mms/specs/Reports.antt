@@ -4,7 +4,7 @@ use Rattle.std.specs.Prelude.{ℕ, pos, List, [], ◌∷◌, ◌++◌, codes}
 use Rattle.bay_ber.specs.Writing.{element, truth_octets, integer_octets, bit_string_octets}
 use Rattle.bay_mms.specs.declared.control.Origin.{Origin}
 use Rattle.bay_mms.specs.declared.control.Operate.{Operate}
-use Rattle.bay_mms.specs.declared.report.ControlError.{ControlError}
+use Rattle.bay_mms.specs.declared.report.LastApplError.{LastApplError}
 use Rattle.bay_mms.specs.Data.{Datum, Data, structure, integer, unsigned, text, no_data, datum, data_text}
 use Rattle.bay_mms.specs.Controls.{origin_datum, check_octet, operate_datum}
 use Rattle.bay_mms.specs.ControlViews.{originating, operating}
@@ -35,7 +35,7 @@ item_name domain item =
     element (constructed 1) (element visible_tag domain ++ element visible_tag item)
 
 -- CntrlObj, Error, which is 0, Origin, ctlNum and AddCause
-abbrev pub failure_datum : ControlError → Datum
+abbrev pub failure_datum : LastApplError → Datum
 failure_datum e =
     structure (datum (text e.object.now)
     (datum (integer (pos 0))
@@ -43,7 +43,7 @@ failure_datum e =
     (datum (unsigned (pos e.ctl_num)) (datum (integer (pos e.add_cause)) no_data)))))
 
 -- a control was refused
-abbrev pub failure_text : ControlError → List ℕ
+abbrev pub failure_text : LastApplError → List ℕ
 failure_text e = report_text (failure_name ∷ []) (datum (failure_datum e) no_data)
 
 -- a control has done what it was asked for, and is told as it was written
@@ -52,7 +52,7 @@ termination_text domain item o =
     report_text (item_name domain item ∷ []) (datum (operate_datum (operating o)) no_data)
 
 -- a control has failed: why, and then what it was asked for
-abbrev pub failed_text : ControlError → List ℕ → List ℕ → Operate → List ℕ
+abbrev pub failed_text : LastApplError → List ℕ → List ℕ → Operate → List ℕ
 failed_text e domain item o =
     report_text (failure_name ∷ item_name domain item ∷ [])
     (datum (failure_datum e) (datum (operate_datum (operating o)) no_data))
@@ -81,11 +81,11 @@ operate_back o =
     ++ element (context 4) (bit_string_octets (check_octet o.check ∷ []) 2))
 
 -- CntrlObj and Error
-abbrev pub failure_front : ControlError → List ℕ
+abbrev pub failure_front : LastApplError → List ℕ
 failure_front e = element (context 10) e.object.now ++ element (context 5) (integer_octets (pos 0))
 
 -- Origin, ctlNum and AddCause
-abbrev pub failure_back : ControlError → List ℕ
+abbrev pub failure_back : LastApplError → List ℕ
 failure_back e =
     origin_text e.origin ++ (element (context 6) (integer_octets (pos e.ctl_num))
     ++ element (context 5) (integer_octets (pos e.add_cause)))
@@ -95,5 +95,5 @@ abbrev pub operate_text : Operate → List ℕ
 operate_text o = element (constructed 2) (operate_front o ++ operate_back o)
 
 -- the data of a refused control
-abbrev pub failure_data : ControlError → List ℕ
+abbrev pub failure_data : LastApplError → List ℕ
 failure_data e = element (constructed 2) (failure_front e ++ failure_back e)

@@ -19,7 +19,7 @@ use std::alloc::Global;
 
 /// Why a control was refused or ended (IEC 61850-8-1, LastApplError). Its Error is 0.
 #[derive(Clone, Copy)]
-pub struct ControlError<'a> {
+pub struct LastApplError<'a> {
     /// The control (CntrlObj): its domain, `/` and its item.
     pub object: &'a str,
     pub origin: Origin<'a>,
@@ -86,7 +86,7 @@ fn put_operate(writer: &mut Writer, operate: &Operate<'_>)
 
 // Writes the object that was refused, and the error, which is 0 for none.
 #[tactic(auto, using(bay_ber::proofs::SheetLemmas::sheet_rules))]
-fn put_failure_front(writer: &mut Writer, failure: &ControlError<'_>)
+fn put_failure_front(writer: &mut Writer, failure: &LastApplError<'_>)
     ensures { writer.new ≡ sheet_with writer.old (failure_front failure.now) }
 {
     writer.text(Tag::context(10), failure.object);
@@ -95,7 +95,7 @@ fn put_failure_front(writer: &mut Writer, failure: &ControlError<'_>)
 
 // Writes the originator, the control number and the cause (IEC 61850-7-2, AddCause).
 #[tactic(auto, using(bay_ber::proofs::SheetLemmas::sheet_rules))]
-fn put_failure_back(writer: &mut Writer, failure: &ControlError<'_>)
+fn put_failure_back(writer: &mut Writer, failure: &LastApplError<'_>)
     ensures { writer.new ≡ sheet_with writer.old (failure_back failure.now) }
 {
     put_origin(writer, &failure.origin);
@@ -105,7 +105,7 @@ fn put_failure_back(writer: &mut Writer, failure: &ControlError<'_>)
 
 // Writes the data of a failure.
 #[tactic(auto, using(bay_ber::proofs::SheetLemmas::sheet_rules))]
-fn put_failure(writer: &mut Writer, failure: &ControlError<'_>)
+fn put_failure(writer: &mut Writer, failure: &LastApplError<'_>)
     ensures { writer.new ≡ sheet_with writer.old (failure_data failure.now) }
 {
     let start = writer.open(Tag::context_constructed(2));
@@ -193,7 +193,7 @@ fn put_both_list(writer: &mut Writer, domain: &str, item: &str)
 
 // Writes the report of a control that was refused.
 #[tactic(auto, using(bay_ber::proofs::SheetLemmas::sheet_rules))]
-fn put_refused(writer: &mut Writer, failure: &ControlError<'_>)
+fn put_refused(writer: &mut Writer, failure: &LastApplError<'_>)
     ensures { writer.new ≡ sheet_with writer.old (failure_text failure.now) }
 {
     let report = writer.open(Tag::context_constructed(3));
@@ -226,7 +226,7 @@ fn put_ended(writer: &mut Writer, domain: &str, item: &str, operate: &Operate<'_
 #[tactic(auto, using(bay_ber::proofs::SheetLemmas::sheet_rules))]
 fn put_failed(
     writer: &mut Writer,
-    failure: &ControlError<'_>,
+    failure: &LastApplError<'_>,
     domain: &str,
     item: &str,
     operate: &Operate<'_>,
@@ -248,9 +248,9 @@ fn put_failed(
 /// Writes the report that a control was refused (IEC 61850-8-1, LastApplError; ISO 9506-2,
 /// informationReport). `TooLong` if it has more than `size` octets.
 #[tactic(auto, using(bay_ber::proofs::SheetLemmas::message_put))]
-pub fn write_failure(
+pub fn write_last_appl_error(
     alloc: Global,
-    failure: &ControlError<'_>,
+    failure: &LastApplError<'_>,
     size: u32,
 ) -> Result<Outgoing, EncodeFault>
     ensures { Gives EncodeFault.OutOfMemory (λ octets. octets) result
@@ -286,7 +286,7 @@ pub fn write_termination(
 #[tactic(auto, using(bay_ber::proofs::SheetLemmas::message_put))]
 pub fn write_failed_termination(
     alloc: Global,
-    failure: &ControlError<'_>,
+    failure: &LastApplError<'_>,
     domain: &str,
     item: &str,
     operate: &Operate<'_>,

@@ -28,7 +28,9 @@ use bay_control::request::{Ask, Identity, Origin};
 use bay_mms::control::{Cancel, Operate, Origin as Originator, cancel_of, operate_of};
 use bay_mms::data::Data;
 use bay_mms::fault::DataAccessError;
-use bay_mms::report::{ControlError, write_failed_termination, write_failure, write_termination};
+use bay_mms::report::{
+    LastApplError, write_failed_termination, write_last_appl_error, write_termination,
+};
 use bay_mms::request::ObjectName;
 use bay_mms::results::WriteResponse;
 use bay_nodes::switch::Operation;
@@ -159,13 +161,13 @@ impl ServedBay {
             return Ok(());
         }
         let object = self.object(alloc, part.row)?;
-        let error = ControlError {
+        let error = LastApplError {
             object: object.as_str(),
             origin: control.origin,
             ctl_num: control.ctl_num,
             add_cause: why.code(),
         };
-        if let Some(report) = fitting(write_failure(alloc, &error, client.size))? {
+        if let Some(report) = fitting(write_last_appl_error(alloc, &error, client.size))? {
             reports.push(report)?;
         }
         Ok(())
@@ -301,7 +303,7 @@ impl ServedBay {
         let domain = self.domain.as_str();
         let item = self.tree.name(row);
         let object = self.object(alloc, row)?;
-        let error = ControlError {
+        let error = LastApplError {
             object: object.as_str(),
             origin: operate.control.origin,
             ctl_num: operate.control.ctl_num,

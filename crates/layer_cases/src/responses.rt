@@ -5,7 +5,9 @@ use bay_base::text::Text;
 use bay_ber::outgoing::Outgoing;
 use bay_mms::control::{Cancel, Check, Operate, Origin};
 use bay_mms::fault::DataAccessError;
-use bay_mms::report::{ControlError, write_failed_termination, write_failure, write_termination};
+use bay_mms::report::{
+    LastApplError, write_failed_termination, write_last_appl_error, write_termination,
+};
 use bay_mms::response::{Agreed, ErrorClass, RejectReason, Response, Service, write_response};
 use bay_mms::results::{ReadResponse, WriteResponse};
 use bay_mms::seen::Seen;
@@ -214,7 +216,7 @@ fn report(alloc: Global, kind: &str, words: &[&str], identity: &[u8]) -> Result<
         }
         ("failed", [cause, object, domain, item, operate @ ..]) => {
             let operate = operate_of(alloc, operate, identity)?;
-            let failure = ControlError {
+            let failure = LastApplError {
                 object,
                 origin: operate.control.origin,
                 ctl_num: operate.control.ctl_num,
@@ -223,7 +225,7 @@ fn report(alloc: Global, kind: &str, words: &[&str], identity: &[u8]) -> Result<
             Ok(write_failed_termination(alloc, &failure, domain, item, &operate, SIZE)?)
         }
         ("failure", [object, category, _, number, cause]) => {
-            let failure = ControlError {
+            let failure = LastApplError {
                 object,
                 origin: Origin {
                     or_cat: category.parse::<i8>()?,
@@ -232,7 +234,7 @@ fn report(alloc: Global, kind: &str, words: &[&str], identity: &[u8]) -> Result<
                 ctl_num: number.parse::<u8>()?,
                 add_cause: cause.parse::<u8>()?,
             };
-            Ok(write_failure(alloc, &failure, SIZE)?)
+            Ok(write_last_appl_error(alloc, &failure, SIZE)?)
         }
         _ => bail!("what report is this: {kind}"),
     }
