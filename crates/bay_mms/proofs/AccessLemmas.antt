@@ -8,7 +8,7 @@ use Rattle.bay_ber.specs.Tags.{same_tag}
 use Rattle.bay_ber.specs.Values.{Part, value, SpellAll, value_in, one_or_two_in, each_in, under}
 use Rattle.bay_ber.proofs.ReadLemmas.{IsBytes}
 use Rattle.bay_ber.proofs.ListingLemmas.{values-again}
-use Rattle.bay_ber.proofs.BackLemmas.{bind-some, tag-is, under-is, listed, one-back, two-back, each-back, one-read, two-read}
+use Rattle.bay_ber.proofs.BackLemmas.{bind-some, tag-is, under-is, under-bytes, listed, one-back, two-back, each-back, one-read, two-read}
 use Rattle.bay_mms.specs.Tags.{context, constructed, sequence, visible_tag}
 use Rattle.bay_base.specs.Results.{◌>>=◌ as ◌>>◌}
 use Rattle.bay_mms.specs.Spelled.{or_misspelled}
@@ -128,12 +128,10 @@ variable-with : (octets name : List ℕ) (behind : List Part) (n : Naming) (alte
     ≡ Some (record { name = n; is_alternate = alternate })
 variable-with octets name [] n false s is partial =
     rw (two-read octets (value (constructed 0) name ∷ []) s, name-read name n is) refl
-variable-with octets name [] n true s is partial = absurd partial
-variable-with octets name (part ∷ []) n false s is partial = absurd partial
 variable-with octets name (part ∷ []) n true s is partial =
     rw (two-read octets (value (constructed 0) name ∷ part ∷ []) s, name-read name n is, partial)
     refl
-variable-with octets name (part ∷ next ∷ parts) n alternate s is partial = absurd partial
+variable-with octets name behind n alternate s is partial = absurd partial
 
 variable-read : (octets : List ℕ) (v : VariableSpecification) → IsVariable octets v
     → variable_as (value sequence octets) ≡ Some v
@@ -149,12 +147,8 @@ record Named (p : Part) (n : Naming) : Type 0 where
 under-named : (p : Part) (name : List ℕ) (n : Naming) → IsBytes p.content
     → under (constructed 0) p ≡ Some name → name_in name ≡ Some n → Named p n
 under-named p name n b e f =
-    let same = under-is (constructed 0) p name e in
-    record {
-      name = name;
-      part = same;
-      is = name-back name n (subst IsBytes (ap (λ (q : Part). q.content) same) b) f;
-    }
+    let outer = under-bytes (constructed 0) p name b e in
+    record { name = name; part = outer.0; is = name-back name n outer.1 f }
 
 partial-back : (o : Option Part) (b : Bool) → is_partial o ≡ Some b → IsPartial (listed o) b
 partial-back None b e = subst (IsPartial []) (same_Some false b e) tt
@@ -186,9 +180,9 @@ unfolding variable_as
 variable-back p v b e =
     let x = bind-some (under sequence p >>= one_or_two_in) (λ ps. variable_of ps.0 ps.1) v e in
     let y = bind-some (under sequence p) one_or_two_in x.0 x.1 in
-    let same = under-is sequence p y.0 y.1 in
-    let f = two-back y.0 x.0 (subst IsBytes (ap (λ (q : Part). q.content) same) b) y.2 in
-    (y.0, same, variable-parts y.0 x.0.0 x.0.1 v f.0 f.1.0 x.2)
+    let outer = under-bytes sequence p y.0 b y.1 in
+    let f = two-back y.0 x.0 outer.1 y.2 in
+    (y.0, outer.0, variable-parts y.0 x.0.0 x.0.1 v f.0 f.1.0 x.2)
 
 -- ---- the variables of a read or a write
 

@@ -5,14 +5,10 @@ use Rattle.bay_ber.specs.declared.tag.Tag.{Tag}
 use Rattle.bay_ber.specs.Writing.{element, integer_octets, bit_string_octets}
 use Rattle.bay_ber.specs.Sheets.{within}
 use Rattle.bay_ber.proofs.SheetLemmas.{fits}
-use Rattle.bay_ber.proofs.SizeLemmas.{length-element, length-integer_octets, length-bit_octets}
+use Rattle.bay_ber.proofs.SizeLemmas.{length-element, length-integer, length-bit_octets}
 use Rattle.bay_mms.specs.declared.response.Agreed.{Agreed}
 use Rattle.bay_mms.specs.Tags.{context, constructed}
 use Rattle.bay_mms.specs.Responses.{nesting_text, limits_text, parameters_text, services_text, detail_text, agreed_text}
-
-integer-short : (tag : Tag) (value : ℤ) → length (element tag (integer_octets value)) ≤ 14
-integer-short tag value =
-    omega (arith, length-element tag (integer_octets value), length-integer_octets value)
 
 bits-short : (tag : Tag) (octets : List ℕ) (count most : ℕ) → count ≤ 8 * length octets
     → count ≤ 100 → count ≤ 8 * most
@@ -26,7 +22,7 @@ bits-short tag octets count most held few room =
 
 nesting-short : (nesting : Option ℤ) → length (nesting_text nesting) ≤ 14
 nesting-short None = omega arith
-nesting-short (Some nesting) = integer-short (context 3) nesting
+nesting-short (Some nesting) = length-integer (context 3) nesting
 
 limits-short : (a : Agreed) → length (limits_text a) ≤ 56
 limits-short a =
@@ -38,9 +34,9 @@ limits-short a =
       length-append size (calling ++ (called ++ nesting_text a.nesting)),
       length-append calling (called ++ nesting_text a.nesting),
       length-append called (nesting_text a.nesting),
-      integer-short (context 0) (pos a.size),
-      integer-short (context 1) (pos a.calling),
-      integer-short (context 2) (pos a.called),
+      length-integer (context 0) (pos a.size),
+      length-integer (context 1) (pos a.calling),
+      length-integer (context 2) (pos a.called),
       nesting-short a.nesting,
     )
 
@@ -60,7 +56,7 @@ detail-short n =
       length-append (element (context 0) (integer_octets (pos 1)))
           (parameters_text n ++ services_text),
       length-append (parameters_text n) services_text,
-      integer-short (context 0) (pos 1),
+      length-integer (context 0) (pos 1),
       parameters-short n,
       services-short,
     )

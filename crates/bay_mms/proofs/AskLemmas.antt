@@ -18,13 +18,14 @@ use Rattle.bay_mms.specs.Requests.{Asking, Message, initiate, conclude, confirme
 use Rattle.bay_mms.specs.Grammar.{nothing, service_as, proposal_in, id_of, id_as, with_id, or_bad, confirmed_of, message_as, front_of, id_in, answer_to}
 use Rattle.bay_mms.specs.Asks.{IsConfirmed, Asks, AsksUnknown, AsksMany, HasId, IsIdOf, AsksNothing}
 use Rattle.bay_mms.specs.declared.fault.Refusal.{Refusal}
-use Rattle.bay_mms.specs.declared.fault.Refusal.TheVariants.{Bad, Unknown, Many, OutOfMemory}
+use Rattle.bay_mms.specs.declared.fault.Refusal.TheVariants.{Bad, OutOfMemory}
 use Rattle.bay_mms.specs.declared.fault.MmsFault.{MmsFault}
 use Rattle.bay_mms.specs.declared.fault.MmsFault.TheVariants as fault
 use Rattle.bay_mms.proofs.AccessLemmas.{by-tag, spelled-under}
 use Rattle.bay_mms.proofs.ConfirmedLemmas.{id-read, known, confirmed-read}
 use Rattle.bay_mms.proofs.InitiateLemmas.{proposal-in-read, initiate-with}
-use Rattle.bay_mms.proofs.ServiceLemmas.{Serves, service-read, unserved-read, overfull-read, service-back}
+use Rattle.bay_mms.proofs.ServiceBackLemmas.{Serves, service-back}
+use Rattle.bay_mms.proofs.ServiceLemmas.{service-read, unserved-read, overfull-read}
 
 -- ---- what is asked is answered
 
@@ -158,11 +159,9 @@ bad-then octets (Some x) f r e g = g x refl e
 
 with-says : (octets : List ℕ) (id : ℕ) (service : Part) (s : Result Asking Refusal)
     → IsConfirmed octets id service → Serves service s → Says octets (with_id (id_in octets) id s)
-with-says octets id service (Ok asking) c is = (service, c, is)
 with-says octets id service (Err Bad) c is = refl
-with-says octets id service (Err Unknown) c is = (service, c, is)
-with-says octets id service (Err Many) c is = (service, c, is)
 with-says octets id service (Err OutOfMemory) c is = is
+with-says octets id service s c is = (service, c, is)
 
 confirmed-with : (octets content : List ℕ) (p service : Part) (id : ℕ)
     → SpellAll octets (value (constructed 0) content ∷ []) → SpellAll content (p ∷ service ∷ [])

@@ -22,58 +22,23 @@ list-before (d ∷ ds) = ap (λ (xs : List Datum). d ∷ xs) (list-before ds)
 
 truth-is : (d : Datum) (v : Bool) → truth_as d ≡ Some v → d ≡ truth v
 truth-is (truth value) v e = ap truth (same_Some value v e)
-truth-is (structure parts) v e = absurd cc
-truth-is (bits held count) v e = absurd cc
-truth-is (integer value) v e = absurd cc
-truth-is (unsigned value) v e = absurd cc
-truth-is (octets value) v e = absurd cc
-truth-is (text value) v e = absurd cc
-truth-is (utc value) v e = absurd cc
-truth-is (other tag value) v e = absurd cc
+truth-is d v e = absurd cc
 
 integer-is : (d : Datum) (z : ℤ) → integer_as d ≡ Some z → d ≡ integer z
 integer-is (integer value) z e = ap integer (same_Some value z e)
-integer-is (structure parts) z e = absurd cc
-integer-is (truth value) z e = absurd cc
-integer-is (bits held count) z e = absurd cc
-integer-is (unsigned value) z e = absurd cc
-integer-is (octets value) z e = absurd cc
-integer-is (text value) z e = absurd cc
-integer-is (utc value) z e = absurd cc
-integer-is (other tag value) z e = absurd cc
+integer-is d z e = absurd cc
 
 unsigned-is : (d : Datum) (z : ℤ) → unsigned_as d ≡ Some z → d ≡ unsigned z
 unsigned-is (unsigned value) z e = ap unsigned (same_Some value z e)
-unsigned-is (structure parts) z e = absurd cc
-unsigned-is (truth value) z e = absurd cc
-unsigned-is (bits held count) z e = absurd cc
-unsigned-is (integer value) z e = absurd cc
-unsigned-is (octets value) z e = absurd cc
-unsigned-is (text value) z e = absurd cc
-unsigned-is (utc value) z e = absurd cc
-unsigned-is (other tag value) z e = absurd cc
+unsigned-is d z e = absurd cc
 
 octets-is : (d : Datum) (o : List ℕ) → octets_as d ≡ Some o → d ≡ octets o
 octets-is (octets value) o e = ap octets (same_Some value o e)
-octets-is (structure parts) o e = absurd cc
-octets-is (truth value) o e = absurd cc
-octets-is (bits held count) o e = absurd cc
-octets-is (integer value) o e = absurd cc
-octets-is (unsigned value) o e = absurd cc
-octets-is (text value) o e = absurd cc
-octets-is (utc value) o e = absurd cc
-octets-is (other tag value) o e = absurd cc
+octets-is d o e = absurd cc
 
 moment-is : (d : Datum) (o : List ℕ) → moment_as d ≡ Some o → d ≡ utc o
 moment-is (utc value) o e = ap utc (same_Some value o e)
-moment-is (structure parts) o e = absurd cc
-moment-is (truth value) o e = absurd cc
-moment-is (bits held count) o e = absurd cc
-moment-is (integer value) o e = absurd cc
-moment-is (unsigned value) o e = absurd cc
-moment-is (octets value) o e = absurd cc
-moment-is (text value) o e = absurd cc
-moment-is (other tag value) o e = absurd cc
+moment-is d o e = absurd cc
 
 -- the parts of a structure
 before-list : (ds : Data) → data_before (list_of ds) no_data ≡ ds
@@ -85,14 +50,7 @@ parts-are : (d : Datum) (ps : List Datum) → parts_as d ≡ Some ps
 parts-are (structure ds) ps e =
     ap structure (sym (before-list ds)
     ∙ ap (λ (xs : List Datum). data_before xs no_data) (same_Some (list_of ds) ps e))
-parts-are (truth value) ps e = absurd cc
-parts-are (bits held count) ps e = absurd cc
-parts-are (integer value) ps e = absurd cc
-parts-are (unsigned value) ps e = absurd cc
-parts-are (octets value) ps e = absurd cc
-parts-are (text value) ps e = absurd cc
-parts-are (utc value) ps e = absurd cc
-parts-are (other tag value) ps e = absurd cc
+parts-are d ps e = absurd cc
 
 -- two bits
 check-by-is : (two : ℕ) (c : Check) → check_by two ≡ Some c → two * 64 ≡ check_octet c
@@ -113,14 +71,7 @@ check-is (bits held count) p e =
       | inl h ↦ (held, first-is held p h.1, ap (λ (n : ℕ). bits held n) (eqb-true count 2 h.0))
       | inr h ↦ let none : None ≡ Some p = h.1 in absurd cc
     ]
-check-is (structure parts) p e = absurd cc
-check-is (truth value) p e = absurd cc
-check-is (integer value) p e = absurd cc
-check-is (unsigned value) p e = absurd cc
-check-is (octets value) p e = absurd cc
-check-is (text value) p e = absurd cc
-check-is (utc value) p e = absurd cc
-check-is (other tag value) p e = absurd cc
+check-is d p e = absurd cc
 
 -- a control
 two : (a b x y : Datum) → a ≡ x → b ≡ y → a ∷ b ∷ [] ≡ x ∷ y ∷ []
@@ -133,9 +84,6 @@ five a b c d e v w x y z later p q r s t = rw (p, q, r, s, t) refl
 
 origin-parts-are : (ps : List Datum) (o : Origin) → origin_of ps ≡ Some o
     → ps ≡ integer o.or_cat ∷ octets o.or_ident ∷ []
-origin-parts-are [] o e = absurd cc
-origin-parts-are (a ∷ []) o e = absurd cc
-origin-parts-are (a ∷ b ∷ c ∷ ps) o e = absurd cc
 origin-parts-are (a ∷ b ∷ []) o e =
     let f = bind-some (integer_as a) _ o e in
     let g = bind-some (octets_as b) _ o f.2 in
@@ -143,6 +91,7 @@ origin-parts-are (a ∷ b ∷ []) o e =
     let is : made ≡ o = same_Some made o g.2 in
     two a b _ _ (integer-is a f.0 f.1) (octets-is b g.0 g.1)
     ∙ ap (λ (x : Origin). integer x.or_cat ∷ octets x.or_ident ∷ []) is
+origin-parts-are ps o e = absurd cc
 
 origin-is : (d : Datum) (o : Origin) → origin_as d ≡ Some o → d ≡ origin_datum o
 unfolding origin_as
@@ -169,13 +118,8 @@ control-is a b c d e o is later =
 
 cancel-parts : (ps : List Datum) (c : Control) → cancel_of ps ≡ Some c
     → data_before ps no_data ≡ control_before c no_data
-cancel-parts [] c e = absurd cc
-cancel-parts (p ∷ []) c e = absurd cc
-cancel-parts (p ∷ q ∷ []) c e = absurd cc
-cancel-parts (p ∷ q ∷ r ∷ []) c e = absurd cc
-cancel-parts (p ∷ q ∷ r ∷ s ∷ []) c e = absurd cc
 cancel-parts (p ∷ q ∷ r ∷ s ∷ t ∷ []) c e = control-is p q r s t c e no_data
-cancel-parts (p ∷ q ∷ r ∷ s ∷ t ∷ u ∷ ps) c e = absurd cc
+cancel-parts ps c e = absurd cc
 
 pub cancel-is : (d : Datum) (c : Control) → cancel_as d ≡ Some c → d ≡ cancel_datum c
 unfolding cancel_as
@@ -189,12 +133,6 @@ pub record HasParts (ps : List Datum) (o : Operate) : Type 0 where
   pub is : data_before ps no_data ≡ control_before o.control (datum (bits held 2) no_data)
 
 operate-parts : (ps : List Datum) (o : Operate) → operate_of ps ≡ Some o → HasParts ps o
-operate-parts [] o e = absurd cc
-operate-parts (p ∷ []) o e = absurd cc
-operate-parts (p ∷ q ∷ []) o e = absurd cc
-operate-parts (p ∷ q ∷ r ∷ []) o e = absurd cc
-operate-parts (p ∷ q ∷ r ∷ s ∷ []) o e = absurd cc
-operate-parts (p ∷ q ∷ r ∷ s ∷ t ∷ []) o e = absurd cc
 operate-parts (p ∷ q ∷ r ∷ s ∷ t ∷ u ∷ []) o e =
     let f = bind-some (control_of p q r s t) _ o e in
     let g = bind-some (check_as u) _ o f.2 in
@@ -208,7 +146,7 @@ operate-parts (p ∷ q ∷ r ∷ s ∷ t ∷ u ∷ []) o e =
           ∙ control-is p q r s t f.0 f.1 (datum (bits h.0 2) no_data)
           ∙ ap (λ (x : Operate). control_before x.control (datum (bits h.0 2) no_data)) same_one;
     }
-operate-parts (p ∷ q ∷ r ∷ s ∷ t ∷ u ∷ v ∷ ps) o e = absurd cc
+operate-parts ps o e = absurd cc
 
 pub operate-is : (d : Datum) (o : Operate) → operate_as d ≡ Some o → IsOperate d o
 unfolding operate_as

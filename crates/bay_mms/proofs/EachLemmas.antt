@@ -12,10 +12,9 @@ pub each-read : {A B : Type 0} (f : Part → Option B) (part : A → Part) (Is :
     → ((x : A) (y : B) → Is x y → f (part x) ≡ Some y)
     → (xs : List A) (ys : List B) → AreEach Is xs ys → all_of f (map part xs) ≡ Some ys
 each-read f part Is read [] [] are = refl
-each-read f part Is read [] (y ∷ ys) are = absurd are
-each-read f part Is read (x ∷ xs) [] are = absurd are
 each-read f part Is read (x ∷ xs) (y ∷ ys) are =
     rw (read x y are.0, each-read f part Is read xs ys are.1) refl
+each-read f part Is read xs ys are = absurd are
 
 -- The values are made of these, and these spell what was read.
 pub record Listed {A B : Type 0} (part : A → Part) (Is : A → B → Type 0) (parts : List Part)

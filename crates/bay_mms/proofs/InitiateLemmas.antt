@@ -1,17 +1,18 @@
 -- The request that opens an association: what octets spell they are read as, and the other way.
-use Rattle.std.proofs.Common.{◌≡◌, ℕ, zero, suc, ℤ, pos, negsuc, ◌*◌, ◌/◌, ◌<◌, ◌≤◌, Bool, true, false, cond, ltb, List, [], ◌∷◌, ◌++◌, Option, Some, None, option_map, refl, sym, ap, subst, ◌∙◌, inl, inr, arith}
+use Rattle.std.proofs.Common.{◌≡◌, ℕ, zero, suc, ℤ, pos, ◌*◌, ◌/◌, ◌<◌, ◌≤◌, true, ltb, List, [], ◌∷◌, ◌++◌, Option, Some, None, option_map, refl, sym, ap, subst, ◌∙◌, inl, inr, arith}
 use Rattle.std.proofs.lemmas.Option.{same_Some}
 use Rattle.std.proofs.lemmas.Bool.{le-ltb, ltb-false}
 use Rattle.bay_ber.specs.declared.tag.Tag.{Tag}
-use Rattle.bay_ber.specs.Content.{IsInteger, IsBits, BitString, integer_in, bits_in}
+use Rattle.bay_ber.specs.Content.{IsInteger, IsBits, BitString, bits_in}
 use Rattle.bay_base.specs.Options.{◌>>=◌}
-use Rattle.bay_ber.specs.Values.{Part, value, SpellAll, value_in, at_most_five, few_in, known_in, under}
+use Rattle.bay_ber.specs.Tags.{same_tag}
+use Rattle.bay_ber.specs.Values.{Part, value, SpellAll, value_in, at_most_five, few_in, known_in, under, integer_under}
 use Rattle.bay_ber.proofs.ReadLemmas.{IsBytes}
 use Rattle.bay_ber.proofs.ContentLemmas.{integer-again}
-use Rattle.bay_ber.proofs.BackLemmas.{bind-some, AllBytes, under-is, integer-back, bits-back, bits-again, one-under, few-back, known-back, one-read, few-read, known-read}
+use Rattle.bay_ber.proofs.BackLemmas.{bind-some, AllBytes, unguarded, under-is, under-bytes, number-back, bits-back, bits-again, one-under, few-back, known-back, one-read, few-read, known-read}
 use Rattle.bay_mms.specs.Tags.{context, constructed}
 use Rattle.bay_mms.specs.declared.request.Proposal.{Proposal}
-use Rattle.bay_mms.specs.Grammar.{integer_under, some_of, outstanding_as, three_bits, parameters_of, parameters_as, services_as, detail_of, detail_in, size_of, nesting_of, proposal_of, initiate_of, proposal_in, initiate_in}
+use Rattle.bay_mms.specs.Grammar.{some_of, outstanding_as, three_bits, parameters_of, parameters_as, services_as, detail_of, detail_in, proposed_under, proposal_of, initiate_of, proposal_in, initiate_in}
 use Rattle.bay_mms.specs.SpelledInitiate.{field, IsNumber, IsPositive, IsDetail, IsInitiate}
 use Rattle.bay_mms.proofs.AccessLemmas.{by-tag}
 
@@ -48,41 +49,23 @@ detail-read octets parameters d =
     )
     (ap (λ (n : ℕ). Some n) (sym d.is))
 
-size-read : (size : Option (List ℕ)) (z : Option ℤ) → IsNumber size z
-    → size_of (option_map (value (context 0)) size) ≡ Some z
+proposed-read : (tag : Tag) (content : Option (List ℕ)) (z : Option ℤ) → same_tag tag tag ≡ true
+    → IsNumber content z → proposed_under tag (option_map (value tag) content) ≡ Some z
 unfolding integer_under
-size-read None None is = refl
-size-read None (Some z) is = absurd is
-size-read (Some content) None is = absurd is
-size-read (Some content) (Some z) is = rw (integer-again content z is) refl
-
-nesting-read : (nesting : Option (List ℕ)) (z : Option ℤ) → IsNumber nesting z
-    → nesting_of (option_map (value (context 3)) nesting) ≡ Some z
-unfolding integer_under
-nesting-read None None is = refl
-nesting-read None (Some z) is = absurd is
-nesting-read (Some content) None is = absurd is
-nesting-read (Some content) (Some z) is = rw (integer-again content z is) refl
+proposed-read tag None None same is = refl
+proposed-read tag (Some content) (Some z) same is = rw (same, integer-again content z is) refl
+proposed-read tag content z same is = absurd is
 
 some-positive : (n : ℕ) → 0 < n → some_of (pos n) ≡ Some (pos n)
 some-positive zero some = absurd (omega arith)
 some-positive (suc n) some = refl
 
-some-read : (content : List ℕ) (z : ℤ) → IsPositive content z
-    → (integer_in content >>= some_of) ≡ Some z
-some-read content z is =
-    rw (integer-again content z is.3)
+positive-read : (tag : Tag) (content : List ℕ) (z : ℤ) → same_tag tag tag ≡ true
+    → IsPositive content z → outstanding_as tag (value tag content) ≡ Some z
+unfolding outstanding_as integer_under
+positive-read tag content z same is =
+    rw (same, integer-again content z is.3)
     (ap some_of is.1 ∙ some-positive is.0 is.2 ∙ ap (λ (x : ℤ). Some x) (sym is.1))
-
-calling-read : (content : List ℕ) (z : ℤ) → IsPositive content z
-    → outstanding_as (context 1) (value (context 1) content) ≡ Some z
-unfolding outstanding_as integer_under
-calling-read content z is = some-read content z is
-
-called-read : (content : List ℕ) (z : ℤ) → IsPositive content z
-    → outstanding_as (context 2) (value (context 2) content) ≡ Some z
-unfolding outstanding_as integer_under
-called-read content z is = some-read content z is
 
 proposal-read : (octets : List ℕ) (p : Proposal) → (i : IsInitiate octets p)
     → proposal_of (option_map (value (context 0)) i.size) (value (context 1) i.calling)
@@ -91,10 +74,10 @@ proposal-read : (octets : List ℕ) (p : Proposal) → (i : IsInitiate octets p)
 unfolding proposal_of
 proposal-read octets p i =
     rw (
-      size-read i.size p.size i.is_size,
-      calling-read i.calling p.calling i.is_calling,
-      called-read i.called p.called i.is_called,
-      nesting-read i.nesting p.nesting i.is_nesting,
+      proposed-read (context 0) i.size p.size refl i.is_size,
+      positive-read (context 1) i.calling p.calling refl i.is_calling,
+      positive-read (context 2) i.called p.called refl i.is_called,
+      proposed-read (context 3) i.nesting p.nesting refl i.is_nesting,
       detail-read i.detail p.parameters i.is_detail,
     ) refl
 
@@ -111,20 +94,6 @@ fields-read None calling called (Some nesting) detail = refl
 fields-read (Some size) calling called None detail = refl
 fields-read (Some size) calling called (Some nesting) detail = refl
 
-pub initiate-read : (octets : List ℕ) (p : Proposal) → IsInitiate octets p
-    → initiate_in octets ≡ Some p
-unfolding initiate_in
-initiate-read octets p i =
-    let fields : List Part =
-    field (context 0) i.size
-    ++ (value (context 1) i.calling ∷ value (context 2) i.called
-    ∷ (field (context 3) i.nesting ++ (value (constructed 4) i.detail ∷ []))) in
-    rw (
-      one-read octets (value (constructed 8) i.content) i.whole,
-      few-read i.content fields i.parts,
-    )
-    (fields-read i.size i.calling i.called i.nesting i.detail ∙ proposal-read octets p i)
-
 pub proposal-in-read : (octets : List ℕ) (p : Proposal) → (i : IsInitiate octets p)
     → proposal_in i.content ≡ Some p
 proposal-in-read octets p i =
@@ -135,22 +104,20 @@ proposal-in-read octets p i =
     ap (λ (o : Option (List Part)). o >>= initiate_of) (few-read i.content fields i.parts)
     ∙ fields-read i.size i.calling i.called i.nesting i.detail ∙ proposal-read octets p i
 
--- ---- what is read is spelled
+pub initiate-read : (octets : List ℕ) (p : Proposal) → IsInitiate octets p
+    → initiate_in octets ≡ Some p
+unfolding initiate_in
+initiate-read octets p i =
+    rw (one-read octets (value (constructed 8) i.content) i.whole) (proposal-in-read octets p i)
 
-number-back : (tag : Tag) (p : Part) (z : ℤ) → integer_under tag p ≡ Some z
-    → (content : List ℕ) × (p ≡ value tag content) × IsInteger content z
-unfolding integer_under
-number-back tag p z e =
-    let x = bind-some (under tag p) integer_in z e in
-    (x.0, under-is tag p x.0 x.1, integer-back x.0 z x.2)
+-- ---- what is read is spelled
 
 positive-is : (content : List ℕ) (given z : ℤ) → IsInteger content given → some_of given ≡ Some z
     → IsPositive content z
-positive-is content (pos zero) z is e = absurd cc
 positive-is content (pos (suc n)) z is e =
     let same : pos (suc n) ≡ z = same_Some (pos (suc n)) z e in
     (suc n, sym same, omega arith, subst (IsInteger content) same is)
-positive-is content (negsuc n) z is e = absurd cc
+positive-is content given z is e = absurd cc
 
 positive-back : (tag : Tag) (p : Part) (z : ℤ) → outstanding_as tag p ≡ Some z
     → (content : List ℕ) × (p ≡ value tag content) × IsPositive content z
@@ -165,23 +132,12 @@ abbrev given : Option Part → List Part
 given None = []
 given (Some p) = p ∷ []
 
-size-back : (o : Option Part) (z : Option ℤ) → size_of o ≡ Some z
-    → (content : Option (List ℕ)) × (given o ≡ field (context 0) content) × IsNumber content z
-size-back None z e = (None, refl, subst (IsNumber None) (same_Some None z e) tt)
-size-back (Some p) z e =
-    let x = bind-some (integer_under (context 0) p) (λ n. Some (Some n)) z e in
-    let n = number-back (context 0) p x.0 x.1 in (
-      Some n.0,
-      ap (λ (q : Part). q ∷ []) n.1,
-      subst (IsNumber (Some n.0)) (same_Some (Some x.0) z x.2) n.2,
-    )
-
-nesting-back : (o : Option Part) (z : Option ℤ) → nesting_of o ≡ Some z
-    → (content : Option (List ℕ)) × (given o ≡ field (context 3) content) × IsNumber content z
-nesting-back None z e = (None, refl, subst (IsNumber None) (same_Some None z e) tt)
-nesting-back (Some p) z e =
-    let x = bind-some (integer_under (context 3) p) (λ n. Some (Some n)) z e in
-    let n = number-back (context 3) p x.0 x.1 in (
+proposed-back : (tag : Tag) (o : Option Part) (z : Option ℤ) → proposed_under tag o ≡ Some z
+    → (content : Option (List ℕ)) × (given o ≡ field tag content) × IsNumber content z
+proposed-back tag None z e = (None, refl, subst (IsNumber None) (same_Some None z e) tt)
+proposed-back tag (Some p) z e =
+    let x = bind-some (integer_under tag p) (λ n. Some (Some n)) z e in
+    let n = number-back tag p x.0 x.1 in (
       Some n.0,
       ap (λ (q : Part). q ∷ []) n.1,
       subst (IsNumber (Some n.0)) (same_Some (Some x.0) z x.2) n.2,
@@ -213,11 +169,6 @@ blocks-of p content (first ∷ later) count parameters part are three e =
       three = three;
       is = sym (same_Some (first / 32 * 32) parameters e);
     }
-
-unguarded : {A : Type 0} (b : Bool) (o : Option A) (x : A) → cond b None o ≡ Some x
-    → (b ≡ false) × (o ≡ Some x)
-unguarded true o x e = absurd cc
-unguarded false o x e = (refl, e)
 
 blocks-back : (p : Part) (parameters : ℕ) → parameters_as p ≡ Some parameters
     → AreBlocks p parameters
@@ -252,9 +203,6 @@ record Details (known : List Part) (parameters : ℕ) : Type 0 where
 
 details-of : (known : List Part) (parameters : ℕ) → detail_of known ≡ Some parameters
     → Details known parameters
-details-of [] parameters e = absurd cc
-details-of (p ∷ []) parameters e = absurd cc
-details-of (p ∷ q ∷ []) parameters e = absurd cc
 details-of (p ∷ q ∷ r ∷ []) parameters e =
     let x = bind-some (integer_under (context 0) p) _ parameters e in
     let y = bind-some (parameters_as q) _ parameters x.2 in
@@ -277,7 +225,7 @@ details-of (p ∷ q ∷ r ∷ []) parameters e =
       is_version = version.2;
       are_services = services.2;
     }
-details-of (p ∷ q ∷ r ∷ s ∷ known) parameters e = absurd cc
+details-of known parameters e = absurd cc
 
 detail-back : (octets : List ℕ) (parameters : ℕ) → IsBytes octets
     → detail_in octets ≡ Some parameters → IsDetail octets parameters
@@ -340,10 +288,10 @@ proposed : (first : Option Part) (second third : Part) (fourth : Option Part) (f
     → Proposed (given first ++ (second ∷ third ∷ (given fourth ++ (fifth ∷ [])))) p
 unfolding proposal_of
 proposed first second third fourth fifth p b e =
-    let size = bind-some (size_of first) _ p e in
+    let size = bind-some (proposed_under (context 0) first) _ p e in
     let calling = bind-some (outstanding_as (context 1) second) _ p size.2 in
     let called = bind-some (outstanding_as (context 2) third) _ p calling.2 in
-    let nesting = bind-some (nesting_of fourth) _ p called.2 in
+    let nesting = bind-some (proposed_under (context 3) fourth) _ p called.2 in
     let octets = bind-some (under (constructed 4) fifth) _ p nesting.2 in
     let parameters = bind-some (detail_in octets.0) _ p octets.2 in
     let made : Proposal =
@@ -354,11 +302,11 @@ proposed first second third fourth fifth p b e =
       nesting = nesting.0;
       parameters = parameters.0;
     } in
-    let s = size-back first size.0 size.1 in
+    let s = proposed-back (context 0) first size.0 size.1 in
     let c = positive-back (context 1) second calling.0 calling.1 in
     let d = positive-back (context 2) third called.0 called.1 in
-    let n = nesting-back fourth nesting.0 nesting.1 in
-    let u = under-is (constructed 4) fifth octets.0 octets.1 in
+    let n = proposed-back (context 3) fourth nesting.0 nesting.1 in
+    let u = under-bytes (constructed 4) fifth octets.0 b octets.1 in
     subst (Proposed (given first ++ (second ∷ third ∷ (given fourth ++ (fifth ∷ [])))))
     (same_Some made p parameters.2) (record {
       size = s.0;
@@ -366,21 +314,17 @@ proposed first second third fourth fifth p b e =
       called = d.0;
       nesting = n.0;
       detail = octets.0;
-      are = fields-are first second third fourth fifth s.0 c.0 d.0 n.0 octets.0 s.1 c.1 d.1 n.1 u;
+      are = fields-are first second third fourth fifth s.0 c.0 d.0 n.0 octets.0 s.1 c.1 d.1 n.1
+          u.0;
       is_size = s.2;
       is_calling = c.2;
       is_called = d.2;
       is_nesting = n.2;
-      is_detail =
-          detail-back octets.0 parameters.0 (subst IsBytes (ap (λ (q : Part). q.content) u) b)
-          parameters.1;
+      is_detail = detail-back octets.0 parameters.0 u.1 parameters.1;
     })
 
 proposed-of : (parts : List Part) (p : Proposal) → AllBytes parts → initiate_of parts ≡ Some p
     → Proposed parts p
-proposed-of [] p b e = absurd cc
-proposed-of (a ∷ []) p b e = absurd cc
-proposed-of (a ∷ c ∷ []) p b e = absurd cc
 proposed-of (a ∷ c ∷ d ∷ []) p b e = proposed None a c None d p b.1.1.0 e
 proposed-of (a ∷ c ∷ d ∷ f ∷ []) p b e =
     elim (by-tag (context 0) a (proposal_of (Some a) c d None f) (proposal_of None a c (Some d) f)
@@ -389,7 +333,7 @@ proposed-of (a ∷ c ∷ d ∷ f ∷ []) p b e =
       | inr here ↦ proposed None a c (Some d) f p b.1.1.1.0 here.1
     ]
 proposed-of (a ∷ c ∷ d ∷ f ∷ g ∷ []) p b e = proposed (Some a) c d (Some f) g p b.1.1.1.1.0 e
-proposed-of (a ∷ c ∷ d ∷ f ∷ g ∷ h ∷ parts) p b e = absurd cc
+proposed-of parts p b e = absurd cc
 
 pub initiate-with : (octets content : List ℕ) (p : Proposal)
     → SpellAll octets (value (constructed 8) content ∷ []) → IsBytes content

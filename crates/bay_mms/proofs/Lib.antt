@@ -16,5 +16,6 @@ pub mod ReceivedLemmas
 pub mod ReportLemmas
 pub mod RequestLemmas
 pub mod ResponseLemmas
+pub mod ServiceBackLemmas
 pub mod ServiceLemmas
 pub mod ShortLemmas

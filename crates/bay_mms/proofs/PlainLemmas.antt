@@ -14,15 +14,8 @@ use Rattle.bay_mms.proofs.LawLemmas.{datum-spells}
 
 -- tags of one octet
 tag-low : (d : Datum) → IsPlain d → (datum_tag d).number < 31
-tag-low (structure parts) plain = omega arith
-tag-low (truth v) plain = omega arith
-tag-low (bits held count) plain = omega arith
-tag-low (integer z) plain = omega arith
-tag-low (unsigned z) plain = omega arith
-tag-low (octets o) plain = omega arith
-tag-low (text o) plain = omega arith
-tag-low (utc o) plain = omega arith
 tag-low (other tag content) plain = absurd plain
+tag-low d plain = omega arith
 
 held-is : (held : List ℕ) (count : ℕ) → IsHeld held count
     → IsBits (bit_string_octets held count) held count

@@ -167,8 +167,6 @@ mutual
       → depth_in parts ≤ n → (ds : List Datum) × (all_of (datum_as n) pieces ≡ Some ds)
       × (data_before ds no_data ≡ parts)
   data-read no_data [] n are deep = ([], refl, refl)
-  data-read no_data (p ∷ pieces) n are deep = absurd are
-  data-read (datum first later) [] n are deep = absurd are
   data-read (datum first later) (p ∷ pieces) n are deep =
       let one =
       datum-read first p n are.0 (omega (arith, le-max_left (depth_of first) (depth_in later)))
@@ -177,14 +175,14 @@ mutual
       data-read later pieces n are.1
       (omega (arith, le-max_right (depth_of first) (depth_in later))) in
       (first ∷ more.0, rw (one, more.1) refl, ap (λ (x : Data). mms.datum first x) more.2)
+  data-read parts pieces n are deep = absurd are
 
 pub written-read : (pieces : List Part) (ds : List Datum) → AreWritten pieces ds
     → all_of (datum_as 10) pieces ≡ Some ds
 written-read [] [] are = refl
-written-read [] (d ∷ ds) are = absurd are
-written-read (p ∷ pieces) [] are = absurd are
 written-read (p ∷ pieces) (d ∷ ds) are =
     rw (datum-read d p 10 are.0.0 are.0.1, written-read pieces ds are.1) refl
+written-read pieces ds are = absurd are
 
 -- ---- what is read is spelled
 

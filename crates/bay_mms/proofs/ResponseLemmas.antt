@@ -8,7 +8,7 @@ use Rattle.bay_ber.specs.Sheets.{Sheet, within, text_with, sheet_with, message, 
 use Rattle.bay_ber.specs.Writing.{element, element_length, integer_octets, truth_octets}
 use Rattle.bay_ber.specs.declared.tag.Tag.{Tag}
 use Rattle.bay_ber.proofs.SheetLemmas.{no-room, room, put_nil, put-put, heads-put, limit-put, message-front, within-longer}
-use Rattle.bay_ber.proofs.SizeLemmas.{length-element, length-element-is, length-integer_octets}
+use Rattle.bay_ber.proofs.SizeLemmas.{length-element-is, length-integer}
 use Rattle.bay_mms.specs.declared.fault.EncodeFault.{EncodeFault}
 use Rattle.bay_mms.specs.declared.fault.EncodeFault.TheVariants.{TooLong, OutOfMemory}
 use Rattle.bay_mms.specs.Tags.{context, constructed, int_tag, visible_tag}
@@ -172,12 +172,10 @@ pub number-few : (old new : Sheet) (tag : Tag) (value : ℤ)
     }
     → length new.heads ≤ length old.heads + 14
 number-few old new tag value is =
-    let number = element tag (integer_octets value) in
     rw is (omega (
       arith,
-      length-append number old.heads,
-      length-element tag (integer_octets value),
-      length-integer_octets value,
+      length-append (element tag (integer_octets value)) old.heads,
+      length-integer tag value,
     ))
 
 pub response-is : (id : ℕ) (old one four numbered whole : Sheet) → HoldsResults old

@@ -1,11 +1,10 @@
 -- How long errors and rejects are.
-use Rattle.std.proofs.Common.{◌≡◌, ℕ, ℤ, pos, ◌≤◌, Option, Some, None, ◌++◌, length, refl, arith}
+use Rattle.std.proofs.Common.{◌≡◌, ℕ, pos, ◌≤◌, Option, Some, None, ◌++◌, length, refl, arith}
 use Rattle.std.proofs.lemmas.List.{length-append}
 use Rattle.bay_ber.specs.Writing.{element, integer_octets, length_octets}
-use Rattle.bay_ber.specs.declared.tag.Tag.{Tag}
 use Rattle.bay_ber.specs.Sheets.{within}
 use Rattle.bay_ber.proofs.SheetLemmas.{fits}
-use Rattle.bay_ber.proofs.SizeLemmas.{length-element, length-integer_octets}
+use Rattle.bay_ber.proofs.SizeLemmas.{length-element, length-integer}
 use Rattle.bay_mms.specs.Tags.{context, constructed}
 use Rattle.bay_mms.specs.Responses.{class_text, error_text, id_text, reason_text, reject_text, concluded_text}
 use Rattle.bay_mms.specs.declared.response.ErrorClass.{ErrorClass}
@@ -13,13 +12,9 @@ use Rattle.bay_mms.specs.declared.response.ErrorClass.TheVariants.{NoSuchObject,
 use Rattle.bay_mms.specs.declared.response.RejectReason.{RejectReason}
 use Rattle.bay_mms.specs.declared.response.RejectReason.TheVariants.{UnrecognizedService, InvalidPdu}
 
-number-short : (tag : Tag) (value : ℤ) → length (element tag (integer_octets value)) ≤ 14
-number-short tag value =
-    omega (arith, length-element tag (integer_octets value), length-integer_octets value)
-
 class-short : (class : ErrorClass) → length (class_text class) ≤ 14
-class-short NoSuchObject = number-short (context 7) (pos 2)
-class-short Resource = number-short (context 3) (pos 0)
+class-short NoSuchObject = length-integer (context 7) (pos 2)
+class-short Resource = length-integer (context 3) (pos 0)
 
 pub error_short : (id : ℕ) (class : ErrorClass) → length (error_text id class) ≤ 60
 error_short id class =
@@ -33,16 +28,16 @@ error_short id class =
       length-element (constructed 2) inner,
       length-element (constructed 0) (class_text class),
       class-short class,
-      number-short (context 0) (pos id),
+      length-integer (context 0) (pos id),
     )
 
 id-short : (id : Option ℕ) → length (id_text id) ≤ 14
 id-short None = omega arith
-id-short (Some id) = number-short (context 0) (pos id)
+id-short (Some id) = length-integer (context 0) (pos id)
 
 reason-short : (reason : RejectReason) → length (reason_text reason) ≤ 14
-reason-short UnrecognizedService = number-short (context 1) (pos 1)
-reason-short InvalidPdu = number-short (context 5) (pos 1)
+reason-short UnrecognizedService = length-integer (context 1) (pos 1)
+reason-short InvalidPdu = length-integer (context 5) (pos 1)
 
 pub reject_short : (id : Option ℕ) (reason : RejectReason) → length (reject_text id reason) ≤ 60
 reject_short id reason =

@@ -9,7 +9,7 @@ use Rattle.bay_ber.specs.Tags.{same_class, same_tag}
 use Rattle.bay_base.specs.Options.{◌>>=◌}
 use Rattle.bay_ber.specs.Content.{BitString, integer_in, bits_in, truth_in}
 use Rattle.bay_ber.specs.Reading.{Reading, tlv_at}
-use Rattle.bay_ber.specs.Values.{Part, part_in, value_in, one_or_two_in, few_in, known_in, each_in, under}
+use Rattle.bay_ber.specs.Values.{Part, part_in, value_in, one_or_two_in, few_in, known_in, each_in, under, integer_under}
 use Rattle.bay_mms.specs.Data as mms
 use Rattle.bay_mms.specs.Data.{Datum}
 use Rattle.bay_mms.specs.Views.{data_before}
@@ -242,10 +242,6 @@ service_as part =
 
 -- ---- the initiate
 
--- the integer that stands under a tag
-unfoldable pub integer_under : Tag → Part → Option ℤ
-integer_under tag part = under tag part >>= integer_in
-
 -- one or more
 abbrev pub some_of : ℤ → Option ℤ
 some_of (pos zero) = None
@@ -286,23 +282,19 @@ detail_of parts = None
 unfoldable pub detail_in : List ℕ → Option ℕ
 detail_in octets = known_in (context 0 ∷ context 1 ∷ context 2 ∷ []) octets >>= detail_of
 
--- the size of a PDU, where it is proposed
-abbrev pub size_of : Option Part → Option (Option ℤ)
-size_of None = Some None
-size_of (Some part) = integer_under (context 0) part >>= λ z. Some (Some z)
+-- the integer under a tag, where one is proposed
+abbrev pub proposed_under : Tag → Option Part → Option (Option ℤ)
+proposed_under tag None = Some None
+proposed_under tag (Some part) = integer_under tag part >>= λ z. Some (Some z)
 
--- how deep data may nest, where it is proposed
-abbrev pub nesting_of : Option Part → Option (Option ℤ)
-nesting_of None = Some None
-nesting_of (Some part) = integer_under (context 3) part >>= λ z. Some (Some z)
-
--- a proposal out of its fields
+-- a proposal out of its fields: the size of a PDU, the requests outstanding on either side, how
+-- deep data may nest, and the detail
 unfoldable pub proposal_of : Option Part → Part → Part → Option Part → Part → Option Proposal
 proposal_of first second third fourth fifth = do
-  size ← size_of first
+  size ← proposed_under (context 0) first
   calling ← outstanding_as (context 1) second
   called ← outstanding_as (context 2) third
-  nesting ← nesting_of fourth
+  nesting ← proposed_under (context 3) fourth
   octets ← under (constructed 4) fifth
   parameters ← detail_in octets
   Some (record {

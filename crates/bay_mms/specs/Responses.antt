@@ -164,14 +164,10 @@ response_text (response.Reject id reason) = reject_text id reason
 
 -- The handles are the tree's.
 abbrev pub IsOfTree : Service → Type 0
-IsOfTree (service.Identify vendor model revision) = Unit {0}
-IsOfTree (service.Names names more) = Unit {0}
 IsOfTree (service.Attributes tree handle) = IsHandle tree.now handle
+IsOfTree s = Unit {0}
 
 -- A response can be written: the handles in it are the tree's.
 abbrev pub IsAnswerable : Response → Type 0
-IsAnswerable (response.Initiate agreed) = Unit {0}
-IsAnswerable response.Conclude = Unit {0}
 IsAnswerable (response.Confirmed id s) = IsOfTree s
-IsAnswerable (response.Error id class) = Unit {0}
-IsAnswerable (response.Reject id reason) = Unit {0}
+IsAnswerable r = Unit {0}

@@ -11,6 +11,5 @@ or_misspelled None = Err Bad
 -- Each of the one list spells what stands at its place in the other.
 abbrev pub AreEach : {A B : Type 0} → (A → B → Type 0) → List A → List B → Type 0
 AreEach Is [] [] = Unit {0}
-AreEach Is [] (y ∷ ys) = ⊥
-AreEach Is (x ∷ xs) [] = ⊥
 AreEach Is (x ∷ xs) (y ∷ ys) = Is x y × AreEach Is xs ys
+AreEach Is xs ys = ⊥

@@ -48,14 +48,7 @@ abbrev mutual
 abbrev mutual
   pub depth_of : Datum → ℕ
   depth_of (structure parts) = suc (depth_in parts)
-  depth_of (truth b) = 1
-  depth_of (bits held count) = 1
-  depth_of (integer z) = 1
-  depth_of (unsigned z) = 1
-  depth_of (octets content) = 1
-  depth_of (text content) = 1
-  depth_of (utc content) = 1
-  depth_of (other tag content) = 1
+  depth_of d = 1
 
   pub depth_in : Data → ℕ
   depth_in no_data = 0

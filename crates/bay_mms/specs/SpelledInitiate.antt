@@ -15,9 +15,8 @@ field tag (Some content) = value tag content ∷ []
 -- A content that may be left out is an integer where it came.
 abbrev pub IsNumber : Option (List ℕ) → Option ℤ → Type 0
 IsNumber None None = Unit {0}
-IsNumber None (Some z) = ⊥
-IsNumber (Some content) None = ⊥
 IsNumber (Some content) (Some z) = IsInteger content z
+IsNumber content z = ⊥
 
 -- The content is an integer of one or more.
 abbrev pub IsPositive : List ℕ → ℤ → Type 0

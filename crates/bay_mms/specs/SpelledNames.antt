@@ -20,10 +20,8 @@ IsName octets (association text) = SpellAll octets (value (context 2) text ∷ [
 -- not looked at
 abbrev pub IsPartial : List Part → Bool → Type 0
 IsPartial [] false = Unit {0}
-IsPartial [] true = ⊥
-IsPartial (part ∷ []) false = ⊥
 IsPartial (part ∷ []) true = part.tag ≡ constructed 5
-IsPartial (part ∷ next ∷ parts) alternate = ⊥
+IsPartial parts alternate = ⊥
 
 -- The octets are a variable: its name, and what may follow it.
 pub record IsVariable (octets : List ℕ) (v : VariableSpecification) : Type 0 where

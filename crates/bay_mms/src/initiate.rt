@@ -6,19 +6,10 @@ ghost use Rattle.bay_ber.specs.Values.{part_of};
 ghost use Rattle.bay_mms.specs.Grammar as spec;
 
 use crate::request::Proposal;
-use bay_ber::content::{Bits, bits_of, int_of};
+use bay_ber::content::{Bits, bits_of};
 use bay_ber::known::known_values;
 use bay_ber::tag::Tag;
 use bay_ber::values::Value;
-
-/// Returns the integer with this tag.
-#[tactic(auto, unfolding(crate::specs::Grammar::integer_under))]
-pub(crate) fn integer_under(tag: Tag, value: &Value<'_>) -> Option<i64>
-    ensures { result ≡ spec.integer_under tag (part_of value.now) }
-{
-    let content = value.under(tag)?;
-    int_of(content).ok()
-}
 
 // A number of at least 1.
 fn some_of(number: i64) -> Option<i64>
@@ -32,8 +23,7 @@ fn some_of(number: i64) -> Option<i64>
 fn outstanding_as(tag: Tag, value: &Value<'_>) -> Option<i64>
     ensures { result ≡ spec.outstanding_as tag (part_of value.now) }
 {
-    let number = integer_under(tag, value)?;
-    some_of(number)
+    some_of(value.integer_under(tag)?)
 }
 
 // The first three of the bits.
@@ -72,7 +62,7 @@ fn detail_of(parts: &[Value<'_>]) -> Option<u8>
 {
     match parts {
         [version, parameters, services] => {
-            integer_under(Tag::context(0), version)?;
+            version.integer_under(Tag::context(0))?;
             let first = parameters_as(parameters)?;
             services_as(services)?;
             Some(first)
@@ -91,22 +81,12 @@ fn detail_in(octets: &[u8]) -> Option<u8>
     detail_of(known.as_slice())
 }
 
-// The size that is proposed, if one is.
-fn size_of(value: Option<&Value<'_>>) -> Option<Option<i64>>
-    ensures { result ≡ spec.size_of (option_map part_of (option_copied value.entry)) }
+// The integer with this tag that is proposed, if one is.
+fn proposed_under(tag: Tag, value: Option<&Value<'_>>) -> Option<Option<i64>>
+    ensures { result ≡ spec.proposed_under tag (option_map part_of (option_copied value.entry)) }
 {
     match value {
-        Some(value) => Some(Some(integer_under(Tag::context(0), value)?)),
-        None => Some(None),
-    }
-}
-
-// The nesting that is proposed, if one is.
-fn nesting_of(value: Option<&Value<'_>>) -> Option<Option<i64>>
-    ensures { result ≡ spec.nesting_of (option_map part_of (option_copied value.entry)) }
-{
-    match value {
-        Some(value) => Some(Some(integer_under(Tag::context(3), value)?)),
+        Some(value) => Some(Some(value.integer_under(tag)?)),
         None => Some(None),
     }
 }
@@ -125,10 +105,10 @@ fn proposal_of(
         (part_of calling.now) (part_of called.now)
         (option_map part_of (option_copied nesting.entry)) (part_of detail.now) }
 {
-    let size = size_of(size)?;
+    let size = proposed_under(Tag::context(0), size)?;
     let calling = outstanding_as(Tag::context(1), calling)?;
     let called = outstanding_as(Tag::context(2), called)?;
-    let nesting = nesting_of(nesting)?;
+    let nesting = proposed_under(Tag::context(3), nesting)?;
     let parameters = detail_in(detail.under(Tag::context_constructed(4))?)?;
     Some(Proposal {
         size,

@@ -10,7 +10,6 @@ ghost use Rattle.bay_mms.specs.RequestViews.{place, asking};
 
 use crate::access::{name_in, names_as};
 use crate::fault::Refusal;
-use crate::initiate::integer_under;
 use crate::received::read_data;
 use crate::request::{Call, Scope};
 use bay_ber::tag::{Class, Tag};
@@ -52,12 +51,12 @@ fn place_as<'a>(value: &Value<'a>) -> Option<Scope<'a>>
 }
 
 // The number of the class of objects whose names are asked for.
-#[tactic(auto, unfolding(crate::specs::Grammar::class_as, crate::specs::Grammar::integer_under))]
+#[tactic(auto, unfolding(crate::specs::Grammar::class_as, bay_ber::specs::Values::integer_under))]
 fn class_as(value: &Value<'_>) -> Option<i64>
     ensures { result ≡ spec.class_as (part_of value.now) }
 {
     let class = inner_value(Tag::context_constructed(0), value)?;
-    integer_under(Tag::context(0), &class)
+    class.integer_under(Tag::context(0))
 }
 
 // Where names are asked for, under its tag.
