@@ -27,7 +27,7 @@ use Rattle.il_image.specs.Arithmetic.{DividesBy, comparison_holds, computation_o
 use Rattle.il_image.specs.Effects.{below, kind_of}
 use Rattle.il_image.specs.Images.{IsValue}
 use Rattle.il_image.specs.Kinds.{HasKind}
-use Rattle.il_image.specs.Machine.{State, Turn, Goes, Traps, WrongKind, ZeroDivisor, act, divides, goes, is_comparable, pushes, stores, value_of_width}
+use Rattle.il_image.specs.Machine.{State, Turn, Goes, Traps, WrongKind, ZeroDivisor, act, divides, goes, is_comparable, pushes, stores, value_of_width, most_cells}
 use Rattle.il_image.specs.Machine as machine
 use Rattle.il_image.specs.Timers.{after_call}
 use Rattle.il_image.specs.Values.{number_of, type_of}
@@ -95,15 +95,16 @@ module _ (types : List ElementaryType) (count now next p : ℕ) (cells slots : L
 
   -- A value is put on the stack.
   put : {kinds : List CellKind} (i : Instr) (v : Value) (k : CellKind) → Fit cells kinds
-      → (length (words_of cells) < 32 → IsReady i (words_for cells slots timers))
+      → (length (words_of cells) < most_cells → IsReady i (words_for cells slots timers))
       → act now i next here ≡ pushes v next here → leads i next (words_of cells) ≡ Some next
       → words_after now i (words_for cells slots timers) ≡ words_for (v ∷ cells) slots timers
-      → HasKind v k × IsValue v → length (k ∷ kinds) ≤ 32
+      → HasKind v k × IsValue v → length (k ∷ kinds) ≤ most_cells
       → Does types count now i next p cells slots timers (k ∷ kinds)
   put {kinds} i v k fit ready goes leads_to words_are good room =
       let d = depth_of cells kinds fit in
       let size = fit-length cells kinds fit in
-      let e : nat_lt (length cells) 32 ≡ true = lt-ltb (length cells) 32 (omega arith) in
+      let e : nat_lt (length cells) most_cells ≡ true =
+      lt-ltb (length cells) most_cells (omega arith) in
       on-stack next (v ∷ cells) (ready (omega arith)) (goes ∙ rw e refl) leads_to words_are
       (good, fit) typed
 
@@ -171,14 +172,14 @@ module _ (types : List ElementaryType) (count now next p : ℕ) (cells slots : L
   -- what a timer shows is put on the stack
   show : {kinds : List CellKind} (i : Instr) (n : ℕ) (make : TimerState → Value) (k : CellKind)
       → n < count → Fit cells kinds
-      → (length (words_of cells) < 32 → n < length timers
+      → (length (words_of cells) < most_cells → n < length timers
       → IsReady i (words_for cells slots timers))
       → act now i next here ≡ machine.with_timer n here (λ t. pushes (make t) next here)
       → leads i next (words_of cells) ≡ Some next
       → words_after now i (words_for cells slots timers)
       ≡ words_for (make (timer_at timers n) ∷ cells) slots timers
       → HasKind (make (timer_at timers n)) k × IsValue (make (timer_at timers n))
-      → length (k ∷ kinds) ≤ 32
+      → length (k ∷ kinds) ≤ most_cells
       → Does types count now i next p cells slots timers (k ∷ kinds)
   show i n make k below fit ready goes leads_to words_are good room =
       let size : length timers ≡ count = typed.so_many in
@@ -188,14 +189,14 @@ module _ (types : List ElementaryType) (count now next p : ℕ) (cells slots : L
       (timer-is timers n there)) leads_to words_are good room
 
   module _ (kinds : List CellKind) (fit : Fit cells kinds) where
-    pub does-push : (v : Value) → IsValue v → length (kind_of v ∷ kinds) ≤ 32
+    pub does-push : (v : Value) → IsValue v → length (kind_of v ∷ kinds) ≤ most_cells
         → Does types count now (Push v) next p cells slots timers (kind_of v ∷ kinds)
     unfolding act
     does-push v good room =
         put (Push v) v (kind_of v) fit (λ deep. deep) refl refl refl (kind-there v, good) room
 
     pub does-load : (n : ℕ) (t : ElementaryType) → slice_get types n ≡ Some t
-        → length (Plain t ∷ kinds) ≤ 32
+        → length (Plain t ∷ kinds) ≤ most_cells
         → Does types count now (Slot Load n) next p cells slots timers (Plain t ∷ kinds)
     unfolding act
     does-load n t e room =
@@ -218,7 +219,7 @@ module _ (types : List ElementaryType) (count now next p : ℕ) (cells slots : L
         fit
         (call-good (timer_at timers n) now (timer-good timers n typed.times))
 
-    pub does-load-output : (n : ℕ) → n < count → length (Plain elementary.Bool ∷ kinds) ≤ 32
+    pub does-load-output : (n : ℕ) → n < count → length (Plain elementary.Bool ∷ kinds) ≤ most_cells
         → Does types count now (Timer LoadOutput n) next p cells slots timers
         (Plain elementary.Bool ∷ kinds)
     unfolding act
@@ -229,7 +230,8 @@ module _ (types : List ElementaryType) (count now next p : ℕ) (cells slots : L
         (sym (truth-word (timer_at timers n).output)))
         (refl, truth-value (timer_at timers n).output) room
 
-    pub does-load-elapsed : (n : ℕ) → n < count → length (Plain elementary.Time ∷ kinds) ≤ 32
+    pub does-load-elapsed : (n : ℕ) → n < count
+        → length (Plain elementary.Time ∷ kinds) ≤ most_cells
         → Does types count now (Timer LoadElapsed n) next p cells slots timers
         (Plain elementary.Time ∷ kinds)
     unfolding act

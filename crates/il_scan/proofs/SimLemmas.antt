@@ -31,7 +31,7 @@ use Rattle.il_image.specs.Arithmetic.{DividesBy, type_of_width}
 use Rattle.il_image.specs.Effects.{are_compared, below, compares, effect, kind_of, looks_at, second_kind, two, type_of_kind, widens, with_timer, with_truth}
 use Rattle.il_image.specs.Images.{IsValue}
 use Rattle.il_image.specs.Kinds.{HasKind, is_within}
-use Rattle.il_image.specs.Machine.{divides, value_of_width}
+use Rattle.il_image.specs.Machine.{divides, value_of_width, most_cells}
 use Rattle.il_image.specs.Spelling.{IsInstr}
 use Rattle.il_image.specs.Values.{number_of, type_of}
 use Rattle.il_image.proofs.KindLemmas.{kind-above, same-is}
@@ -43,8 +43,8 @@ use Rattle.il_scan.proofs.DoesLemmas.{Does, does-combine, does-compare, does-com
 
 -- ---- each instruction that is allowed
 
-room-of : (given after : List CellKind) → Some given ≡ Some after → length after ≤ 32
-    → length given ≤ 32
+room-of : (given after : List CellKind) → Some given ≡ Some after → length after ≤ most_cells
+    → length given ≤ most_cells
 room-of given after e room = let size : length given ≡ length after =
     ap (λ (k : List CellKind). length k) (same_Some given after e) in omega arith
 
@@ -239,7 +239,7 @@ module _ (types : List ElementaryType) (count now next p : ℕ) (slots : List Va
 
     pub does : (i : Instr) (cells : List Value) (kinds : List CellKind)
         → effect types count i kinds ≡ Some after → IsInstr i → (i ≡ Halt → ⊥) → Fit cells kinds
-        → length after ≤ 32 → Done i cells after
+        → length after ≤ most_cells → Done i cells after
     does Halt cells kinds e good going fit room = absurd (going refl)
     does (Push v) cells kinds e good going fit room =
         to-kinds (Push v) cells (kind_of v ∷ kinds) e

@@ -1,8 +1,9 @@
 -- One turn of the machine of words is one turn of the machine of typed values.
-use Rattle.std.proofs.Common.{◌≡◌, ℕ, zero, suc, ◌+◌, ◌<◌, ◌≤◌, ℤ, pos, Bool, true, false, cond, List, [], ◌∷◌, length, refl, sym, ap, subst, ◌∙◌, arith, Option, Some, None, ◌⊎◌, inl, inr}
+use Rattle.std.proofs.Common.{◌≡◌, ℕ, ◌+◌, ◌<◌, ◌≤◌, ℤ, pos, Bool, true, false, cond, List, [], ◌∷◌, length, refl, sym, ap, subst, ◌∙◌, arith, Option, Some, None, ◌⊎◌, inl, inr}
 use Rattle.std.proofs.lemmas.Option.{same_Some}
-use Rattle.std.specs.Prelude.{IsSome, slice_get, slice_set}
+use Rattle.std.specs.Prelude.{IsSome, slice_get}
 use Rattle.std.specs.Ordering.{int_eq}
+use Rattle.std.proofs.lemmas.Bool.{both_ways}
 use Rattle.il_image.specs.declared.instr.Instr.{Instr}
 use Rattle.il_image.specs.declared.instr.Instr.TheVariants.{Halt, Slot, Jump, Timer}
 use Rattle.il_image.specs.declared.kind.CellKind.{CellKind}
@@ -11,7 +12,7 @@ use Rattle.il_image.specs.declared.opcode.When.TheVariants.{Always, IfTrue, IfFa
 use Rattle.il_image.specs.declared.opcode.TimerUse.TheVariants.{Run}
 use Rattle.il_image.specs.Effects.{effect}
 use Rattle.il_image.specs.Images.{Image}
-use Rattle.il_image.specs.Machine.{Goes, State, act, turn, turn_of}
+use Rattle.il_image.specs.Machine.{Goes, State, act, turn, turn_of, most_cells}
 use Rattle.il_image.specs.Octets.{AreOctets}
 use Rattle.il_image.specs.Reading.{instr_at}
 use Rattle.il_image.specs.Tables.{Enters, IsPlace, LeadsTo, slot_types}
@@ -24,6 +25,7 @@ use Rattle.il_verify.specs.Slots.{slots_of}
 use Rattle.il_verify.proofs.TableLemmas.{same-instr, some-way}
 use Rattle.il_verify.proofs.WithinLemmas.{within-length}
 use Rattle.il_image.specs.declared.value.Value.{Value}
+use Rattle.il_image.proofs.SetLemmas.{set-elsewhere}
 use Rattle.il_scan.specs.Standing.{Fit, KeepsSlots, StandsAs, StandsAt, Turns, words_at}
 use Rattle.il_scan.specs.Working.{IsReady, Words, leads, top, words_after}
 use Rattle.il_scan.proofs.CellLemmas.{fit-length}
@@ -51,27 +53,18 @@ leads-there i next stack to e = sym (same_Some next to e)
 
 -- ---- slots of points that may only be read
 
-get-other : {A : Type 0} (xs : List A) (k n : ℕ) (x : A) → (n ≡ k → ⊥)
-    → slice_get (slice_set xs k x) n ≡ slice_get xs n
-get-other (y ∷ xs) zero zero x ne = absurd (ne refl)
-get-other (y ∷ xs) (suc k) (suc n) x ne = get-other xs k n x (λ e. ne (ap suc e))
-get-other i y z x ne = refl
-
-not-both : (b : Bool) → b ≡ true → b ≡ false → ⊥
-not-both b e f = absurd cc
-
 module _ (image : Image) (now n : ℕ) (only : is_read_only (slots_of image) n ≡ true) where
   other : (k : ℕ) → is_read_only (slots_of image) k ≡ false → n ≡ k → ⊥
   other k e same =
-      not-both (is_read_only (slots_of image) k)
-      (ap (λ (j : ℕ). is_read_only (slots_of image) j) (sym same) ∙ only) e
+      both_ways (is_read_only (slots_of image) k) e
+      (ap (λ (j : ℕ). is_read_only (slots_of image) j) (sym same) ∙ only)
 
   keeps : (i : Instr) (m : Words) → writes_read_only (slots_of image) i ≡ false
       → slice_get (words_after now i m).slots n ≡ slice_get m.slots n
   keeps (Slot Load k) m e = refl
-  keeps (Slot Store k) m e = get-other m.slots k n _ (other k e)
-  keeps (Slot SetIf k) m e = get-other m.slots k n _ (other k e)
-  keeps (Slot ResetIf k) m e = get-other m.slots k n _ (other k e)
+  keeps (Slot Store k) m e = set-elsewhere m.slots k n _ (other k e)
+  keeps (Slot SetIf k) m e = set-elsewhere m.slots k n _ (other k e)
+  keeps (Slot ResetIf k) m e = set-elsewhere m.slots k n _ (other k e)
   keeps (Timer Run k) m e = refl
   keeps i m e = refl
 
@@ -144,7 +137,7 @@ module _ (image : Image) (now : ℕ) (s : State) (h : StandsAs image s) where
     doing to way =
         let a = allows in
         let e = a.enters to way in
-        let most : length e.0 ≤ 32 = h.agrees.room to e.0 e.1 in
+        let most : length e.0 ≤ most_cells = h.agrees.room to e.0 e.1 in
         let size : length a.after ≡ length e.0 = within-length a.after e.0 e.2 in
         does (slot_types image) (length image.timers) now next s.place s.slots s.timers a.after
         h.typed i s.cells h.kinds a.effect_is

@@ -16,6 +16,7 @@ use Rattle.bay_base.specs.declared.types.TimerKind.TheVariants.{OnDelay}
 use Rattle.il_image.specs.Arithmetic.{DividesBy, comparison_holds, computation_of}
 use Rattle.il_image.specs.Timers.{after_call, first_state}
 use Rattle.il_image.specs.Values.{number_of}
+use Rattle.il_image.specs.Machine.{most_cells}
 use Rattle.il_scan.specs.Words.{slot_at}
 
 -- ---- what an instruction does to words
@@ -136,9 +137,9 @@ IsSpan w = (n : ℕ) × (w ≡ pos n) × (n ≤ 0x7FFF_FFFF)
 -- 0.
 abbrev pub IsReady : Instr → Words → Type 0
 IsReady Halt m = Unit {0}
-IsReady (Push v) m = length m.stack < 32
+IsReady (Push v) m = length m.stack < most_cells
 IsReady Drop m = 0 < length m.stack
-IsReady (Slot Load n) m = (length m.stack < 32) × (n < length m.slots)
+IsReady (Slot Load n) m = (length m.stack < most_cells) × (n < length m.slots)
 IsReady (Slot Store n) m = (0 < length m.stack) × (n < length m.slots)
 IsReady (Slot SetIf n) m = (0 < length m.stack) × (n < length m.slots)
 IsReady (Slot ResetIf n) m = (0 < length m.stack) × (n < length m.slots)
@@ -153,5 +154,5 @@ IsReady (Jump IfFalse distance) m = 0 < length m.stack
 IsReady (Timer SetInput n) m = (0 < length m.stack) × (n < length m.timers)
 IsReady (Timer SetPreset n) m = (0 < length m.stack) × (n < length m.timers) × IsSpan (top m.stack)
 IsReady (Timer Run n) m = n < length m.timers
-IsReady (Timer LoadOutput n) m = (length m.stack < 32) × (n < length m.timers)
-IsReady (Timer LoadElapsed n) m = (length m.stack < 32) × (n < length m.timers)
+IsReady (Timer LoadOutput n) m = (length m.stack < most_cells) × (n < length m.timers)
+IsReady (Timer LoadElapsed n) m = (length m.stack < most_cells) × (n < length m.timers)

@@ -3,6 +3,7 @@ ghost use Rattle.std.specs.Prelude.{◌≡◌, ◌+◌, ◌^◌, ◌<◌, ◌∷
 ghost use Rattle.std.specs.Ordering.{int_eq};
 ghost use Rattle.il_image.specs.Arithmetic.{DividesBy, comparison_holds, computation_of};
 ghost use Rattle.il_image.specs.Timers as time;
+ghost use Rattle.il_image.specs.Machine.{most_cells};
 ghost use Rattle.il_scan.specs.Working as spec;
 ghost use Rattle.il_scan.specs.Words.{slot_at};
 ghost use Rattle.il_scan.specs.Working.{IsReady, IsSpan, is_not_zero, logic_word, timer_at, word_of, words_after, words};
@@ -135,17 +136,10 @@ fn relate_by(stack: &mut Stack, comparison: Comparison)
     }
 }
 
-// WIDEN, WIDENL: does nothing, because the word of a number is the same at each width.
-#[inline(always)]
-fn widen(_stack: &mut Stack)
-    requires { 0 < length _stack.old }
-    ensures { _stack.new ≡ _stack.old }
-{}
-
 // LOAD: pushes a slot's word.
 #[inline(always)]
 fn load(stack: &mut Stack, slots: &[i64], number: u16)
-    requires room { length stack.old < 32 }
+    requires room { length stack.old < most_cells }
     requires there { number < length slots.now }
     ensures { stack.new ≡ slot_at slots.now number ∷ stack.old }
 {
@@ -233,7 +227,7 @@ fn run(timers: &mut [TimerState], number: u16, now: u64)
 // LOADQ: pushes Q.
 #[inline(always)]
 fn load_output(stack: &mut Stack, timers: &[TimerState], number: u16)
-    requires room { length stack.old < 32 }
+    requires room { length stack.old < most_cells }
     requires there { number < length timers.now }
     ensures { stack.new ≡ word_of (timer_at timers.now number).output ∷ stack.old }
 {
@@ -244,7 +238,7 @@ fn load_output(stack: &mut Stack, timers: &[TimerState], number: u16)
 // LOADET: pushes ET.
 #[inline(always)]
 fn load_elapsed(stack: &mut Stack, timers: &[TimerState], number: u16)
-    requires room { length stack.old < 32 }
+    requires room { length stack.old < most_cells }
     requires there { number < length timers.now }
     ensures { stack.new ≡ pos (timer_at timers.now number).elapsed ∷ stack.old }
 {
@@ -283,7 +277,8 @@ pub(crate) fn act(
         Instr::Combine(connective) => combine(stack, connective),
         Instr::Compute(operation, width) => calculate_by(stack, operation, width),
         Instr::Compare(comparison) => relate_by(stack, comparison),
-        Instr::Widen(_) => widen(stack),
+        // The word of a number is the same at each width.
+        Instr::Widen(_) => {}
         Instr::Jump(When::Always, distance) => return Some(next + usize::from(distance)),
         Instr::Jump(When::IfTrue, distance) => {
             return Some(choose(stack, next, next + usize::from(distance)));

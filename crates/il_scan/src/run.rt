@@ -1,5 +1,6 @@
 // A run of verified code, from its first instruction to a HALT.
 ghost use Rattle.std.specs.Prelude.{◌≡◌, ◌<◌, length};
+ghost use Rattle.il_image.specs.Images.{Image};
 ghost use Rattle.il_image.specs.Machine.{State};
 ghost use Rattle.il_scan.specs.Standing.{IsHeld, RunsTo, StandsAt, Turns};
 ghost use Rattle.il_scan.specs.Working.{words};
@@ -15,7 +16,6 @@ use il_image::timer::TimerState;
 // is none.
 #[inline(always)]
 fn turn(
-    _image: &Image,
     code: &[u8],
     now: u64,
     place: usize,
@@ -23,13 +23,12 @@ fn turn(
     slots: &mut [i64],
     timers: &mut [TimerState],
 ) -> Option<usize>
-    requires code { code.now ≡ _image.now.code }
-    requires stands { (s : State)
-        × StandsAt _image.now place (words stack.old slots.old timers.old) s }
-    ensures within { place < length _image.now.code }
-    ensures turns { (s : State) → StandsAt _image.now place (words stack.old slots.old timers.old) s
-        →
-        Turns _image.now now s result (words stack.new slots.new timers.new) }
+    requires { (image : Image) × (s : State) × (image.code ≡ code.now)
+        × StandsAt image place (words stack.old slots.old timers.old) s }
+    ensures within { place < length code.now }
+    ensures turns { (image : Image) (s : State) → image.code ≡ code.now
+        → StandsAt image place (words stack.old slots.old timers.old) s
+        → Turns image now s result (words stack.new slots.new timers.new) }
 {
     let (instr, next) = fetch(code, place);
     act(now, instr, next, stack, slots, timers)
@@ -46,7 +45,7 @@ pub(crate) fn run(image: &Image, now: u64, slots: &mut [i64], timers: &mut [Time
     let mut stack = Stack::new();
     let mut place = 0;
     let mut steps = 0;
-    while let Some(next) = turn(image, code, now, place, &mut stack, slots, timers) {
+    while let Some(next) = turn(code, now, place, &mut stack, slots, timers) {
         place = next;
         steps += 1;
     }

@@ -1,25 +1,30 @@
-// The operand stack: at most 32 words, which contracts see with the top first.
+// The operand stack: words, which contracts see with the top first.
 ghost use Rattle.std.specs.Prelude.{◌≡◌, ◌<◌, ◌∷◌, [], drop, length};
+ghost use Rattle.il_image.specs.Machine.{most_cells};
 ghost use Rattle.il_scan.specs.Working as spec;
 
 use arrayvec::ArrayVec;
 use std::marker::Model;
 
+// The room for words.
+const ROOM: usize = 32;
+
 /// The operand stack. Verified code always leaves room for a pushed word and has a word to pop, so
 /// neither is checked.
 #[derive(Drop)]
 pub(crate) struct Stack {
-    words: ArrayVec<i64, 32>,
+    words: ArrayVec<i64, ROOM>,
 }
 
 impl Model for Stack {
     ghost use Rattle.std.specs.Prelude.{◌≤◌, ℤ, List, length, reverse};
+    ghost use Rattle.il_image.specs.Machine.{most_cells};
 
     ghost Value = { List ℤ };
 
     ghost view = { λ s. reverse s.words.items };
 
-    ghost invariant = { λ s. length s.words.items ≤ 32 };
+    ghost invariant = { λ s. length s.words.items ≤ most_cells };
 }
 
 impl Stack {
@@ -38,7 +43,7 @@ impl Stack {
     pub(crate) fn pop(&mut self) -> i64
         requires { 0 < length self.old }
         ensures is { self.old ≡ result ∷ self.new }
-        ensures room { length self.new < 32 }
+        ensures room { length self.new < most_cells }
     {
         self.words.swap_remove(self.words.len() - 1)
     }
@@ -46,7 +51,7 @@ impl Stack {
     /// Pushes a word.
     #[inline(always)]
     pub(crate) fn push(&mut self, word: i64)
-        requires { length self.old < 32 }
+        requires { length self.old < most_cells }
         ensures { self.new ≡ word ∷ self.old }
     {
         self.words.push(word);

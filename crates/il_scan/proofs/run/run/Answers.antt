@@ -1,4 +1,4 @@
-use Rattle.std.proofs.Common.{◌<◌, List, ℕ, ℤ, length, subst, sym, ap, arith}
+use Rattle.std.proofs.Common.{◌<◌, List, ℕ, ℤ, length, subst, sym, arith}
 use Rattle.il_image.specs.Octets.{AreOctets}
 use Rattle.il_scan.specs.Standing.{first_state}
 use Rattle.il_scan.specs.Working.{words}
@@ -14,26 +14,39 @@ loop-next-init c =
     (starts c.args.image.now c.args.now c.args.slots.now c.args.timers.now octets c.requires.safe
     c.requires.held)
 
+pub turn-requires : goal.turn-requires
+turn-requires c =
+    let i = c.loop-next.invariant in
+    (c.args.image.now, i.state, sym c.code-code.ensures.value, i.stands)
+
 pub loop-next-smaller : goal.loop-next-smaller
 loop-next-smaller c =
     let i = c.loop-next.invariant in
+    let same = c.code-code.ensures.value in
     let first = first_state c.args.image.now c.args.slots.now c.args.timers.now in
+    let within = subst (λ (code : List ℕ). c.loop-next.place < length code) same
+    c.turn.ensures.within in
     let on : c.loop-next.place < c.in-Some.next =
-    forward c.args.image.now c.args.now first c.loop-next.place c.loop-next.steps _ i
-    c.turn.ensures.within c.in-Some.next _ (c.in-Some.ensures.turns i.state i.stands) in
-    let size = ap (λ (code : List ℕ). length code) c.code-code.ensures.value in
-    omega (arith, c.turn.ensures.within, size)
+    forward c.args.image.now c.args.now first c.loop-next.place c.loop-next.steps _ i within
+    c.in-Some.next _ (c.in-Some.ensures.turns c.args.image.now i.state (sym same) i.stands) in
+    omega (arith, c.turn.ensures.within)
 
 pub loop-next-preserved : goal.loop-next-preserved
 loop-next-preserved c =
     let i = c.loop-next.invariant in
+    let same = c.code-code.ensures.value in
     let first = first_state c.args.image.now c.args.slots.now c.args.timers.now in
-    comes-next c.args.image.now c.args.now first c.loop-next.place c.loop-next.steps _ i
-    c.turn.ensures.within c.in-Some.next _ (c.in-Some.ensures.turns i.state i.stands)
+    let within = subst (λ (code : List ℕ). c.loop-next.place < length code) same
+    c.turn.ensures.within in
+    comes-next c.args.image.now c.args.now first c.loop-next.place c.loop-next.steps _ i within
+    c.in-Some.next _ (c.in-Some.ensures.turns c.args.image.now i.state (sym same) i.stands)
 
 pub returns : goal.returns
 returns c =
     let i = c.loop-next.invariant in
+    let same = c.code-code.ensures.value in
+    let within = subst (λ (code : List ℕ). c.loop-next.place < length code) same
+    c.turn.ensures.within in
     run-ends c.args.image.now c.args.now c.args.slots.now c.args.timers.now c.loop-next.place
-    c.loop-next.steps _ i c.turn.ensures.within c.requires.safe c.requires.held _
-    (c.in_default.ensures.turns i.state i.stands)
+    c.loop-next.steps _ i within c.requires.safe c.requires.held _
+    (c.in_default.ensures.turns c.args.image.now i.state (sym same) i.stands)
