@@ -8,10 +8,11 @@ use Rattle.il_image.specs.Images.{Each, all_spelled}
 use Rattle.il_image.specs.Spelling.{spelling}
 use Rattle.il_image.specs.declared.instr.Instr.{Instr}
 use Rattle.il_check.specs.Program.{Item, label}
-use Rattle.il_compile.specs.Behind.{IsBehind, IsSettled}
+use Rattle.il_compile.specs.Behind.{IsBehind, IsSettled, octets_bound}
 use Rattle.il_compile.specs.declared.behind.Behind.{Behind}
 use Rattle.il_compile.specs.Code.{octets, octets_before, items_code}
 use Rattle.il_compile.proofs.Placing.{octets-both, octets_more, spelled-both}
+use Rattle.il_compile.specs.Compiled.{most_octets}
 
 pub one-before : (line xs behind more : List Instr) (i : Instr) → line ≡ xs ++ i ∷ []
     → more ≡ behind ++ i ∷ [] → xs ++ reverse more ≡ line ++ reverse behind
@@ -20,8 +21,8 @@ one-before line xs behind more i e f =
     ∙ sym (append_assoc xs (i ∷ []) (reverse behind)) ∙ ap (λ l. l ++ reverse behind) (sym e)
 
 pub one-counted : (line xs : List Instr) (i : Instr) (all more size : ℕ) → line ≡ xs ++ i ∷ []
-    → size ≡ length (spelling i) → more ≡ min (all + size) 65_536 → all ≤ 65_536
-    → min (more + octets xs) 65_536 ≡ min (all + octets line) 65_536
+    → size ≡ length (spelling i) → more ≡ min (all + size) octets_bound → all ≤ octets_bound
+    → min (more + octets xs) octets_bound ≡ min (all + octets line) octets_bound
 one-counted line xs i all more size e s f le =
     let a = ap octets e ∙ octets-both xs (i ∷ []) in
     let b = octets_more i [] in
@@ -38,7 +39,7 @@ pub item-behind : (n : ℕ) (i : Item) (is : List Item) (a instrs more : List In
     (places : ℕ → Option ℕ) → IsBehind n is instrs size places
     → items_code n (i ∷ is) ≡ a ++ items_code n is
     → ((l : ℕ) → octets_before n l (i ∷ is) ≡ octets a + octets_before n l is)
-    → reverse more ≡ a ++ reverse instrs → all ≡ min (size + octets a) 65_536
+    → reverse more ≡ a ++ reverse instrs → all ≡ min (size + octets a) octets_bound
     → IsBehind n (i ∷ is) more all places
 item-behind n i is a instrs more size all places b same before rev counted =
     let whole : octets (items_code n (i ∷ is)) ≡ octets a + octets (items_code n is) =
@@ -74,8 +75,8 @@ pub jump-behind : (n : ℕ) (i : Item) (is : List Item) (jump right : Instr)
     → length (spelling jump) ≡ 3 → length (spelling right) ≡ 3
     → items_code n (i ∷ is) ≡ right ∷ items_code n is
     → ((l : ℕ) → octets_before n l (i ∷ is) ≡ 3 + octets_before n l is)
-    → (octets (items_code n is) ≤ 65_535 → jump ≡ right) → reverse more ≡ jump ∷ reverse instrs
-    → all ≡ min (size + octets (jump ∷ [])) 65_536 → IsBehind n (i ∷ is) more all places
+    → (octets (items_code n is) ≤ most_octets → jump ≡ right) → reverse more ≡ jump ∷ reverse instrs
+    → all ≡ min (size + octets (jump ∷ [])) octets_bound → IsBehind n (i ∷ is) more all places
 jump-behind n i is jump right instrs more size all places b three also same before fits rev
     counted =
     let whole : octets (items_code n (i ∷ is)) ≡ 3 + octets (items_code n is) =
@@ -84,7 +85,7 @@ jump-behind n i is jump right instrs more size all places b three also same befo
     let one : octets (jump ∷ []) ≡ 3 + 0 = octets_more jump [] ∙ ap (λ k. k + 0) three in
     record {
       counted = (let c = b.counted in omega arith);
-      code = λ short. (let le : octets (items_code n is) ≤ 65_535 = omega arith in
+      code = λ short. (let le : octets (items_code n is) ≤ most_octets = omega arith in
           rev ∙ ap (λ j. j ∷ reverse instrs) (fits le) ∙ ap (λ l. right ∷ l) (b.code le)
           ∙ sym same);
       known = λ short l. (let k = b.known (omega arith) l in let e = before l in omega arith);
@@ -102,7 +103,7 @@ pub put-settled : (n : ℕ) (i : Item) (is : List Item) (a : List Instr) (old : 
     → items_code n (i ∷ is) ≡ a ++ items_code n is
     → ((l : ℕ) → octets_before n l (i ∷ is) ≡ octets a + octets_before n l is)
     → line ≡ old.line.items ++ a → reverse new.instrs.items ≡ line ++ reverse old.instrs.items
-    → new.octets ≡ min (old.octets + octets line) 65_536
+    → new.octets ≡ min (old.octets + octets line) octets_bound
     → new.line.items ≡ [] → new.places ≡ old.places → IsSettled n (i ∷ is) new
 put-settled n i is a old line new s same before put rev counted empty places =
     let just : line ≡ a = put ∙ ap (λ l. l ++ a) s.settled in
@@ -112,7 +113,7 @@ put-settled n i is a old line new s same before put rev counted empty places =
           (item-behind n i is a old.instrs.items new.instrs.items old.octets new.octets
           (get nat_eq old.places) s.behind same before
           (rev ∙ ap (λ l. l ++ reverse old.instrs.items) just)
-          (counted ∙ ap (λ l. min (old.octets + octets l) 65_536) just));
+          (counted ∙ ap (λ l. min (old.octets + octets l) octets_bound) just));
       settled = empty;
     }
 
@@ -122,10 +123,10 @@ pub put-leap : (n : ℕ) (i : Item) (is : List Item) (jump right : Instr) (old :
     → length (spelling jump) ≡ 3 → length (spelling right) ≡ 3
     → items_code n (i ∷ is) ≡ right ∷ items_code n is
     → ((l : ℕ) → octets_before n l (i ∷ is) ≡ 3 + octets_before n l is)
-    → (octets (items_code n is) ≤ 65_535 → jump ≡ right)
+    → (octets (items_code n is) ≤ most_octets → jump ≡ right)
     → line ≡ old.line.items ++ jump ∷ []
     → reverse new.instrs.items ≡ line ++ reverse old.instrs.items
-    → new.octets ≡ min (old.octets + octets line) 65_536
+    → new.octets ≡ min (old.octets + octets line) octets_bound
     → new.line.items ≡ [] → new.places ≡ old.places → IsSettled n (i ∷ is) new
 put-leap n i is jump right old line new s three also same before fits put rev counted empty places =
     let just : line ≡ jump ∷ [] = put ∙ ap (λ l. l ++ jump ∷ []) s.settled in
@@ -135,19 +136,19 @@ put-leap n i is jump right old line new s three also same before fits put rev co
           (jump-behind n i is jump right old.instrs.items new.instrs.items old.octets new.octets
           (get nat_eq old.places) s.behind three also same before fits
           (rev ∙ ap (λ l. l ++ reverse old.instrs.items) just)
-          (counted ∙ ap (λ l. min (old.octets + octets l) 65_536) just));
+          (counted ∙ ap (λ l. min (old.octets + octets l) octets_bound) just));
       settled = empty;
     }
 
 -- the distance to a label, and to the end
 pub to-label : (n l size : ℕ) (is : List Item) (instrs : List Instr) (places : ℕ → Option ℕ)
-    → IsBehind n is instrs size places → octets (items_code n is) ≤ 65_535
+    → IsBehind n is instrs size places → octets (items_code n is) ≤ most_octets
     → min (size - unwrap_or (places l) 0) 0xFFFF ≡ octets_before n l is
 to-label n l size is instrs places b short = let c = b.counted in let k =
     b.known short l in omega arith
 
 pub to-end : (n size : ℕ) (is : List Item) (instrs : List Instr) (places : ℕ → Option ℕ)
-    → IsBehind n is instrs size places → octets (items_code n is) ≤ 65_535
+    → IsBehind n is instrs size places → octets (items_code n is) ≤ most_octets
     → min size 0xFFFF ≡ octets (items_code n is)
 to-end n size is instrs places b short = let c = b.counted in omega arith
 
@@ -167,7 +168,7 @@ each-drop P f (suc n) [] h = tt
 each-drop P f (suc n) (x ∷ l) h = each-drop P f n l h.1
 
 -- the code behind an item is no longer than an image
-pub bounded : (n : ℕ) (is : List Item) (b : Behind) → IsSettled n is b → b.octets ≤ 65_536
+pub bounded : (n : ℕ) (is : List Item) (b : Behind) → IsSettled n is b → b.octets ≤ octets_bound
 bounded n is b s = let c = s.behind.counted in omega arith
 
 pub shorter : (a b c : ℕ) → a ≤ b → a - c ≤ b

@@ -11,6 +11,7 @@ use Rattle.il_image.specs.declared.opcode.TimerUse.TheVariants.{Run}
 use Rattle.il_image.specs.declared.timer.TimerState.{TimerState}
 use Rattle.il_image.specs.declared.value.Value.{Value}
 use Rattle.il_image.specs.declared.value.Value.TheVariants.{Truth, Short, Long, Wide, Span}
+use Rattle.il_image.specs.Machine.{most_cells}
 use Rattle.il_check.specs.Program.{Checked}
 use Rattle.il_check.specs.Rules as rules
 use Rattle.il_check.specs.TypedProgram.{IsArgument, AreArguments}
@@ -52,7 +53,7 @@ module _ (c : Checked) (now : ℕ) (n : ℕ) (below : n < length c.timers) where
     does : DoesAll now code (holding cells m) (holding cells after)
 
   argument-does : (a : TypedArgument) (cells : List Value) (m : Memory) → IsArgument c a
-      → HasTypes c m → length cells < 32
+      → HasTypes c m → length cells < most_cells
       → Leaves (argument_code (length c.externals) n a) cells m (with_argument n a m)
   argument-does a cells m ok ty lt =
       let f = operand-does c now a.operand (rules.input_type a.input) m cells ty ok lt in
@@ -75,7 +76,7 @@ module _ (c : Checked) (now : ℕ) (n : ℕ) (below : n < length c.timers) where
       }
 
   arguments-do : (args : TypedArguments) (cells : List Value) (m : Memory) → AreArguments c args
-      → HasTypes c m → length cells < 32
+      → HasTypes c m → length cells < most_cells
       → Leaves (arguments_code (length c.externals) n args) cells m (with_arguments n args m)
   arguments-do arguments.None cells m ok ty lt =
       record { after = m; is = refl; typed = ty; does = refl }
@@ -100,7 +101,7 @@ module _ (c : Checked) (now : ℕ) (n : ℕ) (below : n < length c.timers) where
         (holding cells s.memory) (holding cells after)
 
   pub call-does : (args : TypedArguments) (cells : List Value) (s : State) → AreArguments c args
-      → HasTypes c s.memory → length cells < 32 → Calls args cells s
+      → HasTypes c s.memory → length cells < most_cells → Calls args cells s
   call-does args cells s ok ty lt =
       let f = arguments-do args cells s.memory ok ty lt in
       let t = timer-there c f.after n f.typed below in

@@ -17,13 +17,13 @@ use Rattle.il_check.specs.declared.typed.External.{External}
 use Rattle.il_check.specs.declared.typed.Variable.{Variable}
 use Rattle.il_compile.specs.Behind.{IsSettled}
 use Rattle.il_compile.specs.Code.{items_code, octets, program_code, unset}
-use Rattle.il_compile.specs.Compiled.{compiled_of, image_of, image_size, point_of, points_octets}
+use Rattle.il_compile.specs.Compiled.{compiled_of, image_of, image_size, point_of, points_octets, most_octets}
 use Rattle.il_compile.specs.declared.behind.Behind.{Behind}
 use Rattle.il_compile.specs.declared.fault.CompileFault.TheVariants.{CodeTooLong}
 use Rattle.il_compile.specs.Correct.{DoesTheText, Follows}
 use Rattle.il_compile.specs.Meaning.{Memory}
 use Rattle.il_compile.proofs.Placing.{octets-both}
-use Rattle.il_compile.proofs.Runs.{Finds, follows}
+use Rattle.il_compile.proofs.Follows.{Finds, follows}
 use Rattle.il_compile.proofs.SizeLemmas.{size-is}
 use Rattle.il_compile.proofs.Spellable.{program-are}
 use Rattle.il_compile.proofs.Tabled.{has-table}
@@ -46,7 +46,7 @@ code-size c =
     let w = octets-both (unset ∷ []) (items_code n c.items ++ Halt ∷ []) in
     omega arith
 
-pub is-image : (c : Checked) → IsTyped c → image_size c ≤ 65_535 → IsImage (image_of c)
+pub is-image : (c : Checked) → IsTyped c → image_size c ≤ most_octets → IsImage (image_of c)
 is-image c ok short =
     let s = size-is c in
     let slots = ok.slots in
@@ -76,20 +76,21 @@ not-below a b h =
 -- what the sizes say
 pub too_long : (c : Checked) (head size : ℕ) (b : Behind) → IsSettled (length c.externals) c.items b
     → head ≡ 13 + points_octets c.externals + 9 * length c.variables + length c.timers
-    → size ≡ head + 3 + b.octets → 65_535 < size
+    → size ≡ head + 3 + b.octets → most_octets < size
     → compiled_of c ≡ Err CodeTooLong
 too_long c head size b settled h e lt =
     let s = size-is c in
     let k = code-size c in
     let n = settled.behind.counted in
-    let over : 65_535 < image_size c = omega arith in
-    ap (λ x. if x then Ok (image_of c) else Err CodeTooLong) (not-below 65_535 (image_size c) over)
+    let over : most_octets < image_size c = omega arith in
+    ap (λ x. if x then Ok (image_of c) else Err CodeTooLong)
+    (not-below most_octets (image_size c) over)
 
 pub short-enough : (c : Checked) (head size : ℕ) (b : Behind)
     → IsSettled (length c.externals) c.items b
     → head ≡ 13 + points_octets c.externals + 9 * length c.variables + length c.timers
-    → size ≡ head + 3 + b.octets → size ≤ 65_535
-    → image_size c ≤ 65_535
+    → size ≡ head + 3 + b.octets → size ≤ most_octets
+    → image_size c ≤ most_octets
 short-enough c head size b settled h e le =
     let s = size-is c in
     let k = code-size c in
@@ -97,17 +98,17 @@ short-enough c head size b settled h e le =
     omega arith
 
 -- a program whose image is short enough has one
-pub given : (c : Checked) → image_size c ≤ 65_535 → compiled_of c ≡ Ok (image_of c)
+pub given : (c : Checked) → image_size c ≤ most_octets → compiled_of c ≡ Ok (image_of c)
 given c le =
-    ap (λ x. if x then Ok (image_of c) else Err CodeTooLong) (le-leb (image_size c) 65_535 le)
+    ap (λ x. if x then Ok (image_of c) else Err CodeTooLong) (le-leb (image_size c) most_octets le)
 
 pub same-code : (c : Checked) (b : Behind) (code : List ℕ)
-    → IsSettled (length c.externals) c.items b → image_size c ≤ 65_535
+    → IsSettled (length c.externals) c.items b → image_size c ≤ most_octets
     → code ≡ all_spelled (unset ∷ reverse b.instrs.items ++ Halt ∷ []) → code ≡ (image_of c).code
 same-code c b code settled le e =
     let s = size-is c in
     let k = code-size c in
-    let short : octets (items_code (length c.externals) c.items) ≤ 65_535 = omega arith in
+    let short : octets (items_code (length c.externals) c.items) ≤ most_octets = omega arith in
     e ∙ ap (λ l. all_spelled (unset ∷ l ++ Halt ∷ [])) (settled.behind.code short)
 
 -- an image of these parts
@@ -126,11 +127,11 @@ same-image c points variables timers code p v t k =
     ∙ ap (parts (image_of c).points (image_of c).variables (image_of c).timers) k
 
 -- a program that is compiled is short enough, and its image does what it means
-was-short : (c : Checked) (i : Image) (b : Bool) → nat_le (image_size c) 65_535 ≡ b
+was-short : (c : Checked) (i : Image) (b : Bool) → nat_le (image_size c) most_octets ≡ b
     → (if b then Ok (image_of c) else Err CodeTooLong) ≡ Ok i
-    → (image_size c ≤ 65_535) × (i ≡ image_of c)
+    → (image_size c ≤ most_octets) × (i ≡ image_of c)
 was-short c i true e f =
-    (leb-true (image_size c) 65_535 e, (let same : image_of c ≡ i = cc in sym same))
+    (leb-true (image_size c) most_octets e, (let same : image_of c ≡ i = cc in sym same))
 was-short c i false e f = absurd cc
 
 -- the code has a table, so that it goes on at instructions alone
@@ -147,7 +148,7 @@ followed c table now m f = record {
 pub does-the-text : (c : Checked) (i : Image) → IsTyped c → compiled_of c ≡ Ok i
     → DoesTheText c i.code
 does-the-text c i ok e =
-    let w = was-short c i (nat_le (image_size c) 65_535) refl e in
+    let w = was-short c i (nat_le (image_size c) most_octets) refl e in
     let s = size-is c in
     let le = w.0 in
     let are = program-are c ok (omega arith) in
@@ -156,7 +157,7 @@ does-the-text c i ok e =
 
 pub is-tabled : (c : Checked) (i : Image) → IsTyped c → compiled_of c ≡ Ok i → HasTable i
 is-tabled c i ok e =
-    let w = was-short c i (nat_le (image_size c) 65_535) refl e in
+    let w = was-short c i (nat_le (image_size c) most_octets) refl e in
     let s = size-is c in
     let le = w.0 in
     subst HasTable (sym w.1) (has-table c ok (program-are c ok (omega arith)))

@@ -17,6 +17,7 @@ use Rattle.il_image.specs.declared.instr.Instr.TheVariants.{Slot, Not}
 use Rattle.il_image.specs.declared.opcode.SlotUse.TheVariants.{Store}
 use Rattle.il_image.specs.declared.value.Value.{Value}
 use Rattle.il_image.specs.declared.value.Value.TheVariants.{Truth, Span}
+use Rattle.il_image.specs.Machine.{most_cells}
 use Rattle.il_check.specs.Program.{Checked, Entry, operation, block, Entries, no_entries, entry}
 use Rattle.il_check.specs.Rules as rules
 use Rattle.il_check.specs.TypedProgram.{slot_type, IsOperand, is_divisor, IsOperation, IsEntry, AreEntries, entry_depth, entries_depth}
@@ -59,7 +60,7 @@ module _ (c : Checked) (now : ℕ) where
     pub does : Does now (fetch (length c.externals) x) (holding cells m) (holding (value ∷ cells) m)
 
   pub operand-does : (x : TypedOperand) (kind : ElementaryType) (m : Memory) (cells : List Value)
-      → HasTypes c m → IsOperand c x kind → length cells < 32 → Fetched x kind m cells
+      → HasTypes c m → IsOperand c x kind → length cells < most_cells → Fetched x kind m cells
   operand-does (operand.Literal v) kind m cells ty ok lt =
       record { value = v; is = refl; type = ok.1; does = pushed now (flat m) m.timers v cells lt }
   operand-does (operand.Slot s) kind m cells ty ok lt =
@@ -360,7 +361,7 @@ module _ (c : Checked) (now : ℕ) where
 
   pub operation-does : (o : SimpleOperation) (t u : Option ElementaryType) (s : State)
       (cell : Value) (below : List Value) → IsOperation c o t u → Agrees t s.result cell
-      → HasTypes c s.memory → length below + 2 ≤ 32
+      → HasTypes c s.memory → length below + 2 ≤ most_cells
       → Gives (operation_code (length c.externals) o) (holding (cell ∷ below) s.memory) below u
       (state_after o s)
   operation-does (op.Load negated x) t u s cell below ok ag ty room =
@@ -431,7 +432,7 @@ module _ (c : Checked) (now : ℕ) where
   mutual
     pub entry-does : (e : Entry) (t u : Option ElementaryType) (s : State) (cell : Value)
         (below : List Value) → IsEntry c e t u → Agrees t s.result cell → HasTypes c s.memory
-        → length below + entry_depth e + 2 ≤ 32
+        → length below + entry_depth e + 2 ≤ most_cells
         → Gives (entry_code (length c.externals) e) (holding (cell ∷ below) s.memory) below u
         (mean_entry e s)
     entry-does (operation o) t u s cell below ok ag ty room =
@@ -461,7 +462,7 @@ module _ (c : Checked) (now : ℕ) where
 
     entries-do : (es : Entries) (t u : Option ElementaryType) (s : State) (cell : Value)
         (below : List Value) → AreEntries c es t u → Agrees t s.result cell → HasTypes c s.memory
-        → length below + entries_depth es + 2 ≤ 32
+        → length below + entries_depth es + 2 ≤ most_cells
         → Gives (entries_code (length c.externals) es) (holding (cell ∷ below) s.memory) below u
         (mean_entries es s)
     entries-do no_entries t u s cell below ok ag ty room =

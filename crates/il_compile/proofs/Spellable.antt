@@ -13,6 +13,7 @@ use Rattle.il_image.specs.Spelling.{IsInstr}
 use Rattle.il_image.specs.Values.{type_of}
 use Rattle.il_image.specs.declared.instr.Instr.TheVariants.{Halt, Timer, Jump}
 use Rattle.il_image.specs.declared.opcode.TimerUse.TheVariants.{Run}
+use Rattle.il_image.specs.Machine.{most_slots, most_timers}
 use Rattle.il_check.specs.Labelling.{Labelling, Carried, beginning}
 use Rattle.il_check.specs.Program.{Checked, Entry, operation, block, Entries, no_entries, entry, Item, label, transfer, plain}
 use Rattle.il_check.specs.TypedProgram.{slot_type, IsOperand, IsOperation, IsEntry, AreEntries, IsArgument, AreArguments, AreItems, IsTyped}
@@ -30,7 +31,8 @@ use Rattle.il_compile.specs.Behind.{AreSpellable, IsSpellableEntry, AreSpellable
 use Rattle.il_compile.specs.Code.{slot_number, fetch, negation, sense_instr, operator_code, store_code, operation_code, unset, entry_code, entries_code, input_use, argument_code, arguments_code, transfer_code, octets, octets_before, distance, items_code, program_code}
 use Rattle.il_compile.specs.Senses.{Sense, connects, computes, compares, sense_of, when_of}
 use Rattle.il_compile.proofs.Placing.{octets-both}
-use Rattle.il_compile.proofs.Runs.{transfer-size}
+use Rattle.il_compile.proofs.Follows.{transfer-size}
+use Rattle.il_compile.specs.Compiled.{most_octets}
 
 each-both : {A : Type 0} (P : A → Type 0) (a b : List A) → Each P a → Each P b → Each P (a ++ b)
 each-both P [] b h k = k
@@ -63,8 +65,8 @@ store-is store.Negated n h = (tt, (h, (tt, tt)))
 store-is store.Set n h = (h, tt)
 store-is store.Reset n h = (h, tt)
 
-module _ (c : Checked) (few : length c.externals + length c.variables ≤ 512)
-    (timers : length c.timers ≤ 64) where
+module _ (c : Checked) (few : length c.externals + length c.variables ≤ most_slots)
+    (timers : length c.timers ≤ most_timers) where
   slot-is : (s : Slot) (kind : ElementaryType) → slot_type c s ≡ Some kind
       → slot_number (length c.externals) s < 2 ^ 16
   slot-is (External n) kind e = let h =
@@ -170,7 +172,8 @@ no-further n l (transfer t ∷ is) =
 no-further n l (plain e ∷ is) = let h =
     no-further n l is in omega (arith, octets-both (entry_code n e) (items_code n is))
 
-pub items-are : (n : ℕ) (is : List Item) → AreSpellable n is → octets (items_code n is) ≤ 65_535
+pub items-are : (n : ℕ) (is : List Item) → AreSpellable n is
+    → octets (items_code n is) ≤ most_octets
     → Each IsInstr (items_code n is)
 items-are n [] h short = tt
 items-are n (label k ∷ is) h short = items-are n is h.1 short
@@ -191,7 +194,7 @@ items-are n (plain e ∷ is) h short =
     each-both IsInstr (entry_code n e) (items_code n is) (entry-are n e h.0)
     (items-are n is h.1 (omega arith))
 
-pub program-are : (c : Checked) → IsTyped c → octets (program_code c) ≤ 65_535
+pub program-are : (c : Checked) → IsTyped c → octets (program_code c) ≤ most_octets
     → Each IsInstr (program_code c)
 program-are c ok short =
     let n = length c.externals in

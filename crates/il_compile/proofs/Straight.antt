@@ -4,7 +4,7 @@ use Rattle.std.specs.Prelude.{slice_get, slice_set, nat_lt, if◌then◌else◌,
 use Rattle.std.specs.Ordering.{int_eq}
 use Rattle.std.proofs.lemmas.Bool.{lt-ltb}
 use Rattle.bay_base.specs.Types.{same_type}
-use Rattle.il_image.specs.Machine.{State, Goes, Traps, WrongKind, ZeroDivisor, act, goes, is_comparable, divides, value_of_width}
+use Rattle.il_image.specs.Machine.{State, Goes, Traps, WrongKind, ZeroDivisor, act, goes, is_comparable, divides, value_of_width, most_cells}
 use Rattle.il_image.specs.Arithmetic.{computation_of, comparison_holds, logic_of, wider_value}
 use Rattle.il_image.specs.Timers.{after_call}
 use Rattle.il_image.specs.Values.{number_of, type_of}
@@ -62,11 +62,11 @@ alone now i a b d = (b, d, refl)
 -- ---- cells
 
 module _ (now : ℕ) (slots : List Value) (timers : List TimerState) where
-  pub pushed : (v : Value) (cells : List Value) → length cells < 32
+  pub pushed : (v : Value) (cells : List Value) → length cells < most_cells
       → Does now (Push v) (core cells slots timers) (core (v ∷ cells) slots timers)
   unfolding act
-  pushed v cells lt p next = let e : nat_lt (length cells) 32 ≡ true =
-      lt-ltb (length cells) 32 lt in rw e refl
+  pushed v cells lt p next = let e : nat_lt (length cells) most_cells ≡ true =
+      lt-ltb (length cells) most_cells lt in rw e refl
 
   pub dropped : (v : Value) (cells : List Value)
       → Does now Drop (core (v ∷ cells) slots timers) (core cells slots timers)
@@ -156,11 +156,11 @@ module _ (now : ℕ) (slots : List Value) (timers : List TimerState) where
   -- ---- slots
 
   pub fetched : (n : ℕ) (v : Value) (cells : List Value) → slice_get slots n ≡ Some v
-      → length cells < 32 → Does now (Slot Load n) (core cells slots timers)
+      → length cells < most_cells → Does now (Slot Load n) (core cells slots timers)
       (core (v ∷ cells) slots timers)
   unfolding act
-  fetched n v cells is lt p next = let e : nat_lt (length cells) 32 ≡ true =
-      lt-ltb (length cells) 32 lt in rw (is, e) refl
+  fetched n v cells is lt p next = let e : nat_lt (length cells) most_cells ≡ true =
+      lt-ltb (length cells) most_cells lt in rw (is, e) refl
 
   pub kept : (n : ℕ) (v old : Value) (cells : List Value) → slice_get slots n ≡ Some old
       → same_type (type_of v) (type_of old) ≡ true
@@ -208,15 +208,15 @@ module _ (now : ℕ) (slots : List Value) (timers : List TimerState) where
   ran n t cells is p next = rw is refl
 
   pub output-fetched : (n : ℕ) (t : TimerState) (cells : List Value) → slice_get timers n ≡ Some t
-      → length cells < 32 → Does now (Timer LoadOutput n) (core cells slots timers)
+      → length cells < most_cells → Does now (Timer LoadOutput n) (core cells slots timers)
       (core (Truth t.output ∷ cells) slots timers)
   unfolding act
-  output-fetched n t cells is lt p next = let e : nat_lt (length cells) 32 ≡ true =
-      lt-ltb (length cells) 32 lt in rw (is, e) refl
+  output-fetched n t cells is lt p next = let e : nat_lt (length cells) most_cells ≡ true =
+      lt-ltb (length cells) most_cells lt in rw (is, e) refl
 
   pub elapsed-fetched : (n : ℕ) (t : TimerState) (cells : List Value) → slice_get timers n ≡ Some t
-      → length cells < 32 → Does now (Timer LoadElapsed n) (core cells slots timers)
+      → length cells < most_cells → Does now (Timer LoadElapsed n) (core cells slots timers)
       (core (Span t.elapsed ∷ cells) slots timers)
   unfolding act
-  elapsed-fetched n t cells is lt p next = let e : nat_lt (length cells) 32 ≡ true =
-      lt-ltb (length cells) 32 lt in rw (is, e) refl
+  elapsed-fetched n t cells is lt p next = let e : nat_lt (length cells) most_cells ≡ true =
+      lt-ltb (length cells) most_cells lt in rw (is, e) refl

@@ -7,6 +7,7 @@ use Rattle.il_image.specs.Spelling.{spelling}
 use Rattle.il_image.specs.Tables.{Agrees, Enters, IsAllowed, IsPlace, IsSuccessor, LeadsTo, slot_types}
 use Rattle.il_image.specs.declared.instr.Instr.{Instr}
 use Rattle.il_image.specs.declared.kind.CellKind.{CellKind}
+use Rattle.il_image.specs.Machine.{most_cells}
 use Rattle.il_compile.specs.Code.{octets}
 use Rattle.il_compile.proofs.Placing.{Stands, octets-both, octets_more}
 use Rattle.il_compile.proofs.TabledRows.{At, Row, at-found, at_place, behind-row, behind-rows, find-row, instrs-both, instrs_of, is-at, lead-off, lead-on, some-row, table_of}
@@ -19,7 +20,7 @@ pub record IsRight (image : Image) (r : Row) (behind : List Row) : Type 0 where
   pub after : List CellKind
   pub effect : effect (slot_types image) (length image.timers) r.instr r.kinds ≡ Some after
   pub enters : (d : ℕ) → LeadsTo r.instr 0 d → Enters (table_of behind) d after
-  pub room : length r.kinds ≤ 32
+  pub room : length r.kinds ≤ most_cells
 
 -- each row of the table agrees with those behind it
 abbrev pub AreRight : Image → List Row → Type 0
@@ -161,11 +162,11 @@ module _ (image : Image) (rows : List Row) (whole : Stands image.code 0 (instrs_
       }
 
   room-at : AreRight image rows → (place : ℕ) (kinds : List CellKind)
-      → table_of rows place ≡ Some kinds → length kinds ≤ 32
+      → table_of rows place ≡ Some kinds → length kinds ≤ most_cells
   room-at right place kinds e =
       let f = find-row rows place kinds e in
       let ok = right-at image f.before f.row f.behind (subst (AreRight image) f.is right) in
-      subst (λ ks. length ks ≤ 32) f.same ok.room
+      subst (λ ks. length ks ≤ most_cells) f.same ok.room
 
   to-place : (place : ℕ) (o : Option (List CellKind)) → table_of rows place ≡ o → IsSome o
       → IsPlace image.code place

@@ -1,6 +1,6 @@
 -- What operations, parentheses and calls make of the kinds on the stack.
 use Rattle.std.proofs.Common.{◌≡◌, ℕ, ◌+◌, ◌<◌, ◌≤◌, ◌&&◌, Bool, true, false, not, List, [], ◌∷◌, ◌++◌, length, Option, Some, None, refl, sym, ap, subst, ◌∙◌, arith}
-use Rattle.std.proofs.lemmas.Bool.{and_parts}
+use Rattle.std.proofs.lemmas.Bool.{and_parts, both_ways}
 use Rattle.std.specs.Prelude.{slice_get}
 use Rattle.bay_base.specs.declared.types.ElementaryType.{ElementaryType}
 use Rattle.bay_base.specs.declared.types.ElementaryType.TheVariants as elementary
@@ -17,6 +17,7 @@ use Rattle.il_image.specs.declared.kind.CellKind.TheVariants.{Plain, NotZero}
 use Rattle.il_image.specs.declared.opcode.TimerUse.TheVariants.{Run}
 use Rattle.il_image.specs.declared.value.Value.TheVariants.{Truth}
 use Rattle.il_image.proofs.KindLemmas.{within-any}
+use Rattle.il_image.specs.Machine.{most_cells}
 use Rattle.il_check.specs.Program.{Checked, Entry, operation, block, Entries, no_entries, entry}
 use Rattle.il_check.specs.Rules as rules
 use Rattle.il_check.specs.TypedProgram.{AreArguments, AreEntries, IsArgument, IsEntry, IsOperation, entries_depth, entry_depth, is_divisor}
@@ -53,9 +54,6 @@ divisor-there true true h e = refl
 divisor-there true false h e = absurd cc
 divisor-there false b h e = absurd cc
 
-not-both : (b : Bool) → b ≡ true → b ≡ false → ⊥
-not-both b e f = absurd cc
-
 module _ (c : Checked) where
   -- what code leaves of the kinds on the stack: a cell of the type on those below
   pub record Leaves (code : List Instr) (from below : List CellKind) (u : Option ElementaryType)
@@ -66,7 +64,8 @@ module _ (c : Checked) where
 
   -- N behind an operator or a load
   negated-flows : (negated : Bool) (kind : ElementaryType) (v : CellKind) (below : List CellKind)
-      → is_within v (Plain kind) ≡ true → rules.may_negate negated kind ≡ true → length below < 32
+      → is_within v (Plain kind) ≡ true → rules.may_negate negated kind ≡ true
+      → length below < most_cells
       → Leaves (negation negated) (v ∷ below) below (Some kind)
   negated-flows false kind v below h may room = record { top = v; fits = h; flow = refl }
   negated-flows true kind v below h may room =
@@ -81,7 +80,7 @@ module _ (c : Checked) where
       (below : List CellKind) → is_within v (Plain kind) ≡ true → is_within a (Plain kind) ≡ true
       → rules.works o negated kind ≡ true
       → (rules.divides o ≡ true → is_within v (NotZero (width_of kind)) ≡ true)
-      → length below + 2 ≤ 32
+      → length below + 2 ≤ most_cells
       → Leaves (operator_code o kind negated) (v ∷ a ∷ below) below (Some (rules.gives o kind))
   operator-flows o false kind v a below h g works d room =
       let same = same-sense o in
@@ -121,7 +120,7 @@ module _ (c : Checked) where
 
   bool-flows : (how : StoreKind) (n : ℕ) (top : CellKind) (below : List CellKind)
       → slice_get (slots c) n ≡ Some elementary.Bool → slice_get (writable c) n ≡ Some true
-      → is_within top (Plain elementary.Bool) ≡ true → length below < 32
+      → is_within top (Plain elementary.Bool) ≡ true → length below < most_cells
       → Leaves (store_code how n) (top ∷ below) below (Some elementary.Bool)
   bool-flows store.Plain n top below s w h room =
       record {
@@ -151,7 +150,7 @@ module _ (c : Checked) where
   special-flows : (how : StoreKind) (n : ℕ) (kind : ElementaryType) (top : CellKind)
       (below : List CellKind) → kind ≡ elementary.Bool → slice_get (slots c) n ≡ Some kind
       → slice_get (writable c) n ≡ Some true
-      → is_within top (Plain kind) ≡ true → length below < 32
+      → is_within top (Plain kind) ≡ true → length below < most_cells
       → Leaves (store_code how n) (top ∷ below) below (Some kind)
   special-flows how n kind top below e s w h room =
       subst (λ k. Leaves (store_code how n) (top ∷ below) below (Some k)) (sym e)
@@ -161,7 +160,8 @@ module _ (c : Checked) where
   store-flows : (how : StoreKind) (n : ℕ) (kind : ElementaryType) (top : CellKind)
       (below : List CellKind) → rules.may_negate (not (rules.is_plain how)) kind ≡ true
       → slice_get (slots c) n ≡ Some kind
-      → slice_get (writable c) n ≡ Some true → is_within top (Plain kind) ≡ true → length below < 32
+      → slice_get (writable c) n ≡ Some true → is_within top (Plain kind) ≡ true
+      → length below < most_cells
       → Leaves (store_code how n) (top ∷ below) below (Some kind)
   store-flows store.Plain n kind top below may s w h room =
       record { top = top; fits = h; flow = (_, stored c n kind top below s w h room, refl) }
@@ -173,7 +173,7 @@ module _ (c : Checked) where
       special-flows store.Reset n kind top below (boolean-is kind may) s w h room
 
   operation-flows : (o : SimpleOperation) (t u : Option ElementaryType) (top : CellKind)
-      (below : List CellKind) → IsOperation c o t u → Fits t top → length below + 2 ≤ 32
+      (below : List CellKind) → IsOperation c o t u → Fits t top → length below + 2 ≤ most_cells
       → Leaves (operation_code (length c.externals) o) (top ∷ below) below u
   operation-flows (op.Load negated x) t u top below ok fit room =
       let f = fetched c x ok.0 below ok.1 (omega arith) in
@@ -221,7 +221,7 @@ module _ (c : Checked) where
   mutual
     pub entry-flows : (e : Entry) (t u : Option ElementaryType) (top : CellKind)
         (below : List CellKind) → IsEntry c e t u → Fits t top
-        → length below + entry_depth e + 2 ≤ 32
+        → length below + entry_depth e + 2 ≤ most_cells
         → Leaves (entry_code (length c.externals) e) (top ∷ below) below u
     entry-flows (operation o) t u top below ok fit room =
         operation-flows o t u top below ok fit (omega arith)
@@ -230,7 +230,7 @@ module _ (c : Checked) where
         (within-any (Plain elementary.Bool)) (omega arith) in
         let j = operator-flows operator negated kind g.top top below g.fits
         (subst (λ w. Fits w top) ok.3 fit) ok.1
-        (λ d. absurd (not-both (rules.divides operator) d ok.2)) (omega arith) in
+        (λ d. absurd (both_ways (rules.divides operator) ok.2 d)) (omega arith) in
         record {
           top = j.top;
           fits = subst (λ w. Fits w j.top) (sym ok.4) j.fits;
@@ -245,7 +245,7 @@ module _ (c : Checked) where
 
     entries-flow : (es : Entries) (t u : Option ElementaryType) (top : CellKind)
         (below : List CellKind) → AreEntries c es t u → Fits t top
-        → length below + entries_depth es + 2 ≤ 32
+        → length below + entries_depth es + 2 ≤ most_cells
         → Leaves (entries_code (length c.externals) es) (top ∷ below) below u
     entries-flow no_entries t u top below ok fit room =
         record { top = top; fits = subst (λ w. Fits w top) (sym ok) fit; flow = refl }
@@ -263,19 +263,20 @@ module _ (c : Checked) where
   -- ---- calls
 
   given : (i : Input) (n : ℕ) (top : CellKind) (ks : List CellKind) → n < length c.timers
-      → is_within top (Plain (rules.input_type i)) ≡ true → length ks < 32
+      → is_within top (Plain (rules.input_type i)) ≡ true → length ks < most_cells
       → Steps c (Timer (input_use i) n) (top ∷ ks) ks
   given In n top ks lt h room = input-set c n top ks lt h room
   given Pt n top ks lt h room = preset-set c n top ks lt h room
 
   argument-flows : (n : ℕ) (a : TypedArgument) (ks : List CellKind) → n < length c.timers
-      → IsArgument c a → length ks < 32 → Flow c (argument_code (length c.externals) n a) ks ks
+      → IsArgument c a → length ks < most_cells
+      → Flow c (argument_code (length c.externals) n a) ks ks
   argument-flows n a ks lt ok room =
       let f = fetched c a.operand (rules.input_type a.input) ks ok (omega arith) in
       (f.top ∷ ks, f.step, (ks, given a.input n f.top ks lt f.fits room, refl))
 
   arguments-flow : (n : ℕ) (args : TypedArguments) (ks : List CellKind) → n < length c.timers
-      → AreArguments c args → length ks < 32
+      → AreArguments c args → length ks < most_cells
       → Flow c (arguments_code (length c.externals) n args) ks ks
   arguments-flow n arguments.None ks lt ok room = refl
   arguments-flow n (arguments.One a) ks lt ok room = argument-flows n a ks lt ok room
@@ -284,7 +285,7 @@ module _ (c : Checked) where
       ks ks ks (argument-flows n a ks lt ok.0 room) (argument-flows n b ks lt ok.1 room)
 
   pub call-flows : (n : ℕ) (args : TypedArguments) (ks : List CellKind) → n < length c.timers
-      → AreArguments c args → length ks < 32
+      → AreArguments c args → length ks < most_cells
       → Flow c (arguments_code (length c.externals) n args ++ Timer Run n ∷ []) ks ks
   call-flows n args ks lt ok room =
       flow-both c (arguments_code (length c.externals) n args) (Timer Run n ∷ []) ks ks ks

@@ -1,6 +1,6 @@
 -- To each instruction of a program's items, and to the end, another leads.
 use Rattle.std.proofs.Common.{◌≡◌, ℕ, ◌+◌, ◌≤◌, ◌⊎◌, inl, inr, ⊎_elim, Bool, true, false, ◌==◌, ◌||◌, if◌then◌else◌, List, [], ◌∷◌, ◌++◌, length, Option, Some, None, refl, sym, ap, subst, ◌∙◌, arith, append_assoc}
-use Rattle.std.proofs.lemmas.Bool.{eqb-true, eq-eqb, ne_eqb}
+use Rattle.std.proofs.lemmas.Bool.{eqb-true, eq-eqb, ne_eqb, both_ways}
 use Rattle.bay_base.specs.declared.types.ElementaryType.{ElementaryType}
 use Rattle.il_text.specs.declared.program.Condition.{Condition}
 use Rattle.il_text.specs.declared.program.Condition.TheVariants.{Always, IfTrue, IfFalse}
@@ -31,9 +31,6 @@ falls : (condition : Condition) (n : ℕ) (t u : Option ElementaryType)
 falls Always n t u e = absurd cc
 falls IfTrue n t u e = inl refl
 falls IfFalse n t u e = inl refl
-
-not-both : (b : Bool) → b ≡ true → b ≡ false → ⊥
-not-both b e f = absurd cc
 
 named-before : (k l : ℕ) (named : List ℕ) → is_named (k ∷ named) l ≡ true
     → (k ≡ l) ⊎ (is_named named l ≡ true)
@@ -134,9 +131,8 @@ module _ (c : Checked) (labels : Labelling) where
         elim (n == x.0) as (λ b. (n == x.0) ≡ b → b || has_label is x.0 ≡ true
             → has_label is x.0 ≡ true) [
               | true ↦ (λ e g. absurd
-                  (not-both (is_named named passed)
-                  (subst (λ k. is_named named k ≡ true) (sym (sym same ∙ eqb-true n x.0 e)) x.1)
-                  not_named))
+                  (both_ways (is_named named passed) not_named
+                  (subst (λ k. is_named named k ≡ true) (sym (sym same ∙ eqb-true n x.0 e)) x.1)))
               | false ↦ (λ e g. g)
             ] refl x.2,
       )

@@ -14,7 +14,7 @@ use Rattle.il_text.specs.declared.program.Output.TheVariants.{Q, Et}
 use Rattle.il_image.specs.Arithmetic.{type_of_width}
 use Rattle.il_image.specs.Effects.{are_compared, below, compares as compares_kinds, effect, kind_of, looks_at, second_kind, two, type_of_kind, widens, with_timer, with_truth}
 use Rattle.il_image.specs.Kinds.{is_within}
-use Rattle.il_image.specs.Machine.{divides, tells_equality}
+use Rattle.il_image.specs.Machine.{divides, tells_equality, most_cells}
 use Rattle.il_image.specs.Tables.{LeadsTo, slot_types}
 use Rattle.il_image.specs.Values.{number_of, type_of}
 use Rattle.il_image.specs.declared.arithmetic.Comparison.{Comparison}
@@ -249,7 +249,7 @@ module _ (c : Checked) where
   -- The instruction makes the second kinds of the first, and goes on behind itself.
   pub record Steps (i : Instr) (ks js : List CellKind) : Type 0 where
     pub effect : effect slots timers i ks ≡ Some js
-    pub room : length ks ≤ 32
+    pub room : length ks ≤ most_cells
     pub goes : LeadsTo i 0 0
     pub straight : (d : ℕ) → LeadsTo i 0 d → d ≡ 0
     pub keeps : Keeps i
@@ -263,12 +263,13 @@ module _ (c : Checked) where
   flow-both [] b ks js ls e g = subst (λ x. Flow b x ls) (sym e) g
   flow-both (i ∷ a) b ks js ls f g = (f.0, f.1, flow-both a b f.0 js ls f.2 g)
 
-  pub pushed : (v : Value) (ks : List CellKind) → length ks ≤ 32
+  pub pushed : (v : Value) (ks : List CellKind) → length ks ≤ most_cells
       → Steps (Push v) ks (kind_of v ∷ ks)
   pushed v ks room =
       record { effect = refl; room = room; goes = refl; straight = λ d e. e; keeps = tt }
 
-  pub dropped : (top : CellKind) (ks : List CellKind) → length ks < 32 → Steps Drop (top ∷ ks) ks
+  pub dropped : (top : CellKind) (ks : List CellKind) → length ks < most_cells
+      → Steps Drop (top ∷ ks) ks
   dropped top ks room =
       record {
         effect = below-top Any top ks (within-any top);
@@ -279,7 +280,7 @@ module _ (c : Checked) where
       }
 
   pub inverted : (top : CellKind) (ks : List CellKind)
-      → is_within top (Plain elementary.Bool) ≡ true → length ks < 32
+      → is_within top (Plain elementary.Bool) ≡ true → length ks < most_cells
       → Steps Not (top ∷ ks) (Plain elementary.Bool ∷ ks)
   inverted top ks h room = record {
     effect =
@@ -336,7 +337,7 @@ module _ (c : Checked) where
     pub step : Steps (fetch (length c.externals) x) ks (top ∷ ks)
 
   pub fetched : (x : TypedOperand) (kind : ElementaryType) (ks : List CellKind) → IsOperand c x kind
-      → length ks ≤ 32 → Fetched x kind ks
+      → length ks ≤ most_cells → Fetched x kind ks
   fetched (operand.Literal v) kind ks ok room = record {
     top = kind_of v;
     fits = subst (λ k. is_within (kind_of v) (Plain k) ≡ true) ok.1 (kind-within v);
@@ -397,7 +398,7 @@ module _ (c : Checked) where
       → sense_takes x kind ≡ true → is_within v (Plain kind) ≡ true
       → is_within a (Plain kind) ≡ true
       → (sense_divides x ≡ true → is_within v (NotZero (width_of kind)) ≡ true)
-      → length rest + 2 ≤ 32 → Joins (sense_instr x kind) v a rest (sense_gives x kind)
+      → length rest + 2 ≤ most_cells → Joins (sense_instr x kind) v a rest (sense_gives x kind)
   joined (connects x) kind v a rest t h g d room =
       let e = boolean-is kind t in
       let h' : is_within v (Plain elementary.Bool) ≡ true =
@@ -459,7 +460,7 @@ module _ (c : Checked) where
     pub step : Steps i (v ∷ rest) (top ∷ rest)
 
   pub converted : (x : Conversion) (v : CellKind) (rest : List CellKind)
-      → is_within v (Plain (rules.converted_from x)) ≡ true → length rest < 32
+      → is_within v (Plain (rules.converted_from x)) ≡ true → length rest < most_cells
       → Turns (Widen (widening_of x)) v rest (rules.converted_to x)
   converted IntToDint v rest h room =
       let w = widened width.Int width.Dint v rest h in
@@ -492,7 +493,7 @@ module _ (c : Checked) where
 
   pub stored : (n : ℕ) (kind : ElementaryType) (top : CellKind) (rest : List CellKind)
       → slice_get slots n ≡ Some kind → slice_get writable n ≡ Some true
-      → is_within top (Plain kind) ≡ true → length rest < 32
+      → is_within top (Plain kind) ≡ true → length rest < most_cells
       → Steps (Slot Store n) (top ∷ rest) (top ∷ rest)
   stored n kind top rest s w h room = record {
     effect =
@@ -515,7 +516,7 @@ module _ (c : Checked) where
 
   pub set_if : (n : ℕ) (top : CellKind) (rest : List CellKind)
       → slice_get slots n ≡ Some elementary.Bool → slice_get writable n ≡ Some true
-      → is_within top (Plain elementary.Bool) ≡ true → length rest < 32
+      → is_within top (Plain elementary.Bool) ≡ true → length rest < most_cells
       → Steps (Slot SetIf n) (top ∷ rest) (top ∷ rest)
   set_if n top rest s w h room =
       record {
@@ -528,7 +529,7 @@ module _ (c : Checked) where
 
   pub reset-if : (n : ℕ) (top : CellKind) (rest : List CellKind)
       → slice_get slots n ≡ Some elementary.Bool → slice_get writable n ≡ Some true
-      → is_within top (Plain elementary.Bool) ≡ true → length rest < 32
+      → is_within top (Plain elementary.Bool) ≡ true → length rest < most_cells
       → Steps (Slot ResetIf n) (top ∷ rest) (top ∷ rest)
   reset-if n top rest s w h room =
       record {
@@ -540,7 +541,7 @@ module _ (c : Checked) where
       }
 
   pub input-set : (n : ℕ) (top : CellKind) (rest : List CellKind) → n < length c.timers
-      → is_within top (Plain elementary.Bool) ≡ true → length rest < 32
+      → is_within top (Plain elementary.Bool) ≡ true → length rest < most_cells
       → Steps (Timer SetInput n) (top ∷ rest) rest
   input-set n top rest lt h room = record {
     effect =
@@ -553,7 +554,7 @@ module _ (c : Checked) where
   }
 
   pub preset-set : (n : ℕ) (top : CellKind) (rest : List CellKind) → n < length c.timers
-      → is_within top (Plain elementary.Time) ≡ true → length rest < 32
+      → is_within top (Plain elementary.Time) ≡ true → length rest < most_cells
       → Steps (Timer SetPreset n) (top ∷ rest) rest
   preset-set n top rest lt h room = record {
     effect =
@@ -565,7 +566,7 @@ module _ (c : Checked) where
     keeps = tt;
   }
 
-  pub ran : (n : ℕ) (ks : List CellKind) → n < length c.timers → length ks ≤ 32
+  pub ran : (n : ℕ) (ks : List CellKind) → n < length c.timers → length ks ≤ most_cells
       → Steps (Timer Run n) ks ks
   ran n ks lt room =
       record {

@@ -9,6 +9,7 @@ use Rattle.il_image.specs.declared.instr.Instr.{Instr}
 use Rattle.il_check.specs.Program.{Entry, operation, block, Entries, no_entries, entry, Item, label, transfer, plain}
 use Rattle.il_compile.specs.declared.behind.Behind.{Behind}
 use Rattle.il_compile.specs.Code.{operation_code, transfer_code, octets, octets_before, items_code}
+use Rattle.il_compile.specs.Compiled.{most_octets}
 
 -- The instructions of each operation can be spelled.
 abbrev mutual
@@ -36,13 +37,18 @@ abbrev pub KnowsPlaces : ℕ → (ℕ → Option ℕ) → List Item → Type 0
 KnowsPlaces externals places is = (l : ℕ)
     → octets_before externals l is + unwrap_or (places l) 0 ≡ octets (items_code externals is)
 
--- The items' instructions, the last first, with the octets that they have, counted up to 65,536;
--- where they have fewer, the instructions and the places of labels are known.
+-- the number up to which octets are counted: one more than an image may have
+abbrev pub octets_bound : ℕ
+octets_bound = 65_536
+
+-- The items' instructions, the last first, with the octets that they have, counted up to the bound;
+-- where they have no more than an image may, the instructions and the places of labels are known.
 pub record IsBehind (externals : ℕ) (is : List Item) (instrs : List Instr) (size : ℕ)
     (places : ℕ → Option ℕ) : Type 0 where
-  pub counted : size ≡ min (octets (items_code externals is)) 65_536
-  pub code : octets (items_code externals is) ≤ 65_535 → reverse instrs ≡ items_code externals is
-  pub known : octets (items_code externals is) ≤ 65_535 → KnowsPlaces externals places is
+  pub counted : size ≡ min (octets (items_code externals is)) octets_bound
+  pub code : octets (items_code externals is) ≤ most_octets
+      → reverse instrs ≡ items_code externals is
+  pub known : octets (items_code externals is) ≤ most_octets → KnowsPlaces externals places is
 
 -- Nothing waits to be put before the items behind.
 pub record IsSettled (externals : ℕ) (is : List Item) (b : Behind) : Type 0 where

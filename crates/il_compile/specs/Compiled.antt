@@ -32,6 +32,10 @@ points_octets (e ∷ es) = 3 + length e.name + points_octets es
 abbrev pub image_size : Checked → ℕ
 image_size c = length (image_octets Two (image_of c))
 
--- the image, unless it would have more than 65,535 octets
+-- the most octets of an image
+abbrev pub most_octets : ℕ
+most_octets = 65_535
+
+-- the image, unless it would have more octets than that
 abbrev pub compiled_of : Checked → Result Image CompileFault
-compiled_of c = if nat_le (image_size c) 65_535 then Ok (image_of c) else Err CodeTooLong
+compiled_of c = if nat_le (image_size c) most_octets then Ok (image_of c) else Err CodeTooLong

@@ -4,7 +4,7 @@ ghost use Rattle.std.specs.Prelude.{◌≡◌, ℕ, List, ◌+◌, ◌≤◌, �
 ghost use Rattle.il_image.specs.Spelling.{spelling};
 ghost use Rattle.il_check.specs.Program.{Item, label, plain, transfer};
 ghost use Rattle.il_check.specs.ProgramViews.{entry_view, item_view};
-ghost use Rattle.il_compile.specs.Behind.{AreSpellable, IsBehind, IsSettled, IsSpellable, IsSpellableEntry};
+ghost use Rattle.il_compile.specs.Behind.{AreSpellable, IsBehind, IsSettled, IsSpellable, IsSpellableEntry, octets_bound};
 ghost use Rattle.il_compile.specs.Code as spec;
 
 use crate::emit::{put, put_call, put_entry, when_of};
@@ -53,9 +53,9 @@ fn octets_of(instr: Instr) -> u32
 
 // The octets of both, counted up to 65,536.
 fn bounded_sum(a: u32, b: u32) -> u32
-    requires left { a ≤ 65_536 }
-    requires right { b ≤ 65_536 }
-    ensures { result ≡ min (a + b) 65_536 }
+    requires left { a ≤ octets_bound }
+    requires right { b ≤ octets_bound }
+    ensures { result ≡ min (a + b) octets_bound }
 {
     let sum = a + b;
     if sum < BOUND { sum } else { BOUND }
@@ -68,8 +68,9 @@ fn put_before(
     octets: u32,
     line: &mut Vec<Instr>,
 ) -> Result<u32, AllocError>
-    requires { octets ≤ 65_536 }
-    ensures counted { IfOk result (λ all. all ≡ min (octets + spec.octets line.old.items) 65_536) }
+    requires { octets ≤ octets_bound }
+    ensures counted { IfOk result
+        (λ all. all ≡ min (octets + spec.octets line.old.items) octets_bound) }
     ensures before { OnOk result
         (reverse behind.new.items ≡ line.old.items ++ reverse behind.old.items) }
     ensures empty { OnOk result (line.new.items ≡ []) }
@@ -97,9 +98,10 @@ impl Behind {
 
     // Puts the instructions that wait before those behind.
     fn settle(&mut self) -> Result<(), AllocError>
-        requires { self.old.octets ≤ 65_536 }
+        requires { self.old.octets ≤ octets_bound }
         ensures counted { OnOk result
-            (self.new.octets ≡ min (self.old.octets + spec.octets self.old.line.items) 65_536) }
+            (self.new.octets
+            ≡ min (self.old.octets + spec.octets self.old.line.items) octets_bound) }
         ensures before { OnOk result
             (reverse self.new.instrs.items ≡ self.old.line.items ++ reverse self.old.instrs.items) }
         ensures empty { OnOk result (self.new.line.items ≡ []) }
@@ -120,7 +122,7 @@ impl Behind {
 
     // Puts the instructions of an operation or a parenthesis.
     fn put_plain(&mut self, externals: usize, entry: &TypedEntry) -> Result<(), AllocError>
-        requires bounded { self.old.octets ≤ 65_536 }
+        requires bounded { self.old.octets ≤ octets_bound }
         requires spellable { IsSpellableEntry externals (entry_view entry.now) }
         ensures { (is : List Item) → IsSettled externals is self.old
             → OnOk result (IsSettled externals (plain (entry_view entry.now) ∷ is) self.new) }
@@ -131,7 +133,7 @@ impl Behind {
 
     // Puts a jump over the octets between it and its label.
     fn put_jump(&mut self, condition: Condition, label: usize) -> Result<(), AllocError>
-        requires { self.old.octets ≤ 65_536 }
+        requires { self.old.octets ≤ octets_bound }
         ensures { (externals : ℕ) (is : List Item) → IsSettled externals is self.old
             → OnOk result (IsSettled externals (transfer (Transfer.Jump condition label) ∷ is)
             self.new) }
@@ -144,9 +146,10 @@ impl Behind {
 
     // Puts a jump over all that is behind it.
     fn put_return(&mut self, condition: Condition) -> Result<(), AllocError>
-        requires { self.old.octets ≤ 65_536 }
+        requires { self.old.octets ≤ octets_bound }
         ensures { (externals : ℕ) (is : List Item) → IsSettled externals is self.old
-            → OnOk result (IsSettled externals (transfer (Transfer.Return condition) ∷ is) self.new) }
+            → OnOk result (IsSettled externals (transfer (Transfer.Return condition) ∷ is)
+            self.new) }
     {
         let distance = self.octets.min(0xFFFF) as u16;
         put(&mut self.line, Instr::Jump(when_of(condition), distance))?;
@@ -160,7 +163,7 @@ impl Behind {
         timer: usize,
         arguments: TypedArguments,
     ) -> Result<(), AllocError>
-        requires bounded { self.old.octets ≤ 65_536 }
+        requires bounded { self.old.octets ≤ octets_bound }
         requires spellable { IsSpellable externals (transfer (Transfer.Call timer arguments)) }
         ensures { (is : List Item) → IsSettled externals is self.old
             → OnOk result (IsSettled externals (transfer (Transfer.Call timer arguments) ∷ is)
@@ -172,7 +175,7 @@ impl Behind {
 
     // Puts an item before those behind it.
     fn put_item(&mut self, externals: usize, item: &TypedItem) -> Result<(), AllocError>
-        requires bounded { self.old.octets ≤ 65_536 }
+        requires bounded { self.old.octets ≤ octets_bound }
         requires spellable { IsSpellable externals (item_view item.now) }
         ensures { (is : List Item) → IsSettled externals is self.old
             → OnOk result (IsSettled externals (item_view item.now ∷ is) self.new) }

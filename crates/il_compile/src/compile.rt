@@ -3,6 +3,7 @@ ghost use Rattle.std.specs.Prelude.{◌≡◌, ◌+◌, ◌*◌, ◌≤◌, ◌+
 ghost use Rattle.bay_base.specs.Exact.{Gives};
 ghost use Rattle.il_image.specs.Images.{Each, all_spelled};
 ghost use Rattle.il_image.specs.Tables.{HasTable};
+ghost use Rattle.il_image.specs.Machine.{most_slots};
 ghost use Rattle.il_check.specs.Program.{Checked};
 ghost use Rattle.il_check.specs.ProgramViews.{checked_view, item_view};
 ghost use Rattle.il_check.specs.TypedProgram.{HasName, IsTyped};
@@ -73,7 +74,7 @@ fn kinds_of(alloc: Global, timers: &[Timer]) -> Result<Vec<TimerKind>, AllocErro
 
 // The octets of the externals' points in an image.
 fn points_size(externals: &[External]) -> usize
-    requires few { length externals.now ≤ 512 }
+    requires few { length externals.now ≤ most_slots }
     requires names { Each HasName externals.now }
     ensures value { result ≡ points_octets externals.now }
     ensures bounded { result ≤ 34_304 }

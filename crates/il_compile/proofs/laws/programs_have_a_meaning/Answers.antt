@@ -1,4 +1,4 @@
-use Rattle.il_compile.proofs.Runs.{means}
+use Rattle.il_compile.proofs.Follows.{means}
 use Rattle.il_compile.proofs.laws.programs_have_a_meaning.Goals as goal
 
 pub returns : goal.returns
