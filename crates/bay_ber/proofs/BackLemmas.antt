@@ -86,6 +86,7 @@ tag-is a b e =
     ∙ ap (λ (f : Bool). tag_with b.class f a.number) form
     ∙ ap (λ (n : ℕ). tag_with b.class b.constructed n) number
 
+-- what a guard lets pass is what stands behind it
 pub unguarded : {A : Type 0} (b : Bool) (o : Option A) (x : A) → cond b None o ≡ Some x
     → (b ≡ false) × (o ≡ Some x)
 unguarded true o x e = absurd cc

@@ -134,6 +134,7 @@ same-number n m e = grind (arith, nat_tests)
 pub other-number : (n m : ℕ) → (n ≡ m → ⊥) → (n == m) ≡ false
 other-number n m ne = grind (arith, nat_tests)
 
+-- fewer labels than the most are not too many
 pub few : (n : ℕ) → n < most_labels → nat_le most_labels n ≡ false
 few n h = grind (arith, nat_tests)
 
@@ -192,6 +193,7 @@ pub record Brought (named : List ℕ) (arrivals : List Reach) (count : ℕ) : Ty
   pub arrived : (n : ℕ) → (arrival (slice_get arrivals n)).is_reached ≡ is_named named n
   pub size : length arrivals ≡ count
 
+-- a jump brings what it knows to its label
 pub brings : (target : Option ℕ) (now : Reach) (named : List ℕ) (arrivals : List Reach) (count : ℕ)
     → now.is_reached ≡ true → ((n : ℕ) → target ≡ Some n → n < count)
     → Brought named arrivals count

@@ -193,6 +193,7 @@ source-nonzero names (text.variable place) e = absurd (cc)
 
 -- ---- instructions with what their names mean
 
+-- the arguments of a call are declared
 abbrev pub AreGiven : Checked → GivenArguments → Type 0
 AreGiven c arguments.None = Unit {0}
 AreGiven c (arguments.One a) = IsGiven c a.given

@@ -177,6 +177,7 @@ on-truth c now t result cell f e ag =
     subst (λ v. Jumps c now t result v) (sym b.1)
     (subst (λ r. Jumps c now t r (Truth b.0)) (sym same) (f b.0))
 
+-- a conditional jump decides by the current result
 pub jumped : (c : Condition) (now : ℕ) (t : Option ElementaryType) (result : Option Value)
     (cell : Value) → Decides c t → Agrees t result cell → Jumps c now t result cell
 jumped Always now t result cell ok ag =
