@@ -1,5 +1,5 @@
 -- Lemmas on lists by place.
-use Rattle.std.proofs.Common.{◌≡◌, ℕ, zero, suc, ◌+◌, ◌<◌, ◌⊎◌, ⊎_elim, inl, inr, Bool, cond, List, [], ◌∷◌, ◌++◌, length, map, position, slice_get, Some, None, Bor, refl, ap, sym, ◌∙◌, arith}
+use Rattle.std.proofs.Common.{◌≡◌, ℕ, zero, suc, ◌+◌, ◌<◌, ◌⊎◌, ⊎_elim, inl, inr, Bool, cond, List, [], ◌∷◌, ◌++◌, length, map, position, slice_get, Some, None, Bor, refl, ap, sym, subst, ◌∙◌, arith}
 use Rattle.std.specs.List.{position_from}
 use Rattle.std.specs.Slice.{IsItemAt}
 use Rattle.std.proofs.lemmas.Iterator.Adapters.{position_from-zero}
@@ -33,6 +33,16 @@ get-snoc (z ∷ xs) x zero y h = inl h
 get-snoc (z ∷ xs) x (suc k) y h =
     ⊎_elim (λ (l : slice_get xs k ≡ Some y). inl l)
     (λ (r : (k ≡ length xs) × (x ≡ y)). inr (ap suc r.0, r.1)) (get-snoc xs x k y h)
+
+-- what holds of each item at its place, with one item more
+pub each-snoc : {X : Type 0} (P : ℕ → X → Type 0) (xs : List X) (x : X)
+    → ((k : ℕ) (y : X) → slice_get xs k ≡ Some y → P k y) → P (length xs) x
+    → (k : ℕ) (y : X) → slice_get (xs ++ x ∷ []) k ≡ Some y → P k y
+each-snoc P xs x all own k y h =
+    ⊎_elim (λ (l : slice_get xs k ≡ Some y). all k y l)
+    (λ (r : (k ≡ length xs) × (x ≡ y)).
+    subst (λ j. P j y) (sym r.0) (subst (P (length xs)) r.1 own))
+    (get-snoc xs x k y h)
 
 -- the place of the first item whose image passes
 position-from-mapped : {X Y : Type 0} (f : X → Y) (p : Y → Bool) (xs : List X) (i : ℕ)

@@ -1,5 +1,5 @@
 -- The rows that a bay has for its switches and meters, and the handles of their names.
-use Rattle.std.proofs.Common.{◌≡◌, ◌≢◌, ℕ, Bool, true, false, cond, zero, suc, ◌<◌, List, [], ◌∷◌, ◌++◌, length, find, slice_get, slice_index_or, Option, Some, None, option_map, option_and_then, Contains, refl, ap, sym, ◌∙◌, subst, arith, ⊎_elim, All, Err}
+use Rattle.std.proofs.Common.{◌≡◌, ◌≢◌, ℕ, Bool, true, false, cond, zero, suc, ◌<◌, List, [], ◌∷◌, ◌++◌, length, find, slice_get, slice_index_or, Option, Some, None, option_map, option_and_then, Contains, refl, ap, sym, ◌∙◌, subst, arith, All, Err}
 use Rattle.std.proofs.lemmas.Bool.{false_from_ne_true}
 use Rattle.std.specs.Option.{ok_or}
 use Rattle.std.specs.Str.{bytes_eq}
@@ -16,19 +16,18 @@ use Rattle.bay_tree.specs.declared.leaf.Quality.{Quality as Validity}
 use Rattle.bay_tree.proofs.NamedLemmas.{leaf-named, found-leaf}
 use Rattle.bay_tree.proofs.SearchLemmas.{place_of-found, place_of-none, place_of-stays}
 use Rattle.bay_nodes.specs.Node.{row}
-use Rattle.bay_config.specs.Laws.{IsBay, HasValue, HasPosition, HasControl, HasEnable, HasMeter, NamesMeter}
+use Rattle.bay_config.specs.Laws.{IsBay, HasValue, HasPosition, HasControl, HasEnable, HasMeter}
 use Rattle.bay_config.specs.declared.bay.Bay.{Bay}
-use Rattle.bay_process.specs.Layout.{Layout, layout_of, name_in, status_in, HasLeafType, AreStatusRows, AreMetersBound, IsMeterBound}
-use Rattle.bay_nodes.specs.Names.{StatusNames, SwitchNames, opening_names, closing_names, names_by_nodes, ControlNames, control_names, control_names_of, MeterNames, meter_names_of}
-use Rattle.bay_process.specs.Controls.{HaveSelected, AreControlRows, AreAllControlRows}
-use Rattle.bay_process.specs.Nodes.{AreNodesOf, AreAllNodes, nodes_names, HasLeaf, HasStatus, HasSwitch, HasSwitches, AreThere, IsFound, AreFound, AreRowsOf, AreAllRows, AreAllMeters, HasMeterLeaves, IsMeterThere, HaveMeters, AreMeterRowsOf}
+use Rattle.bay_process.specs.Layout.{Layout, layout_of, name_in, status_in, HasLeafType, AreStatusRows, IsMeterBound}
+use Rattle.bay_nodes.specs.Names.{StatusNames, SwitchNames, opening_names, closing_names, names_by_nodes, ControlNames, control_names_of, MeterNames, meter_names_of}
+use Rattle.bay_process.specs.Controls.{HaveSelected, AreControlRows}
+use Rattle.bay_process.specs.Nodes.{AreAllNodes, nodes_names, HasLeaf, HasStatus, HasSwitch, HasSwitches, AreThere, IsFound, AreFound, AreRowsOf, AreAllRows, AreAllMeters, HasMeterLeaves, IsMeterThere, HaveMeters, AreMeterRowsOf}
 use Rattle.bay_process.specs.declared.controls.ControlRows.{ControlRows}
-use Rattle.bay_process.specs.declared.meter.BoundMeter.{BoundMeter}
 use Rattle.bay_process.specs.declared.meter.MeterRows.{MeterRows}
 use Rattle.bay_process.specs.declared.nodes.Nodes.{Nodes}
 use Rattle.bay_process.specs.declared.rows.StatusRows.{StatusRows}
 use Rattle.bay_process.specs.declared.rows.SwitchRows.{SwitchRows}
-use Rattle.bay_process.proofs.ListLemmas.{get-snoc}
+use Rattle.bay_process.proofs.ListLemmas.{each-snoc}
 
 -- a row that a tree contains gives its name its value
 contains-leaf : (rows : List Row) (name : List ℕ) (value : Leaf) → IsTree rows
@@ -239,61 +238,23 @@ found-meter rows names handles h w v z a b c =
       };
     }
 
--- one meter more
-pub meters-snoc : (bay : Bay) (nodes : List (List ℕ)) (n : List ℕ) → AreAllMeters bay nodes
-    → NamesMeter bay (length nodes) n → AreAllMeters bay (nodes ++ n ∷ [])
-meters-snoc bay nodes n all own k m h =
-    ⊎_elim (λ (l : slice_get nodes k ≡ Some m). all k m l)
-    (λ (r : (k ≡ length nodes) × (n ≡ m)). subst (λ j. NamesMeter bay j m) (sym r.0)
-    (subst (NamesMeter bay (length nodes)) r.1 own)) (get-snoc nodes n k m h)
-
 pub bound-meter : (rows : List Row) (k : ℕ) (node : List ℕ) (handles : MeterRows)
     → IsMeterThere rows k node → AreMeterRowsOf (layout_of rows) (meter_names_of node) handles
     → IsMeterBound (layout_of rows) k handles
 bound-meter rows k node handles there own =
     record { named = own.named ∙ ap meter_names_of there.named; leaf_typed = own.leaf_typed }
 
-pub bound-meters-snoc : (layout : Layout) (bound : List BoundMeter) (m : BoundMeter)
-    → AreMetersBound layout bound → IsMeterBound layout (length bound) m.rows
-    → AreMetersBound layout (bound ++ m ∷ [])
-bound-meters-snoc layout bound m all own k q h =
-    ⊎_elim (λ (l : slice_get bound k ≡ Some q). all k q l)
-    (λ (r : (k ≡ length bound) × (m ≡ q)). subst (λ j. IsMeterBound layout j q.rows) (sym r.0)
-    (subst (λ (x : BoundMeter). IsMeterBound layout (length bound) x.rows) r.1 own))
-    (get-snoc bound m k q h)
-
 -- one switch more
-pub nodes-snoc : (bay : Bay) (nodes : List Nodes) (n : Nodes) → AreAllNodes bay nodes
-    → AreNodesOf bay (length nodes) n → AreAllNodes bay (nodes ++ n ∷ [])
-nodes-snoc bay nodes n all own k m h =
-    ⊎_elim (λ (l : slice_get nodes k ≡ Some m). all k m l)
-    (λ (r : (k ≡ length nodes) × (n ≡ m)). subst (λ j. AreNodesOf bay j m) (sym r.0)
-    (subst (AreNodesOf bay (length nodes)) r.1 own)) (get-snoc nodes n k m h)
-
 pub rows-snoc : (layout : Layout) (nodes : List Nodes) (rows : List SwitchRows) (n : Nodes)
     (r : SwitchRows) → AreAllRows layout nodes rows → slice_get nodes (length rows) ≡ Some n
     → AreRowsOf layout (nodes_names n) r
     → AreAllRows layout nodes (rows ++ r ∷ [])
 rows-snoc layout nodes rows n r all here own k m q hm hq =
-    ⊎_elim (λ (l : slice_get rows k ≡ Some q). all k m q hm l)
-    (λ (last : (k ≡ length rows) × (r ≡ q)).
-    let there : Some n ≡ Some m = sym here ∙ ap (slice_get nodes) (sym last.0) ∙ hm in
-    let same : n ≡ m = cc in
-    subst (AreRowsOf layout (nodes_names m)) last.1
-    (subst (λ (x : Nodes). AreRowsOf layout (nodes_names x) r) same own))
-    (get-snoc rows r k q hq)
-
--- one control more
-pub controls-snoc : (rows : List Row) (controls : List ControlRows) (handles : ControlRows)
-    → AreAllControlRows rows controls
-    → AreControlRows rows (control_names (length controls)) handles
-    → AreAllControlRows rows (controls ++ handles ∷ [])
-controls-snoc rows controls handles all own k r h =
-    ⊎_elim (λ (l : slice_get controls k ≡ Some r). all k r l)
-    (λ (last : (k ≡ length controls) × (handles ≡ r)). subst
-    (λ j. AreControlRows rows (control_names j) r) (sym last.0)
-    (subst (AreControlRows rows (control_names (length controls))) last.1 own))
-    (get-snoc controls handles k r h)
+    each-snoc (λ j (x : SwitchRows). (y : Nodes) → slice_get nodes j ≡ Some y
+    → AreRowsOf layout (nodes_names y) x) rows r (λ j x hx y hy. all j y x hy hx)
+    (λ y hy. let there : Some n ≡ Some y = sym here ∙ hy in
+    let same : n ≡ y = cc in
+    subst (λ (x : Nodes). AreRowsOf layout (nodes_names x) r) same own) k q hq m hm
 
 -- what no place is found for has no value
 pub selected-leaf_type : (rows : List Row) (name : List ℕ) (handle : ℕ)

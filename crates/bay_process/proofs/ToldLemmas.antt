@@ -142,6 +142,11 @@ pub record AreAway (names : StatusNames) : Type 0 where
   pub quality_away : IsAway names.quality
   pub time_away : IsAway names.time
 
+at-node : (node value quality time : List ℕ) → ((t : List ℕ) → IsAway (node ++ t))
+    → AreAway (record { value = node ++ value; quality = node ++ quality; time = node ++ time })
+at-node node value quality time away =
+    record { value_away = away value; quality_away = away quality; time_away = away time }
+
 -- what the interlocking nodes name stays
 abbrev pub Keeps : List Row → List Row → Type 0
 Keeps rows new = (k : ℕ) (s : List ℕ)
@@ -188,16 +193,10 @@ keeps-contact switches j switch position now rows =
     let names = switch_names switches j switch in
     let node : (t : List ℕ) → IsAway (node_of switches j switch ++ t) =
     away-position switch.kind (node_number switches switch j) in
-    let places : AreAway names.position =
-    record { value_away = node _; quality_away = node _; time_away = node _ } in
-    let counts : AreAway names.operations =
-    record { value_away = node _; quality_away = node _; time_away = node _ } in
+    let places : AreAway names.position = at-node (node_of switches j switch) _ _ _ node in
+    let counts : AreAway names.operations = at-node (node_of switches j switch) _ _ _ node in
     let controls : AreAway names.control =
-    record {
-      value_away = away-control (j + 1) _;
-      quality_away = away-control (j + 1) _;
-      time_away = away-control (j + 1) _;
-    } in
+    at-node (node_name (codes "CSWI") (j + 1)) _ _ _ (away-control (j + 1)) in
     let told =
     with_status names.position (leaf.Dbpos position) (position_quality position) now rows in
     let after =
@@ -220,42 +219,12 @@ keeps-measure names value now rows away =
     (keeps-status names (leaf.Int32 value) _ now rows away)
 
 pub field-away : (k : ℕ) (field : MeterField) → AreAway (field_names field (meter_names k))
-field-away k TotW =
-    record {
-      value_away = away-meter (k + 1) _;
-      quality_away = away-meter (k + 1) _;
-      time_away = away-meter (k + 1) _;
-    }
-field-away k TotVAr =
-    record {
-      value_away = away-meter (k + 1) _;
-      quality_away = away-meter (k + 1) _;
-      time_away = away-meter (k + 1) _;
-    }
-field-away k Hz =
-    record {
-      value_away = away-meter (k + 1) _;
-      quality_away = away-meter (k + 1) _;
-      time_away = away-meter (k + 1) _;
-    }
-field-away k PhaseA =
-    record {
-      value_away = away-meter (k + 1) _;
-      quality_away = away-meter (k + 1) _;
-      time_away = away-meter (k + 1) _;
-    }
-field-away k PhaseB =
-    record {
-      value_away = away-meter (k + 1) _;
-      quality_away = away-meter (k + 1) _;
-      time_away = away-meter (k + 1) _;
-    }
-field-away k PhaseC =
-    record {
-      value_away = away-meter (k + 1) _;
-      quality_away = away-meter (k + 1) _;
-      time_away = away-meter (k + 1) _;
-    }
+field-away k TotW = at-node (node_name (codes "MMXU") (k + 1)) _ _ _ (away-meter (k + 1))
+field-away k TotVAr = at-node (node_name (codes "MMXU") (k + 1)) _ _ _ (away-meter (k + 1))
+field-away k Hz = at-node (node_name (codes "MMXU") (k + 1)) _ _ _ (away-meter (k + 1))
+field-away k PhaseA = at-node (node_name (codes "MMXU") (k + 1)) _ _ _ (away-meter (k + 1))
+field-away k PhaseB = at-node (node_name (codes "MMXU") (k + 1)) _ _ _ (away-meter (k + 1))
+field-away k PhaseC = at-node (node_name (codes "MMXU") (k + 1)) _ _ _ (away-meter (k + 1))
 
 -- and so what was told stands
 pub told-kept : (rows new : List Row) (told : List (Option Enabled)) → AreTold rows told

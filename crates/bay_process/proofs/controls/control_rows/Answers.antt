@@ -1,11 +1,11 @@
 use Rattle.std.proofs.Common.{◌≡◌, ◌∙◌, sym, subst}
 use Rattle.bay_tree.specs.declared.leaf.LeafType.TheVariants.{Truth}
-use Rattle.bay_nodes.specs.Names.{control_names_of, control_of}
+use Rattle.bay_nodes.specs.Names.{control_names, control_names_of, control_of}
 use Rattle.bay_process.specs.Controls.{AreControlRows}
 use Rattle.bay_process.specs.Nodes.{HasLeaf}
 use Rattle.bay_process.specs.declared.controls.ControlRows.{ControlRows}
-use Rattle.bay_process.proofs.ListLemmas.{length-snoc}
-use Rattle.bay_process.proofs.NodeLemmas.{controls-snoc, selected-leaf_type}
+use Rattle.bay_process.proofs.ListLemmas.{each-snoc, length-snoc}
+use Rattle.bay_process.proofs.NodeLemmas.{selected-leaf_type}
 use Rattle.bay_process.proofs.controls.control_rows.Goals as goal
 
 pub selected_at-requires : goal.selected_at-requires
@@ -42,7 +42,8 @@ loop-place-preserved c =
     } in
     rw c.in_ok-push.ensures.items record {
       sized = length-snoc items _ c.loop-place.place c.loop-place.invariant.sized;
-      named = controls-snoc rows items _ c.loop-place.invariant.named
+      named = each-snoc (λ k. AreControlRows rows (control_names k)) items _
+          c.loop-place.invariant.named
           (rw c.loop-place.invariant.sized
           (subst (λ n. AreControlRows rows (control_names_of n) handles) named own));
     }

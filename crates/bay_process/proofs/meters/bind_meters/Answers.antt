@@ -1,10 +1,10 @@
 use Rattle.std.proofs.Common.{◌≡◌, ◌<◌, ◌∷◌, ◌++◌, [], ◌∙◌, Some, length, slice_get, get_or, take, refl, ap, sym, arith}
 use Rattle.std.proofs.lemmas.List.{map-append, take_more}
 use Rattle.std.proofs.lemmas.Option.{slice_get_read}
-use Rattle.bay_process.specs.Layout.{layout_of}
+use Rattle.bay_process.specs.Layout.{IsMeterBound, layout_of}
 use Rattle.bay_process.specs.declared.meter.BoundMeter.{BoundMeter}
-use Rattle.bay_process.proofs.ListLemmas.{length-snoc}
-use Rattle.bay_process.proofs.NodeLemmas.{bound-meter, bound-meters-snoc}
+use Rattle.bay_process.proofs.ListLemmas.{each-snoc, length-snoc}
+use Rattle.bay_process.proofs.NodeLemmas.{bound-meter}
 use Rattle.bay_process.proofs.meters.bind_meters.Goals as goal
 
 pub meter_rows-requires : goal.meter_rows-requires
@@ -35,7 +35,8 @@ loop-i-preserved c =
           ∙ ap (λ xs. xs ++ c.in_ok-id.id ∷ []) c.loop-i.invariant.ids
           ∙ ap (λ x. take i meters ++ x ∷ []) id
           ∙ sym (take_more meters i d lt);
-      bound = bound-meters-snoc (layout_of c.args.tree.now) items _ c.loop-i.invariant.bound
+      bound = each-snoc (λ k (m : BoundMeter). IsMeterBound (layout_of c.args.tree.now) k m.rows)
+          items _ c.loop-i.invariant.bound
           (rw c.loop-i.invariant.sized
           (bound-meter c.args.tree.now i n _ (c.requires.there i n here)
           (rw c.as_str.ensures at c.in_ok-rows.ensures)));
