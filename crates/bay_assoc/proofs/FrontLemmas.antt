@@ -1,13 +1,11 @@
 -- What stands before a PDU of MMS in its TSDU.
-use Rattle.std.proofs.Common.{◌≡◌, ℕ, pos, ◌+◌, ◌*◌, ◌/◌, ◌%◌, ◌<◌, ◌≤◌, ◌^◌, false, cond, List, [], ◌∷◌, ◌++◌, length, refl, sym, ap, ◌∙◌, arith, inl, inr}
+use Rattle.std.proofs.Common.{◌≡◌, ℕ, pos, ◌+◌, ◌*◌, ◌/◌, ◌%◌, ◌<◌, ◌≤◌, false, cond, List, [], ◌∷◌, ◌++◌, length, refl, sym, ap, ◌∙◌, arith, inl, inr}
 use Rattle.std.proofs.lemmas.Bool.{cases_lt, lt-ltb, le-ltb, ne_eqb}
 use Rattle.std.proofs.lemmas.List.{append_assoc, length-append}
 use Rattle.bay_ber.specs.declared.tag.Tag.{Tag}
 use Rattle.bay_ber.specs.Spelling.{octet_of}
-use Rattle.bay_ber.specs.Writing.{length_octets, element, element_length, is_needless, without_needless, integer_octets}
-use Rattle.bay_ber.proofs.SizeLemmas.{length-element-is}
+use Rattle.bay_ber.specs.Writing.{length_octets, element, is_needless, without_needless, integer_octets}
 use Rattle.bay_ber.proofs.SmallLemmas.{eight-bytes, id-one}
-use Rattle.bay_ber.proofs.WriteLemmas.{octets_needed-1, octets_needed-2, long_is}
 use Rattle.bay_mms.specs.Tags.{constructed, sequence, int_tag}
 use Rattle.bay_assoc.specs.Tags.{application}
 use Rattle.bay_assoc.specs.Texts.{user_text, transfer_text}

@@ -6,7 +6,7 @@ use Rattle.std.proofs.lemmas.Bool.{eqb-true, ltb-false, and_parts}
 use Rattle.std.proofs.lemmas.Bool.Decides.{nat_tests}
 use Rattle.bay_base.specs.Options.{◌>>=◌}
 use Rattle.bay_ber.proofs.ReadLemmas.{IsBytes, bind-ok}
-use Rattle.bay_ber.proofs.BackLemmas.{bind-some, bytes-behind, bytes-before, guard-false}
+use Rattle.bay_ber.proofs.BackLemmas.{bind-some, bytes-behind, bytes-before, unguarded}
 use Rattle.bay_mms.specs.declared.response.Agreed.{Agreed}
 use Rattle.bay_mms.specs.Grammar.{initiate_in}
 use Rattle.bay_mms.proofs.InitiateLemmas.{initiate-back}
@@ -16,7 +16,7 @@ use Rattle.bay_assoc.specs.declared.fault.AssocFault.TheVariants as fault
 use Rattle.bay_assoc.specs.declared.hearing.Accepted.{Accepted}
 use Rattle.bay_assoc.specs.declared.hearing.AssociationTerms.{AssociationTerms}
 use Rattle.bay_assoc.specs.declared.hearing.Phase.{Phase}
-use Rattle.bay_assoc.specs.declared.hearing.Phase.TheVariants.{Idle, Open, Over, Failed}
+use Rattle.bay_assoc.specs.declared.hearing.Phase.TheVariants.{Idle, Open, Over}
 use Rattle.bay_assoc.specs.Results.{or_fault}
 use Rattle.bay_assoc.specs.Session.{Unit, long_size, size_at, counted_at, unit_at, onto, with_front, units_within, units_in, only_one, unit_in, is_user, Users, users_of, users_in, Spdu, connect, accept, finish, disconnect, abort, transfer, connect_of, finish_of, spdu_of, is_transfer, spdu_in}
 use Rattle.bay_assoc.specs.Presentation.{Carried, user_in, request_in}
@@ -26,7 +26,8 @@ use Rattle.bay_assoc.specs.Hearing.{Hearing, answer, mms, released, aborted, is_
 use Rattle.bay_assoc.specs.SpelledSession.{IsSize, SpellUnits, Framed, user_data, IsSpdu}
 use Rattle.bay_assoc.specs.SpelledValues.{IsUser, IsAssociate}
 use Rattle.bay_assoc.specs.SpelledHearing.{IsHeard}
-use Rattle.bay_assoc.proofs.ValueBackLemmas.{user-back, request-back, associate-back, release-back}
+use Rattle.bay_assoc.proofs.AcseBackLemmas.{associate-back, release-back}
+use Rattle.bay_assoc.proofs.ValueBackLemmas.{user-back, request-back}
 
 -- ---- units
 
@@ -37,13 +38,12 @@ record Sized (octets rest : List ℕ) (n : ℕ) : Type 0 where
 
 long-back : (octets : List ℕ) (x : ℕ × List ℕ) → long_size octets ≡ Some x
     → Sized (255 ∷ octets) x.1 x.0
-long-back [] x e = absurd cc
-long-back (high ∷ []) x e = absurd cc
 long-back (high ∷ low ∷ octets) x e =
     let made : ℕ × List ℕ = (high * 256 + low, octets) in
     let same : made ≡ x = same_Some made x e in
     subst (λ (y : ℕ × List ℕ). Sized (255 ∷ high ∷ low ∷ octets) y.1 y.0) same
     (record { size = 255 ∷ high ∷ low ∷ []; is = refl; sized = (refl, refl) })
+long-back octets x e = absurd cc
 
 below : (n : ℕ) → n < 256 → eqb n 255 ≡ false → n < 255
 below n low other = grind (arith, nat_tests)
@@ -81,11 +81,11 @@ counted-back octets x b e =
     let n = s.0.0 in
     let behind = s.0.1 in
     let made : List ℕ × List ℕ = (take n behind, drop n behind) in
-    let g = guard-false (ltb (length behind) n) made x s.2 in
+    let g = unguarded (ltb (length behind) n) (Some made) x s.2 in
     let enough = ltb-false (length behind) n g.0 in
     let z = size-back octets s.0 b s.1 in
     let long : length (take n behind) ≡ n = omega (arith, length-take n behind, enough) in
-    subst (λ (y : List ℕ × List ℕ). Counted octets y.0 y.1) g.1 (record {
+    subst (λ (y : List ℕ × List ℕ). Counted octets y.0 y.1) (same_Some made x g.1) (record {
       size = z.size;
       is = z.is ∙ ap (λ (l : List ℕ). z.size ++ l) (sym (take-append-drop n behind));
       sized = subst (IsSize z.size) (sym long) z.sized;
@@ -157,9 +157,8 @@ unfolding units_in
 units-back octets units b e = units-within-back (length octets) octets units b e
 
 only-is : (units : List Unit) (u : Unit) → only_one units ≡ Some u → units ≡ u ∷ []
-only-is [] u e = absurd cc
 only-is (v ∷ []) u e = ap (λ (x : Unit). x ∷ []) (same_Some v u e)
-only-is (v ∷ w ∷ units) u e = absurd cc
+only-is units u e = absurd cc
 
 one-unit : (octets : List ℕ) (u : Unit) → IsBytes octets → unit_in octets ≡ Some u
     → SpellUnits octets (u ∷ []) × IsBytes u.content
@@ -245,11 +244,10 @@ user-unit u e = ap (λ (n : ℕ). unit_with n u.content) (eqb-true u.identifier 
 connect-back : (octets : List ℕ) (users : List Unit) (s : Spdu) → Framed 0x0D octets users
     → UnitBytes users → AreUsers users → connect_of (users_of users) ≡ Some s
     → IsSpdu octets s × UserBytes s
-connect-back octets [] s f b t e = absurd cc
 connect-back octets (u ∷ []) s f b t e =
     subst (λ (x : Spdu). IsSpdu octets x × UserBytes x) (same_Some (connect u.content) s e)
     (subst (λ (v : Unit). Framed 0x0D octets (v ∷ [])) (user-unit u t.0) f, b.0)
-connect-back octets (u ∷ v ∷ users) s f b t e = absurd cc
+connect-back octets users s f b t e = absurd cc
 
 finish-back : (octets : List ℕ) (users : List Unit) (s : Spdu) → Framed 0x09 octets users
     → UnitBytes users → AreUsers users → finish_of (users_of users) ≡ Some s
@@ -307,10 +305,6 @@ spdu-of-back octets u s whole b e =
     (eqb u.identifier 0x0A) (eqb u.identifier 0x19) refl refl refl refl refl whole b e
 
 transfer-is : (octets : List ℕ) → is_transfer octets ≡ true → octets ≡ 1 ∷ 0 ∷ 1 ∷ 0 ∷ drop 4 octets
-transfer-is [] e = absurd cc
-transfer-is (a ∷ []) e = absurd cc
-transfer-is (a ∷ b ∷ []) e = absurd cc
-transfer-is (a ∷ b ∷ c ∷ []) e = absurd cc
 transfer-is (a ∷ b ∷ c ∷ d ∷ user) e =
     let x = and_parts _ _ e in
     let y = and_parts _ _ x.1 in
@@ -320,6 +314,7 @@ transfer-is (a ∷ b ∷ c ∷ d ∷ user) e =
     let ec = eqb-true c 1 z.0 in
     let ed = eqb-true d 0 z.1 in
     cc
+transfer-is octets e = absurd cc
 
 spdu-case : (octets : List ℕ) (s : Spdu) (t : Bool) → IsBytes octets → is_transfer octets ≡ t
     → cond t (Some (transfer (drop 4 octets))) (unit_in octets >>= spdu_of) ≡ Some s
@@ -462,12 +457,9 @@ connected-back octets user h new spdu b e =
 idle-back : (octets : List ℕ) (s : Spdu) (h : Hearing) (new : Phase) → IsSpdu octets s → UserBytes s
     → heard_idle s ≡ Ok (h, new) → IsHeard Idle octets h new
 idle-back octets (connect user) h new is b e = connected-back octets user h new is b e
-idle-back octets accept h new is b e = absurd cc
-idle-back octets (finish user) h new is b e = absurd cc
-idle-back octets disconnect h new is b e = absurd cc
 idle-back octets abort h new is b e =
     heard-as Idle octets aborted h Over new (pair-is aborted h Over new e) (is, refl)
-idle-back octets (transfer user) h new is b e = absurd cc
+idle-back octets s h new is b e = absurd cc
 
 finished-back : (octets : List ℕ) (terms : AssociationTerms) (user : Option (List ℕ)) (h : Hearing)
     (new : Phase) → IsSpdu octets (finish user) → UserBytes (finish user)
@@ -506,14 +498,12 @@ transferred-back octets user terms h new is b e =
 open-back : (octets : List ℕ) (terms : AssociationTerms) (s : Spdu) (h : Hearing) (new : Phase)
     → IsSpdu octets s → UserBytes s → heard_open terms s ≡ Ok (h, new)
     → IsHeard (Open terms) octets h new
-open-back octets terms (connect user) h new is b e = absurd cc
-open-back octets terms accept h new is b e = absurd cc
 open-back octets terms (finish user) h new is b e = finished-back octets terms user h new is b e
-open-back octets terms disconnect h new is b e = absurd cc
 open-back octets terms abort h new is b e =
     heard-as (Open terms) octets aborted h Over new (pair-is aborted h Over new e) (is, refl)
 open-back octets terms (transfer user) h new is b e =
     transferred-back octets user terms h new is b e
+open-back octets terms s h new is b e = absurd cc
 
 pub heard-is-spelled : (old new : Phase) (octets : List ℕ) (h : Hearing) → IsBytes octets
     → hearing old octets ≡ Ok (h, new) → IsHeard old octets h new
@@ -526,5 +516,4 @@ heard-is-spelled (Open terms) new octets h b e =
     let s = then-is fault.BadSession (spdu_in octets) (heard_open terms) (h, new) e in
     let k = spdu-back octets s.0 b s.1 in
     open-back octets terms s.0 h new k.0 k.1 s.2
-heard-is-spelled Over new octets h b e = absurd cc
-heard-is-spelled Failed new octets h b e = absurd cc
+heard-is-spelled old new octets h b e = absurd cc

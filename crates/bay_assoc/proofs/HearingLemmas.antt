@@ -4,7 +4,7 @@ use Rattle.std.proofs.lemmas.Bool.{eq-eqb}
 use Rattle.bay_assoc.specs.declared.fault.AssocFault.{AssocFault}
 use Rattle.bay_assoc.specs.declared.hearing.AssociationTerms.{AssociationTerms}
 use Rattle.bay_assoc.specs.declared.hearing.Phase.{Phase}
-use Rattle.bay_assoc.specs.declared.hearing.Phase.TheVariants.{Idle, Open, Over, Failed}
+use Rattle.bay_assoc.specs.declared.hearing.Phase.TheVariants.{Idle, Open, Over}
 use Rattle.bay_assoc.specs.Session.{connect, finish, abort, transfer}
 use Rattle.bay_assoc.specs.Hearing.{Hearing, answer, mms, released, aborted, agreement, answer_text, connection_request, release_request, data_transfer, hearing}
 use Rattle.bay_assoc.specs.SpelledSession.{IsSpdu}
@@ -78,19 +78,15 @@ pub heard-so : (old new : Phase) (octets : List ℕ) (h : Hearing) → IsHeard o
     → hearing old octets ≡ Ok (h, new)
 heard-so Idle new octets (answer text) is =
     answered octets text is.0 is.1 ∙ ap (λ (p : Phase). Ok (answer text, p)) (sym is.2)
-heard-so Idle new octets (mms pdu) is = absurd is
-heard-so Idle new octets (released text) is = absurd is
 heard-so Idle new octets aborted is =
     abort-idle octets is.0 ∙ ap (λ (p : Phase). Ok (aborted, p)) (sym is.1)
-heard-so (Open terms) new octets (answer text) is = absurd is
 heard-so (Open terms) new octets (mms pdu) is =
     data-so octets is.0 pdu terms is.1 is.2 ∙ ap (λ (p : Phase). Ok (mms pdu, p)) (sym is.3)
 heard-so (Open terms) new octets (released text) is =
     released-so octets text terms is.0 is.1 ∙ ap (λ (p : Phase). Ok (released text, p)) (sym is.2)
 heard-so (Open terms) new octets aborted is =
     abort-open octets terms is.0 ∙ ap (λ (p : Phase). Ok (aborted, p)) (sym is.1)
-heard-so Over new octets h is = absurd is
-heard-so Failed new octets h is = absurd is
+heard-so old new octets h is = absurd is
 
 same-ok : (x y : Hearing × Phase) → (let r : Result (Hearing × Phase) AssocFault = Ok x in r) ≡ Ok y
     → x ≡ y

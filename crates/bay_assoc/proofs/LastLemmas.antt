@@ -9,7 +9,7 @@ use Rattle.bay_mms.specs.Tags.{constructed, sequence, int_tag}
 use Rattle.bay_assoc.specs.declared.hearing.Heard.{Heard}
 use Rattle.bay_assoc.specs.declared.hearing.Heard.TheVariants as heard
 use Rattle.bay_assoc.specs.declared.hearing.Phase.{Phase}
-use Rattle.bay_assoc.specs.declared.hearing.Phase.TheVariants.{Idle, Open, Over, Failed}
+use Rattle.bay_assoc.specs.declared.hearing.Phase.TheVariants.{Open}
 use Rattle.bay_assoc.specs.Hearing.{mms, hearing}
 use Rattle.bay_assoc.specs.Hears.{association_terms, StandsLast, IsOpenFor}
 use Rattle.bay_assoc.specs.Presentation.{Carried}
@@ -65,33 +65,25 @@ user-last octets c is =
 
 heard-last : (old new : Phase) (octets pdu : List ℕ) → IsHeard old octets (mms pdu) new
     → EndsWith octets pdu
-heard-last Idle new octets pdu is = absurd is
 heard-last (Open terms) new octets pdu is =
     ends-on octets is.0 pdu (record { front = 1 ∷ 0 ∷ 1 ∷ 0 ∷ []; is = is.1 })
     (user-last is.0 (record { id = pos terms.contexts.mms; value = pdu }) is.2)
-heard-last Over new octets pdu is = absurd is
-heard-last Failed new octets pdu is = absurd is
+heard-last old new octets pdu is = absurd is
 
 heard_open : (old new : Phase) (octets pdu : List ℕ) → IsHeard old octets (mms pdu) new
     → IsSome (association_terms new)
-heard_open Idle new octets pdu is = absurd is
 heard_open (Open terms) new octets pdu is = rw is.3 refl
-heard_open Over new octets pdu is = absurd is
-heard_open Failed new octets pdu is = absurd is
+heard_open old new octets pdu is = absurd is
 
 pub stands-last : (old new : Phase) (octets : List ℕ) (h : Heard) → IsBytes octets
     → hearing old octets ≡ Ok (hearing_of h, new) → StandsLast octets h
-stands-last old new octets (heard.Answer answer) b e = tt
 stands-last old new octets (heard.Mms pdu) b e = let l =
     heard-last old new octets pdu.now (heard-is-spelled old new octets (mms pdu.now) b e) in
     (l.front, l.is)
-stands-last old new octets (heard.Released answer) b e = tt
-stands-last old new octets heard.Aborted b e = tt
+stands-last old new octets h b e = tt
 
 pub open-for : (old new : Phase) (octets : List ℕ) (h : Heard) → IsBytes octets
     → hearing old octets ≡ Ok (hearing_of h, new) → IsOpenFor h new
-open-for old new octets (heard.Answer answer) b e = tt
 open-for old new octets (heard.Mms pdu) b e =
     heard_open old new octets pdu.now (heard-is-spelled old new octets (mms pdu.now) b e)
-open-for old new octets (heard.Released answer) b e = tt
-open-for old new octets heard.Aborted b e = tt
+open-for old new octets h b e = tt

@@ -1,3 +1,4 @@
+pub mod AcseBackLemmas
 pub mod ContextLemmas
 pub mod FrontLemmas
 pub mod HearingBackLemmas

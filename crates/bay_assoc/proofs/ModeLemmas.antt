@@ -19,12 +19,10 @@ either-there false m n f g c e = is_there n g c e
 
 among-there : (parts : List Part) (c : Connect) → request_of parts ≡ Some c
     → IsSome (mode_among parts)
-among-there [] c e = absurd cc
-among-there (p ∷ []) c e = absurd cc
 among-there (first ∷ second ∷ []) c e =
     either-there (same_tag first.tag (constructed 0)) (mode_as first) (mode_as second)
     (λ mode. normal_as second) (λ mode. normal_as first) c e
-among-there (p ∷ q ∷ r ∷ parts) c e = absurd cc
+among-there parts c e = absurd cc
 
 pub a_request_has_its_mode : (octets : List ℕ) (c : Connect) → request_in octets ≡ Some c
     → IsSome (mode_in octets)

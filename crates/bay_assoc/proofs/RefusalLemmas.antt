@@ -26,7 +26,8 @@ use Rattle.bay_assoc.specs.SpelledRefusals.{IsIn, IsElsewhere, Disagrees, lacks_
 use Rattle.bay_assoc.proofs.HearingBackLemmas.{UserBytes, spdu-back, id-is}
 use Rattle.bay_assoc.proofs.SpduLemmas.{spdu-again}
 use Rattle.bay_assoc.proofs.ValueLemmas.{user-read, request-read, associate-read, release-read}
-use Rattle.bay_assoc.proofs.ValueBackLemmas.{user-back, request-back, associate-back, release-back}
+use Rattle.bay_assoc.proofs.AcseBackLemmas.{associate-back, release-back}
+use Rattle.bay_assoc.proofs.ValueBackLemmas.{user-back, request-back}
 
 -- ---- what is read and what is spelled
 
@@ -211,14 +212,8 @@ connected-refused user octets f spdu b e =
 first-refused : (octets : List ℕ) (s : Spdu) (f : AssocFault) → IsSpdu octets s → UserBytes s
     → heard_idle s ≡ Err f → IsRefusedFirst octets f
 first-refused octets (connect user) f spdu b e = connected-refused user octets f spdu b e
-first-refused octets accept f spdu b e = early accept spdu tt (same-fault fault.OutOfPhase f e)
-first-refused octets (finish user) f spdu b e =
-    early (finish user) spdu tt (same-fault fault.OutOfPhase f e)
-first-refused octets disconnect f spdu b e =
-    early disconnect spdu tt (same-fault fault.OutOfPhase f e)
 first-refused octets abort f spdu b e = no_answer _ f e
-first-refused octets (transfer user) f spdu b e =
-    early (transfer user) spdu tt (same-fault fault.OutOfPhase f e)
+first-refused octets s f spdu b e = early s spdu tt (same-fault fault.OutOfPhase f e)
 
 idle-case : (octets : List ℕ) (o : Option Spdu) (f : AssocFault) → IsBytes octets
     → spdu_in octets ≡ o → (or_fault fault.BadSession o >> heard_idle) ≡ Err f
@@ -305,17 +300,13 @@ later-refused : (terms : AssociationTerms) (octets : List ℕ) (s : Spdu) (f : A
     → IsSpdu octets s → UserBytes s → heard_open terms s ≡ Err f
     → IsRefusedOpen terms.contexts octets f
 unfolding release_request data_transfer
-later-refused terms octets (connect user) f spdu b e =
-    late (connect user) spdu tt (same-fault fault.OutOfPhase f e)
-later-refused terms octets accept f spdu b e = late accept spdu tt (same-fault fault.OutOfPhase f e)
 later-refused terms octets (finish None) f spdu b e = no_answer _ f e
 later-refused terms octets (finish (Some user)) f spdu b e =
     finish-user terms.contexts octets user f (user_in user) spdu b refl _ (λ y lack. absurd cc) e
-later-refused terms octets disconnect f spdu b e =
-    late disconnect spdu tt (same-fault fault.OutOfPhase f e)
 later-refused terms octets abort f spdu b e = no_answer _ f e
 later-refused terms octets (transfer user) f spdu b e =
     data-user terms.contexts octets user f (user_in user) spdu b refl _ (λ y lack. absurd cc) e
+later-refused terms octets s f spdu b e = late s spdu tt (same-fault fault.OutOfPhase f e)
 
 open-case : (terms : AssociationTerms) (octets : List ℕ) (o : Option Spdu) (f : AssocFault)
     → IsBytes octets → spdu_in octets ≡ o
@@ -407,20 +398,15 @@ module _ (contexts : List Context) (user : Carried) (f : AssocFault) (b : IsByte
 
 early-so : (s : Spdu) (f : AssocFault) → IsEarly s → f ≡ fault.OutOfPhase → heard_idle s ≡ Err f
 early-so (connect user) f is same = absurd is
-early-so accept f is same = err fault.OutOfPhase f same
-early-so (finish user) f is same = err fault.OutOfPhase f same
-early-so disconnect f is same = err fault.OutOfPhase f same
 early-so abort f is same = absurd is
-early-so (transfer user) f is same = err fault.OutOfPhase f same
+early-so s f is same = err fault.OutOfPhase f same
 
 late-so : (terms : AssociationTerms) (s : Spdu) (f : AssocFault) → IsLate s
     → f ≡ fault.OutOfPhase → heard_open terms s ≡ Err f
 late-so terms (connect user) f is same = err fault.OutOfPhase f same
 late-so terms accept f is same = err fault.OutOfPhase f same
-late-so terms (finish user) f is same = absurd is
 late-so terms disconnect f is same = err fault.OutOfPhase f same
-late-so terms abort f is same = absurd is
-late-so terms (transfer user) f is same = absurd is
+late-so terms s f is same = absurd is
 
 no-spdu-read : (octets : List ℕ) → IsBytes octets → ((s : Spdu) → IsSpdu octets s → ⊥)
     → spdu_in octets ≡ None

@@ -10,15 +10,13 @@ use Rattle.bay_assoc.proofs.UnitLemmas.{no-units, units-step}
 size-again : (size : List ℕ) (n : ℕ) (rest : List ℕ) → IsSize size n
     → size_at (size ++ rest) ≡ Some (n, rest)
 unfolding size_at
-size-again [] n rest is = absurd is
 size-again (first ∷ []) n rest is =
     let other : eqb first 255 ≡ false = ne_eqb first 255 (λ e. let low = is.0 in omega arith) in
     rw other (ap (λ (m : ℕ). Some (m, rest)) (sym is.1))
-size-again (first ∷ high ∷ []) n rest is = absurd is
 size-again (first ∷ high ∷ low ∷ []) n rest is =
     let yes : eqb first 255 ≡ true = eq-eqb first 255 is.0 in
     rw yes (ap (λ (m : ℕ). Some (m, rest)) (sym is.1))
-size-again (first ∷ high ∷ low ∷ next ∷ octets) n rest is = absurd is
+size-again size n rest is = absurd is
 
 counted-again : (size content rest : List ℕ) → IsSize size (length content)
     → counted_at (size ++ (content ++ rest)) ≡ Some (content, rest)
@@ -60,10 +58,8 @@ unit-whole identifier octets users f =
 
 not-front : (first : ℕ) (octets : List ℕ) → eqb first 1 ≡ false
     → is_transfer (first ∷ octets) ≡ false
-not-front first [] other = refl
-not-front first (a ∷ []) other = refl
-not-front first (a ∷ b ∷ []) other = refl
 not-front first (a ∷ b ∷ c ∷ octets) other = rw other refl
+not-front first octets other = refl
 
 not-transfer : (identifier : ℕ) (octets : List ℕ) (users : List Unit)
     → (f : Framed identifier octets users) → eqb identifier 1 ≡ false → is_transfer octets ≡ false

@@ -4,10 +4,10 @@ use Rattle.std.proofs.lemmas.List.{drop_all, drop_more, length-append}
 use Rattle.std.specs.Borrow.{Bor}
 use Rattle.std.specs.Option.{ForSome, option_map}
 use Rattle.bay_ber.specs.declared.tag.Tag.{Tag}
-use Rattle.bay_ber.specs.Sheets.{Sheet, sheet_with}
+use Rattle.bay_ber.specs.Sheets.{Sheet, sheet_with, within}
 use Rattle.bay_ber.specs.Writing.{element, integer_octets, length_octets}
-use Rattle.bay_ber.proofs.SheetLemmas.{put_nil, put-put}
-use Rattle.bay_ber.proofs.SizeLemmas.{length-element, length-integer_octets}
+use Rattle.bay_ber.proofs.SheetLemmas.{put_nil, put-put, fits}
+use Rattle.bay_ber.proofs.SizeLemmas.{length-element, length-integer}
 use Rattle.bay_mms.specs.Tags.{context, constructed, sequence, int_tag}
 use Rattle.bay_assoc.specs.Tags.{oid_tag, set_tag, external_tag, application, mms_application}
 use Rattle.bay_assoc.specs.Texts.{carried_text, user_text, result_text, results_text, selector_text, connected_text, associated_text, release_text}
@@ -44,8 +44,7 @@ carried-short tag id value =
       arith,
       length-element tag (number ++ held),
       length-append number held,
-      length-element int_tag (integer_octets (pos id)),
-      length-integer_octets (pos id),
+      length-integer int_tag (pos id),
       length-element (constructed 0) value,
     )
 
@@ -83,29 +82,22 @@ results-short a (c ∷ cs) =
       one-short a c,
     )
 
--- a selector that came has at most 16 octets
-abbrev pub most_16 : Option (List ℕ) → Type 0
-most_16 None = Unit {0}
-most_16 (Some octets) = length octets ≤ 16
-
-pub at_most_16 : (called : Option (Bor (List ℕ)))
+selector-short : (called : Option (Bor (List ℕ)))
     → ForSome called (λ octets. length octets.now ≤ 16)
-    → most_16 (option_map (λ octets. octets.now) called)
-at_most_16 None few = tt
-at_most_16 (Some octets) few = few octets refl
-
-selector-short : (called : Option (List ℕ)) → most_16 called → length (selector_text called) ≤ 22
+    → length (selector_text (option_map (λ octets. octets.now) called)) ≤ 22
 selector-short None few = omega arith
-selector-short (Some octets) few = omega (arith, few, length-element (context 3) octets)
+selector-short (Some octets) few =
+    omega (arith, few octets refl, length-element (context 3) octets.now)
 
-pub connected-short : (called : Option (List ℕ)) (cs : List Context) (a : Accepted) (value : List ℕ)
-    → most_16 called → length cs ≤ 16 → length value ≤ 271
-    → length (connected_text called cs a value) ≤ 560
-connected-short called cs a value few most short =
+pub connected_short : (called : Option (Bor (List ℕ))) (cs : List Context) (a : Accepted)
+    (value : List ℕ) → ForSome called (λ octets. length octets.now ≤ 16) → length cs ≤ 16
+    → length value ≤ 271
+    → length (connected_text (option_map (λ octets. octets.now) called) cs a value) ≤ 560
+connected_short called cs a value few most short =
     let mode = element (constructed 0) (0x80 ∷ 0x01 ∷ 0x01 ∷ []) in
     let list = element (constructed 5) (results_text a cs) in
     let user = user_text a.acse value in
-    let selector = selector_text called in
+    let selector = selector_text (option_map (λ octets. octets.now) called) in
     let normal = element (constructed 2) (selector ++ (list ++ user)) in
     omega (
       arith,
@@ -125,9 +117,9 @@ oid-seven : length (element oid_tag mms_application) ≡ 7
 unfolding element length_octets
 oid-seven = refl
 
-pub associated-short : (mms : ℕ) (pdu : List ℕ) → length pdu ≤ 200
+pub associated_short : (mms : ℕ) (pdu : List ℕ) → length pdu ≤ 200
     → length (associated_text mms pdu) ≤ 271
-associated-short mms pdu short =
+associated_short mms pdu short =
     let name = element (constructed 1) (element oid_tag mms_application) in
     let done = element (constructed 2) (0x02 ∷ 0x01 ∷ 0x00 ∷ []) in
     let source = element (constructed 3) (0xA1 ∷ 0x03 ∷ 0x02 ∷ 0x01 ∷ 0x00 ∷ []) in
@@ -146,10 +138,29 @@ associated-short mms pdu short =
       carried-short external_tag mms pdu,
     )
 
-pub released-short : (acse : ℕ) → length (user_text acse release_text) ≤ 41
-released-short acse =
+pub released_short : (acse : ℕ) → length (user_text acse release_text) ≤ 41
+released_short acse =
     omega (
       arith,
       user-short acse release_text,
       length-element (application 3) (0x80 ∷ 0x01 ∷ 0x00 ∷ []),
     )
+
+-- ---- so they are held
+
+pub connected_within : (called : Option (Bor (List ℕ))) (cs : List Context) (a : Accepted)
+    (value : List ℕ) → ForSome called (λ octets. length octets.now ≤ 16) → length cs ≤ 16
+    → length value ≤ 271
+    → within 560 (connected_text (option_map (λ octets. octets.now) called) cs a value)
+    ≡ Some (connected_text (option_map (λ octets. octets.now) called) cs a value)
+connected_within called cs a value few most short =
+    fits 560 (connected_text (option_map (λ octets. octets.now) called) cs a value)
+    (connected_short called cs a value few most short)
+
+pub associated_within : (mms : ℕ) (pdu : List ℕ) → length pdu ≤ 200
+    → within 271 (associated_text mms pdu) ≡ Some (associated_text mms pdu)
+associated_within mms pdu short = fits 271 (associated_text mms pdu) (associated_short mms pdu short)
+
+pub released_within : (acse : ℕ)
+    → within 41 (user_text acse release_text) ≡ Some (user_text acse release_text)
+released_within acse = fits 41 (user_text acse release_text) (released_short acse)

@@ -1,27 +1,21 @@
 -- The units that octets are, read in turn (X.225 8.2).
 use Rattle.std.proofs.Common.{◌≡◌, ℕ, zero, suc, ◌<◌, ◌≤◌, Bool, true, false, cond, eqb, ltb, List, [], ◌∷◌, ◌++◌, length, filter, take, drop, Option, Some, None, refl, sym, ap, ◌∙◌, append_assoc, arith}
+use Rattle.std.proofs.lemmas.Option.{same_Some}
 use Rattle.std.proofs.lemmas.Bool.{eqb-true}
 use Rattle.std.proofs.lemmas.List.{length-drop, append-nil}
 use Rattle.std.proofs.lemmas.List.Elements.{filter-append}
 use Rattle.bay_base.specs.Options.{◌>>=◌}
-use Rattle.bay_ber.proofs.BackLemmas.{bind-some}
+use Rattle.bay_ber.proofs.BackLemmas.{bind-some, unguarded}
 use Rattle.bay_assoc.specs.Session.{Unit, long_size, size_at, counted_at, unit_at, onto, with_front, units_within, units_in, only_one, unit_in, is_user, Users, missing, users_of, users_in}
 use Rattle.bay_assoc.specs.SessionReading.{then_user, with_user}
-
--- ---- options
-
-guarded : {A : Type 0} (b : Bool) (x y : A) → cond b None (Some x) ≡ Some y → x ≡ y
-guarded true x y e = absurd cc
-guarded false x y e = cc
 
 -- ---- what is read leaves less
 
 long-shorter : (octets : List ℕ) (x : ℕ × List ℕ) → long_size octets ≡ Some x
     → length x.1 ≤ length octets
-long-shorter [] x e = absurd cc
-long-shorter (high ∷ []) x e = absurd cc
 long-shorter (high ∷ low ∷ octets) x e = let same : octets ≡ x.1 =
     cc in omega (arith, ap length same)
+long-shorter octets x e = absurd cc
 
 chosen-size : (b : Bool) (first : ℕ) (octets : List ℕ) (x : ℕ × List ℕ)
     → cond b (long_size octets) (Some (first, octets)) ≡ Some x → length x.1 ≤ length octets
@@ -42,7 +36,7 @@ counted-shorter octets x e =
     (λ size. cond (ltb (length size.1) size.0) None
     (Some (take size.0 size.1, drop size.0 size.1))) x e in
     let made : List ℕ × List ℕ = (take a.0.0 a.0.1, drop a.0.0 a.0.1) in
-    let same : made ≡ x = guarded (ltb (length a.0.1) a.0.0) made x a.2 in
+    let same = same_Some made x (unguarded (ltb (length a.0.1) a.0.0) (Some made) x a.2).1 in
     let rest : drop a.0.0 a.0.1 ≡ x.1 = ap (λ (y : List ℕ × List ℕ). y.1) same in
     omega (arith, ap length rest, length-drop a.0.0 a.0.1, size-shorter octets a.0 a.1)
 

@@ -1,34 +1,24 @@
--- What octets are read as, they spell: PPDUs and APDUs.
+-- What octets are read as, they spell: PPDUs.
 use Rattle.std.proofs.Common.{◌≡◌, ℕ, ℤ, pos, negsuc, ◌<◌, ◌≤◌, ◌&&◌, Bool, true, false, cond, eqb, ltb, List, [], ◌∷◌, ◌++◌, length, map, Option, Some, None, refl, sym, ap, subst, ◌∙◌, ◌⊎◌, inl, inr, arith}
 use Rattle.std.proofs.lemmas.Option.{cond_some, same_Some}
 use Rattle.std.specs.List.{list_any}
 use Rattle.std.specs.Str.{bytes_eq}
 use Rattle.std.proofs.lemmas.Bool.{eqb-true, ltb-true, ltb-false, and_parts}
-use Rattle.std.proofs.lemmas.Slice.Eq.{bytes_eq-Decides}
 use Rattle.bay_ber.specs.declared.tag.Tag.{Tag}
 use Rattle.bay_base.specs.Options.{◌>>=◌}
 use Rattle.bay_ber.specs.Content.{IsInteger, integer_in}
 use Rattle.bay_ber.specs.Tags.{same_tag}
-use Rattle.bay_ber.specs.Values.{Part, value, SpellAll, value_in, few_in, all_of, each_in, known_in, under}
+use Rattle.bay_ber.specs.Values.{Part, value, SpellAll, value_in, few_in, all_of, each_in, known_in, under, integer_under}
 use Rattle.bay_ber.proofs.ReadLemmas.{IsBytes}
-use Rattle.bay_ber.proofs.BackLemmas.{bind-some, AllBytes, tag-is, guard-false, under-is, integer-back, one-back, one-under, few-back, known-back, each-back}
+use Rattle.bay_ber.proofs.BackLemmas.{bind-some, AllBytes, tag-is, unguarded, under-is, under-bytes, under-one, integer-back, number-back, one-back, one-under, few-back, known-back, each-back}
 use Rattle.bay_mms.specs.Spelled.{AreEach}
 use Rattle.bay_mms.proofs.EachLemmas.{each-listed}
 use Rattle.bay_mms.specs.Tags.{context, constructed, sequence, int_tag}
-use Rattle.bay_assoc.specs.Tags.{oid_tag, set_tag, external_tag, application, acse_syntax, mms_syntax, ber_syntax, mms_application}
+use Rattle.bay_assoc.specs.Tags.{oid_tag, set_tag, application, acse_syntax, mms_syntax, ber_syntax}
 use Rattle.bay_assoc.specs.declared.presentation.Context.{Context}
-use Rattle.bay_assoc.specs.Presentation.{integer_under, is_ber, offers_ber, context_id, context_with, context_of, context_as, are_distinct, few_contexts, contexts_in, Carried, carried_as, carried_of, carried_in, carried_under, user_in, Connect, selector_of, selector_as, connect_with, connect_of, normal_in, normal_as, mode_of, mode_as, request_of, request_in}
-use Rattle.bay_assoc.specs.Acse.{application_of, application_as, information_as, associate_of, associate_in, release_in}
-use Rattle.bay_assoc.specs.SpelledValues.{IsCarried, IsListed, IsUser, IsContext, IsOffer, IsSelectors, IsNormal, IsMode, IsRequest, IsAssociate, IsRelease}
+use Rattle.bay_assoc.specs.Presentation.{is_ber, offers_ber, context_id, context_with, context_of, context_as, are_distinct, few_contexts, contexts_in, Carried, carried_as, carried_of, carried_in, carried_under, user_in, Connect, selector_of, selector_as, connect_with, connect_of, normal_in, normal_as, mode_of, mode_as, request_of, request_in}
+use Rattle.bay_assoc.specs.SpelledValues.{IsCarried, IsListed, IsUser, IsContext, IsOffer, IsSelectors, IsNormal, IsMode, IsRequest}
 use Rattle.bay_assoc.proofs.ValueLemmas.{any-map}
-
--- an integer under its tag
-pub number-back : (p : Part) (z : ℤ) → integer_under p ≡ Some z
-    → (number : List ℕ) × (p ≡ value int_tag number) × IsInteger number z
-unfolding integer_under
-number-back p z e =
-    let x = bind-some (under int_tag p) integer_in z e in
-    (x.0, under-is int_tag p x.0 x.1, integer-back x.0 z x.2)
 
 -- ---- presentation data values
 
@@ -41,11 +31,11 @@ pub record Pair (id v : Part) (c : Carried) : Type 0 where
 pair-back : (id v : Part) (c : Carried) → carried_as id v ≡ Some c → Pair id v c
 unfolding carried_as
 pair-back id v c e =
-    let x = bind-some (integer_under id) _ c e in
+    let x = bind-some (integer_under int_tag id) _ c e in
     let y = bind-some (under (constructed 0) v) _ c x.2 in
     let made : Carried = record { id = x.0; value = y.0 } in
     let same : made ≡ c = same_Some made c y.2 in
-    let n = number-back id x.0 x.1 in
+    let n = number-back int_tag id x.0 x.1 in
     record {
       number = n.0;
       is_id = n.1;
@@ -60,8 +50,6 @@ pair-value id v c p b = subst IsBytes (ap (λ (x : Part). x.content) p.is_value)
 
 carried-parts : (octets : List ℕ) (parts : List Part) (c : Carried) → SpellAll octets parts
     → AllBytes parts → carried_of parts ≡ Some c → IsCarried octets c × IsBytes c.value
-carried-parts octets [] c s b e = absurd cc
-carried-parts octets (id ∷ []) c s b e = absurd cc
 carried-parts octets (id ∷ v ∷ []) c s b e =
     let p = pair-back id v c e in (
       record {
@@ -87,9 +75,9 @@ carried-parts octets (name ∷ id ∷ v ∷ []) c s b e =
       },
       pair-value id v c p b.1.1.0,
     )
-carried-parts octets (name ∷ id ∷ v ∷ next ∷ parts) c s b e = absurd cc
+carried-parts octets parts c s b e = absurd cc
 
-carried-back : (octets : List ℕ) (c : Carried) → IsBytes octets
+pub carried-back : (octets : List ℕ) (c : Carried) → IsBytes octets
     → (few_in octets >>= carried_of) ≡ Some c → IsCarried octets c × IsBytes c.value
 carried-back octets c b e =
     let x = bind-some (few_in octets) carried_of c e in
@@ -121,9 +109,9 @@ under-back : (p : Part) (c : Carried) → IsBytes p.content → carried_under p 
 unfolding carried_under
 under-back p c b e =
     let x = bind-some (under (application 1) p) carried_in c e in
-    let same = under-is (application 1) p x.0 x.1 in
-    let l = listed-back x.0 c (subst IsBytes (ap (λ (q : Part). q.content) same) b) x.2 in
-    (x.0, same, l.0, l.1)
+    let outer = under-bytes (application 1) p x.0 b x.1 in
+    let l = listed-back x.0 c outer.1 x.2 in
+    (x.0, outer.0, l.0, l.1)
 
 pub user-back : (octets : List ℕ) (c : Carried) → IsBytes octets → user_in octets ≡ Some c
     → IsUser octets c × IsBytes c.value
@@ -200,7 +188,7 @@ context-with-back : (octets : List ℕ) (id syntax transfers : Part) (c : Contex
     → context_with id syntax transfers ≡ Some c → IsContext octets c
 unfolding context_with
 context-with-back octets id syntax transfers c s b e =
-    let z = bind-some (integer_under id) _ c e in
+    let z = bind-some (integer_under int_tag id) _ c e in
     let n = bind-some (context_id z.0) _ c z.2 in
     let name = bind-some (under oid_tag syntax) _ c n.2 in
     let list = bind-some (under sequence transfers) _ c name.2 in
@@ -212,19 +200,18 @@ context-with-back octets id syntax transfers c s b e =
       is_mms = ber.0 && bytes_eq name.0 mms_syntax;
     } in
     let same : made ≡ c = same_Some made c ber.2 in
-    let number = number-back id z.0 z.1 in
+    let number = number-back int_tag id z.0 z.1 in
     let range = id-back z.0 n.0 n.1 in
     let is_name = under-is oid_tag syntax name.0 name.1 in
-    let is_list = under-is sequence transfers list.0 list.1 in
-    let offers =
-    offers-back list.0 ber.0 (subst IsBytes (ap (λ (q : Part). q.content) is_list) b) ber.1 in
+    let is_list = under-bytes sequence transfers list.0 b list.1 in
+    let offers = offers-back list.0 ber.0 is_list.1 ber.1 in
     subst (IsContext octets) same (record {
       number = number.0;
       name = name.0;
       list = list.0;
       transfers = offers.0;
       parts = subst (λ (q : Part). SpellAll octets
-          (value int_tag number.0 ∷ value oid_tag name.0 ∷ q ∷ [])) is_list
+          (value int_tag number.0 ∷ value oid_tag name.0 ∷ q ∷ [])) is_list.0
           (subst (λ (q : Part). SpellAll octets (value int_tag number.0 ∷ q ∷ transfers ∷ []))
           is_name (subst (λ (q : Part). SpellAll octets (q ∷ syntax ∷ transfers ∷ [])) number.1
           s));
@@ -238,12 +225,9 @@ context-with-back octets id syntax transfers c s b e =
 
 context-parts : (octets : List ℕ) (parts : List Part) (c : Context) → SpellAll octets parts
     → AllBytes parts → context_of parts ≡ Some c → IsContext octets c
-context-parts octets [] c s b e = absurd cc
-context-parts octets (p ∷ []) c s b e = absurd cc
-context-parts octets (p ∷ q ∷ []) c s b e = absurd cc
 context-parts octets (id ∷ syntax ∷ transfers ∷ []) c s b e =
     context-with-back octets id syntax transfers c s b.1.1.0 e
-context-parts octets (p ∷ q ∷ r ∷ t ∷ parts) c s b e = absurd cc
+context-parts octets parts c s b e = absurd cc
 
 context-back : (p : Part) (c : Context) → IsBytes p.content → context_as p ≡ Some c
     → (octets : List ℕ) × (p ≡ value sequence octets) × IsContext octets c
@@ -251,25 +235,20 @@ unfolding context_as
 context-back p c b e =
     let x = bind-some (under sequence p >>= few_in) context_of c e in
     let y = bind-some (under sequence p) few_in x.0 x.1 in
-    let same = under-is sequence p y.0 y.1 in
-    let f = few-back y.0 x.0 (subst IsBytes (ap (λ (q : Part). q.content) same) b) y.2 in
-    (y.0, same, context-parts y.0 x.0 c f.0 f.1 x.2)
+    let outer = under-bytes sequence p y.0 b y.1 in
+    let f = few-back y.0 x.0 outer.1 y.2 in
+    (y.0, outer.0, context-parts y.0 x.0 c f.0 f.1 x.2)
 
 limits-back : (given contexts : List Context) → few_contexts given ≡ Some contexts
     → (given ≡ contexts) × (length contexts ≤ 16) × (are_distinct contexts ≡ true)
 limits-back given contexts e =
-    let g = guard-false-then (ltb 16 (length given)) _ contexts e in
+    let g = unguarded (ltb 16 (length given)) _ contexts e in
     let h = cond_some (are_distinct given) given contexts g.1 in
     let few = ltb-false 16 (length given) g.0 in (
       h.1,
       subst (λ (cs : List Context). length cs ≤ 16) h.1 (omega arith),
       subst (λ (cs : List Context). are_distinct cs ≡ true) h.1 h.0,
     )
-  where
-    guard-false-then : {A : Type 0} (b : Bool) (o : Option A) (y : A) → cond b None o ≡ Some y
-        → (b ≡ false) × (o ≡ Some y)
-    guard-false-then true o y f = absurd cc
-    guard-false-then false o y f = (refl, f)
 
 offer-back : (octets : List ℕ) (contexts : List Context) → IsBytes octets
     → contexts_in octets ≡ Some contexts → IsOffer octets contexts
@@ -294,9 +273,10 @@ offer-back octets contexts b e =
 selector-back : (octets called : List ℕ) → selector_of octets ≡ Some called
     → (octets ≡ called) × (length called ≤ 16)
 selector-back octets called e =
-    let g = guard-false (ltb 16 (length octets)) octets called e in
+    let g = unguarded (ltb 16 (length octets)) (Some octets) called e in
     let few = ltb-false 16 (length octets) g.0 in
-    (g.1, subst (λ (xs : List ℕ). length xs ≤ 16) g.1 (omega arith))
+    let same = same_Some octets called g.1 in
+    (same, subst (λ (xs : List ℕ). length xs ≤ 16) same (omega arith))
 
 -- The list of contexts and the user data of a request, with a selector that was chosen or none.
 record Parts (selector : Option Part) (list user : Part) (c : Connect) : Type 0 where
@@ -319,16 +299,14 @@ parts-back selector list user c b d e =
     let carried = bind-some (carried_under user) _ c contexts.2 in
     let made : Connect = record { called = called.0; contexts = contexts.0; user = carried.0 } in
     let same : made ≡ c = same_Some made c carried.2 in
-    let is_list = under-is (constructed 4) list octets.0 octets.1 in
-    let offer =
-    offer-back octets.0 contexts.0 (subst IsBytes (ap (λ (q : Part). q.content) is_list) b)
-    contexts.1 in
+    let is_list = under-bytes (constructed 4) list octets.0 b octets.1 in
+    let offer = offer-back octets.0 contexts.0 is_list.1 contexts.1 in
     let listed = under-back user carried.0 d carried.1 in
     record {
       chosen = called.1 ∙ ap (λ (x : Connect). Some x.called) same;
       offered = octets.0;
       carried = listed.0;
-      is_list = is_list;
+      is_list = is_list.0;
       is_user = listed.1;
       offer = subst (λ (x : Connect). IsOffer octets.0 x.contexts) same offer;
       listed = subst (λ (x : Connect). IsListed listed.0 x.user) same listed.2;
@@ -423,8 +401,6 @@ one-selector selector list user c false is b d e =
 
 connect-parts : (known : List Part) (c : Connect) → AllBytes known → connect_of known ≡ Some c
     → Knowns known c
-connect-parts [] c b e = absurd cc
-connect-parts (p ∷ []) c b e = absurd cc
 connect-parts (list ∷ user ∷ []) c b e =
     known-none (list ∷ user ∷ []) [] list user c refl (parts-back None list user c b.0 b.1.0 e) tt
 connect-parts (selector ∷ list ∷ user ∷ []) c b e =
@@ -436,7 +412,7 @@ connect-parts (calling ∷ called ∷ list ∷ user ∷ []) c b e =
     known-called (calling ∷ called ∷ list ∷ user ∷ []) (calling ∷ called ∷ []) called list user c
     refl (parts-back (Some called) list user c b.1.1.0 b.1.1.1.0 x.2)
     (λ octets p short. (tag, p, short))
-connect-parts (p ∷ q ∷ r ∷ t ∷ u ∷ parts) c b e = absurd cc
+connect-parts known c b e = absurd cc
 
 normal-back : (p : Part) (c : Connect) → IsBytes p.content → normal_as p ≡ Some c
     → (octets : List ℕ) × (p ≡ value (constructed 2) octets) × IsNormal octets c
@@ -444,14 +420,14 @@ normal-back : (p : Part) (c : Connect) → IsBytes p.content → normal_as p ≡
 unfolding normal_as normal_in
 normal-back p c b e =
     let x = bind-some (under (constructed 2) p) _ c e in
-    let same = under-is (constructed 2) p x.0 x.1 in
+    let outer = under-bytes (constructed 2) p x.0 b x.1 in
     let y = bind-some (known_in (context 1 ∷ context 2 ∷ constructed 4 ∷ application 1 ∷ []) x.0)
     connect_of c x.2 in
-    let f = known-back (context 1 ∷ context 2 ∷ constructed 4 ∷ application 1 ∷ []) x.0 y.0
-    (subst IsBytes (ap (λ (q : Part). q.content) same) b) y.1 in
+    let f = known-back (context 1 ∷ context 2 ∷ constructed 4 ∷ application 1 ∷ []) x.0 y.0 outer.1
+    y.1 in
     let k = connect-parts y.0 c f.bytes y.2 in (
       x.0,
-      same,
+      outer.0,
       record {
         fields = f.fields;
         selectors = k.selectors;
@@ -479,15 +455,13 @@ mode-back p m b e =
     let x = bind-some (under (constructed 0) p >>= value_in >>= under (context 0)) integer_in w.0
     w.1 in
     let y = bind-some (under (constructed 0) p >>= value_in) (under (context 0)) x.0 x.1 in
-    let z = bind-some (under (constructed 0) p) value_in y.0 y.1 in
-    let same = under-is (constructed 0) p z.0 z.1 in
-    let one = one-back z.0 y.0 (subst IsBytes (ap (λ (q : Part). q.content) same) b) z.2 in
+    let one = under-one (constructed 0) p y.0 b y.1 in
     let inner = under-is (context 0) y.0 x.0 y.2 in (
-      z.0,
-      same,
+      one.0,
+      one.1,
       record {
         number = x.0;
-        whole = subst (λ (q : Part). SpellAll z.0 (q ∷ [])) inner one.0;
+        whole = subst (λ (q : Part). SpellAll one.0 (q ∷ [])) inner one.2;
         is = subst (IsInteger x.0) (mode-is w.0 m w.2) (integer-back x.0 w.0 x.2);
       },
     )
@@ -535,11 +509,9 @@ both-back first second c false b d e =
 
 request-parts : (known : List Part) (c : Connect) → AllBytes known → request_of known ≡ Some c
     → Both known c
-request-parts [] c b e = absurd cc
-request-parts (p ∷ []) c b e = absurd cc
 request-parts (first ∷ second ∷ []) c b e =
     both-back first second c (same_tag first.tag (constructed 0)) b.0 b.1.0 e
-request-parts (p ∷ q ∷ r ∷ parts) c b e = absurd cc
+request-parts known c b e = absurd cc
 
 pub request-back : (octets : List ℕ) (c : Connect) → IsBytes octets → request_in octets ≡ Some c
     → IsRequest octets c × IsBytes c.user.value
@@ -565,115 +537,3 @@ request-back octets c b e =
       },
       r.bytes,
     )
-
--- ---- ACSE
-
-name-back : (p : Part) (name : List ℕ) → IsBytes p.content → application_as p ≡ Some name
-    → (octets : List ℕ) × (p ≡ value (constructed 1) octets)
-    × SpellAll octets (value oid_tag mms_application ∷ [])
-unfolding application_as
-name-back p name b e =
-    let w = bind-some (under (constructed 1) p >>= value_in >>= under oid_tag) application_of name e
-    in
-    let x = bind-some (under (constructed 1) p >>= value_in) (under oid_tag) w.0 w.1 in
-    let y = bind-some (under (constructed 1) p) value_in x.0 x.1 in
-    let same = under-is (constructed 1) p y.0 y.1 in
-    let one = one-back y.0 x.0 (subst IsBytes (ap (λ (q : Part). q.content) same) b) y.2 in
-    let inner = under-is oid_tag x.0 w.0 x.2 in
-    let g = cond_some (bytes_eq w.0 mms_application) w.0 name w.2 in
-    let is : w.0 ≡ mms_application = (bytes_eq-Decides w.0 mms_application).0 g.0 in
-    (y.0, same, subst (λ (q : Part). SpellAll y.0 (q ∷ [])) (inner ∙ ap (value oid_tag) is) one.0)
-
-information-back : (p : Part) (c : Carried) → IsBytes p.content → information_as p ≡ Some c
-    → (octets : List ℕ) × (inner : List ℕ) × (p ≡ value (constructed 30) octets)
-    × SpellAll octets (value external_tag inner ∷ []) × IsCarried inner c × IsBytes c.value
-unfolding information_as
-information-back p c b e =
-    let w = bind-some (under (constructed 30) p >>= value_in >>= under external_tag >>= few_in)
-    carried_of c e in
-    let x = bind-some (under (constructed 30) p >>= value_in >>= under external_tag) few_in w.0 w.1
-    in
-    let y = bind-some (under (constructed 30) p >>= value_in) (under external_tag) x.0 x.1 in
-    let z = bind-some (under (constructed 30) p) value_in y.0 y.1 in
-    let same = under-is (constructed 30) p z.0 z.1 in
-    let one = one-back z.0 y.0 (subst IsBytes (ap (λ (q : Part). q.content) same) b) z.2 in
-    let inner = under-is external_tag y.0 x.0 y.2 in
-    let carried =
-    carried-back x.0 c (subst IsBytes (ap (λ (q : Part). q.content) inner) one.1)
-    (ap (λ (o : Option (List Part)). o >>= carried_of) x.2 ∙ w.2) in
-    (z.0, x.0, same, subst (λ (q : Part). SpellAll z.0 (q ∷ [])) inner one.0, carried.0, carried.1)
-
-record Associated (known : List Part) (c : Carried) : Type 0 where
-  name : List ℕ
-  information : List ℕ
-  inner : List ℕ
-  are : known ≡ value (constructed 1) name ∷ value (constructed 30) information ∷ []
-  is_name : SpellAll name (value oid_tag mms_application ∷ [])
-  is_external : SpellAll information (value external_tag inner ∷ [])
-  carried : IsCarried inner c
-  bytes : IsBytes c.value
-
-associate-parts : (known : List Part) (c : Carried) → AllBytes known → associate_of known ≡ Some c
-    → Associated known c
-associate-parts [] c b e = absurd cc
-associate-parts (p ∷ []) c b e = absurd cc
-associate-parts (name ∷ information ∷ []) c b e =
-    let x = bind-some (application_as name) (λ ignored. information_as information) c e in
-    let n = name-back name x.0 b.0 x.1 in
-    let i = information-back information c b.1.0 x.2 in
-    record {
-      name = n.0;
-      information = i.0;
-      inner = i.1;
-      are = ap (λ (q : Part). q ∷ information ∷ []) n.1
-          ∙ ap (λ (q : Part). value (constructed 1) n.0 ∷ q ∷ []) i.2;
-      is_name = n.2;
-      is_external = i.3;
-      carried = i.4;
-      bytes = i.5;
-    }
-associate-parts (p ∷ q ∷ r ∷ parts) c b e = absurd cc
-
-pub associate-back : (octets : List ℕ) (c : Carried) → IsBytes octets → associate_in octets ≡ Some c
-    → IsAssociate octets c × IsBytes c.value
-unfolding associate_in
-associate-back octets c b e =
-    let x = bind-some (value_in octets >>= under (application 0)
-    >>= known_in (constructed 1 ∷ constructed 30 ∷ [])) associate_of c e in
-    let y = bind-some (value_in octets >>= under (application 0))
-    (known_in (constructed 1 ∷ constructed 30 ∷ [])) x.0 x.1 in
-    let one = one-under (application 0) octets y.0 b y.1 in
-    let f = known-back (constructed 1 ∷ constructed 30 ∷ []) y.0 x.0 one.1 y.2 in
-    let a = associate-parts x.0 c f.bytes x.2 in (
-      record {
-        content = y.0;
-        fields = f.fields;
-        name = a.name;
-        information = a.information;
-        inner = a.inner;
-        whole = one.0;
-        spelled = f.spelled;
-        known = f.are ∙ a.are;
-        is_name = a.is_name;
-        is_external = a.is_external;
-        carried = a.carried;
-      },
-      a.bytes,
-    )
-
-pub release-back : (octets content : List ℕ) → IsBytes octets → release_in octets ≡ Some content
-    → IsRelease octets
-release-back octets content b e =
-    record { content = content; whole = (one-under (application 2) octets content b e).0 }
-
-pub user-spelled : (octets : List ℕ) (c : Carried) → IsBytes octets → user_in octets ≡ Some c
-    → IsUser octets c
-user-spelled octets c b e = (user-back octets c b e).0
-
-pub request-spelled : (octets : List ℕ) (c : Connect) → IsBytes octets → request_in octets ≡ Some c
-    → IsRequest octets c
-request-spelled octets c b e = (request-back octets c b e).0
-
-pub associate-spelled : (octets : List ℕ) (c : Carried) → IsBytes octets
-    → associate_in octets ≡ Some c → IsAssociate octets c
-associate-spelled octets c b e = (associate-back octets c b e).0

@@ -5,7 +5,7 @@ use Rattle.std.specs.Str.{bytes_eq}
 use Rattle.std.proofs.lemmas.Bool.{lt-ltb, le-ltb}
 use Rattle.bay_base.specs.Options.{◌>>=◌}
 use Rattle.bay_ber.specs.Content.{IsInteger}
-use Rattle.bay_ber.specs.Values.{Part, value, SpellAll, at_most_five, few_in, all_of}
+use Rattle.bay_ber.specs.Values.{Part, value, SpellAll, at_most_five, few_in, all_of, integer_under}
 use Rattle.bay_ber.proofs.ContentLemmas.{integer-again}
 use Rattle.bay_ber.proofs.ListingLemmas.{values-again}
 use Rattle.bay_ber.proofs.BackLemmas.{one-read, few-read, known-read}
@@ -13,14 +13,14 @@ use Rattle.bay_mms.proofs.EachLemmas.{each-read}
 use Rattle.bay_mms.specs.Tags.{context, constructed, sequence, int_tag}
 use Rattle.bay_assoc.specs.Tags.{oid_tag, set_tag, external_tag, application, mms_syntax, ber_syntax, mms_application}
 use Rattle.bay_assoc.specs.declared.presentation.Context.{Context}
-use Rattle.bay_assoc.specs.Presentation.{integer_under, is_ber, offers_ber, context_id, context_with, context_as, contexts_in, Carried, carried_as, carried_of, carried_in, carried_under, user_in, Connect, selector_of, selector_as, connect_with, connect_of, normal_in, normal_as, mode_as, request_in}
+use Rattle.bay_assoc.specs.Presentation.{is_ber, offers_ber, context_id, context_with, context_as, contexts_in, Carried, carried_as, carried_of, carried_in, carried_under, user_in, Connect, selector_of, selector_as, connect_with, connect_of, normal_in, normal_as, mode_as, request_in}
 use Rattle.bay_assoc.specs.Acse.{application_as, information_as, associate_in, release_in}
 use Rattle.bay_assoc.specs.SpelledValues.{IsName, IsCarried, IsListed, IsUser, IsContext, IsOffer, IsSelectors, IsNormal, IsMode, IsRequest, IsAssociate, IsRelease}
 
 -- ---- integers
 
 integer-read : (number : List ℕ) (z : ℤ) → IsInteger number z
-    → integer_under (value int_tag number) ≡ Some z
+    → integer_under int_tag (value int_tag number) ≡ Some z
 unfolding integer_under
 integer-read number z is = integer-again number z is
 
@@ -151,19 +151,15 @@ selected : (selectors : List Part) (called : Option (List ℕ)) (list user : Lis
     >>= connect_of) ≡ Some c
 selected [] None list user c same are offer carried =
     with-parts None None list user c (ap Some same) offer carried
-selected [] (Some called) list user c same are offer carried = absurd are
 selected (calling ∷ []) None list user c same are offer carried =
     rw are (with-parts None None list user c (ap Some same) offer carried)
 selected (first ∷ []) (Some called) list user c same are offer carried =
     rw are.0 (with-parts (Some (value (context 2) called)) (Some called) list user c
     (rw (selector-short called are.1) (ap Some same)) offer carried)
-selected (calling ∷ second ∷ []) None list user c same are offer carried = absurd are
 selected (calling ∷ second ∷ []) (Some called) list user c same are offer carried =
     rw (are.0, are.1) (with-parts (Some (value (context 2) called)) (Some called) list user c
     (rw (selector-short called are.2) (ap Some same)) offer carried)
-selected (calling ∷ second ∷ next ∷ parts) None list user c same are offer carried = absurd are
-selected (calling ∷ second ∷ next ∷ parts) (Some called) list user c same are offer carried =
-    absurd are
+selected selectors called list user c same are offer carried = absurd are
 
 normal-read : (octets : List ℕ) (c : Connect) → IsNormal octets c
     → normal_as (value (constructed 2) octets) ≡ Some c

@@ -1,5 +1,5 @@
 -- What is sent as data is heard as the same.
-use Rattle.std.proofs.Common.{◌≡◌, ℕ, pos, ◌+◌, ◌<◌, ◌^◌, FitsSigned, List, [], ◌∷◌, ◌++◌, length, Option, Some, Ok, ◌≤◌, refl, sym, ap, arith}
+use Rattle.std.proofs.Common.{◌≡◌, ℕ, pos, ◌+◌, ◌<◌, ◌^◌, FitsSigned, List, [], ◌∷◌, ◌++◌, length, Option, Some, Ok, refl, sym, ap, arith}
 use Rattle.std.specs.Int.{w64}
 use Rattle.std.proofs.lemmas.Bool.{eq-eqb}
 use Rattle.std.proofs.lemmas.List.{append-nil, length-append}
@@ -7,7 +7,7 @@ use Rattle.bay_ber.specs.declared.tag.Tag.{Tag}
 use Rattle.bay_base.specs.Options.{◌>>=◌}
 use Rattle.bay_ber.specs.Content.{integer_in}
 use Rattle.bay_ber.specs.Writing.{element, integer_octets}
-use Rattle.bay_ber.specs.Values.{Part, only_one, value_in, at_most_five, few_in}
+use Rattle.bay_ber.specs.Values.{Part, integer_under, only_one, value_in, at_most_five, few_in}
 use Rattle.bay_ber.proofs.ContentLemmas.{integer-again}
 use Rattle.bay_ber.proofs.ListingLemmas.{values-again}
 use Rattle.bay_ber.proofs.SizeLemmas.{length-element, length-integer_octets}
@@ -17,7 +17,7 @@ use Rattle.bay_assoc.specs.Tags.{application}
 use Rattle.bay_assoc.specs.declared.hearing.AssociationTerms.{AssociationTerms}
 use Rattle.bay_assoc.specs.declared.hearing.Phase.{Phase}
 use Rattle.bay_assoc.specs.declared.hearing.Phase.TheVariants.{Open}
-use Rattle.bay_assoc.specs.Presentation.{integer_under, carried_as, carried_in, carried_under, user_in}
+use Rattle.bay_assoc.specs.Presentation.{carried_as, carried_in, carried_under, user_in}
 use Rattle.bay_assoc.specs.Session.{spdu_in}
 use Rattle.bay_assoc.specs.Texts.{user_text, transfer_text}
 use Rattle.bay_assoc.specs.Hearing.{mms, data_transfer, hearing}

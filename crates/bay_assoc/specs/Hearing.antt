@@ -1,5 +1,5 @@
 -- What an association hears of a TSDU, and in which phase it is then.
-use Rattle.std.specs.Prelude.{ℕ, ℤ, pos, negsuc, ◌==◌, Bool, false, min, List, [], ◌∷◌, find, Option, Some, None, option_map, Result, Ok, Err, nat_lt, if◌then◌else◌}
+use Rattle.std.specs.Prelude.{ℕ, ℤ, pos, negsuc, ◌==◌, Bool, false, min, List, [], ◌∷◌, find, Option, Some, None, option_map, Result, Ok, Err, if◌then◌else◌}
 use Rattle.bay_base.specs.Options.{◌>>=◌}
 use Rattle.bay_mms.specs.declared.request.Proposal.{Proposal}
 use Rattle.bay_mms.specs.declared.response.Agreed.{Agreed}
@@ -15,7 +15,7 @@ use Rattle.bay_assoc.specs.declared.hearing.AssociationTerms.{AssociationTerms}
 use Rattle.bay_assoc.specs.declared.hearing.Phase.{Phase}
 use Rattle.bay_assoc.specs.declared.hearing.Phase.TheVariants.{Idle, Open, Over, Failed}
 use Rattle.bay_assoc.specs.Results.{or_fault}
-use Rattle.bay_assoc.specs.Session.{Spdu, connect, accept, finish, disconnect, abort, transfer, spdu_in}
+use Rattle.bay_assoc.specs.Session.{Spdu, connect, finish, abort, transfer, spdu_in}
 use Rattle.bay_assoc.specs.Presentation.{Carried, Connect, user_in, request_in}
 use Rattle.bay_assoc.specs.Acse.{associate_in, release_in}
 use Rattle.bay_assoc.specs.Texts.{accept_text, disconnect_text, user_text, connected_text, associated_text, release_text}
@@ -130,20 +130,15 @@ data_transfer terms user =
 -- before the association: a request for one, or an abort
 abbrev pub heard_idle : Spdu → Result (Hearing × Phase) AssocFault
 heard_idle (connect user) = connection_request user
-heard_idle accept = Err fault.OutOfPhase
-heard_idle (finish user) = Err fault.OutOfPhase
-heard_idle disconnect = Err fault.OutOfPhase
 heard_idle abort = Ok (aborted, Over)
-heard_idle (transfer user) = Err fault.OutOfPhase
+heard_idle s = Err fault.OutOfPhase
 
 -- in an open association: data, a request for a release, or an abort
 abbrev pub heard_open : AssociationTerms → Spdu → Result (Hearing × Phase) AssocFault
-heard_open terms (connect user) = Err fault.OutOfPhase
-heard_open terms accept = Err fault.OutOfPhase
 heard_open terms (finish user) = release_request terms user
-heard_open terms disconnect = Err fault.OutOfPhase
 heard_open terms abort = Ok (aborted, Over)
 heard_open terms (transfer user) = data_transfer terms user
+heard_open terms s = Err fault.OutOfPhase
 
 -- what is heard of a TSDU in a phase, and the phase after it
 unfoldable pub hearing : Phase → List ℕ → Result (Hearing × Phase) AssocFault

@@ -6,16 +6,14 @@ use Rattle.bay_assoc.specs.declared.hearing.AssociationTerms.{AssociationTerms}
 use Rattle.bay_assoc.specs.declared.hearing.Heard.{Heard}
 use Rattle.bay_assoc.specs.declared.hearing.Heard.TheVariants as heard
 use Rattle.bay_assoc.specs.declared.hearing.Phase.{Phase}
-use Rattle.bay_assoc.specs.declared.hearing.Phase.TheVariants.{Idle, Open, Over, Failed}
+use Rattle.bay_assoc.specs.declared.hearing.Phase.TheVariants.{Open, Failed}
 use Rattle.bay_assoc.specs.Hearing.{hearing}
 use Rattle.bay_assoc.specs.Views.{hearing_of}
 
 -- what an open association has agreed on
 abbrev pub association_terms : Phase → Option AssociationTerms
-association_terms Idle = None
 association_terms (Open terms) = Some terms
-association_terms Over = None
-association_terms Failed = None
+association_terms phase = None
 
 -- What is heard is answered, and its phase follows; its fault, or want of memory, leaves an
 -- association that has failed.
@@ -26,14 +24,10 @@ Hears old octets (Err fault) new =
 
 -- A PDU of MMS stands last in its TSDU,
 abbrev pub StandsLast : List ℕ → Heard → Type 0
-StandsLast octets (heard.Answer answer) = Unit {0}
 StandsLast octets (heard.Mms pdu) = (front : List ℕ) × (octets ≡ front ++ pdu.now)
-StandsLast octets (heard.Released answer) = Unit {0}
-StandsLast octets heard.Aborted = Unit {0}
+StandsLast octets h = Unit {0}
 
 -- and is heard where the association is open.
 abbrev pub IsOpenFor : Heard → Phase → Type 0
-IsOpenFor (heard.Answer answer) phase = Unit {0}
 IsOpenFor (heard.Mms pdu) phase = IsSome (association_terms phase)
-IsOpenFor (heard.Released answer) phase = Unit {0}
-IsOpenFor heard.Aborted phase = Unit {0}
+IsOpenFor h phase = Unit {0}

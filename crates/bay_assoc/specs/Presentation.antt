@@ -6,7 +6,7 @@ use Rattle.bay_base.specs.Options.{◌>>=◌}
 use Rattle.bay_ber.specs.declared.tag.Tag.{Tag}
 use Rattle.bay_ber.specs.Tags.{same_tag}
 use Rattle.bay_ber.specs.Content.{integer_in}
-use Rattle.bay_ber.specs.Values.{Part, value_in, few_in, known_in, each_in, under}
+use Rattle.bay_ber.specs.Values.{Part, value_in, few_in, known_in, each_in, under, integer_under}
 use Rattle.bay_mms.specs.Tags.{context, constructed, sequence, int_tag}
 use Rattle.bay_assoc.specs.Tags.{oid_tag, set_tag, application, acse_syntax, mms_syntax, ber_syntax}
 use Rattle.bay_assoc.specs.declared.presentation.Context.{Context}
@@ -14,10 +14,6 @@ use Rattle.bay_assoc.specs.declared.presentation.Context.{Context}
 -- the content of the one value that octets are, under a tag
 abbrev pub content_under : Tag → List ℕ → Option (List ℕ)
 content_under tag octets = value_in octets >>= under tag
-
--- the integer under a tag
-unfoldable pub integer_under : Part → Option ℤ
-integer_under part = under int_tag part >>= integer_in
 
 -- ---- contexts that are offered
 
@@ -37,7 +33,7 @@ context_id (negsuc n) = None
 -- a context: its identifier, the abstract syntax, and the transfer syntaxes
 unfoldable pub context_with : Part → Part → Part → Option Context
 context_with id syntax transfers = do
-  z ← integer_under id
+  z ← integer_under int_tag id
   n ← context_id z
   name ← under oid_tag syntax
   list ← under sequence transfers
@@ -86,7 +82,7 @@ pub record Carried : Type 0 where
 -- a value in the context of this identifier
 unfoldable pub carried_as : Part → Part → Option Carried
 carried_as id value = do
-  z ← integer_under id
+  z ← integer_under int_tag id
   octets ← under (constructed 0) value
   Some (record { id = z; value = octets })
 

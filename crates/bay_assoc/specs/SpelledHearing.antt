@@ -6,7 +6,7 @@ use Rattle.bay_mms.specs.declared.response.Agreed.{Agreed}
 use Rattle.bay_mms.specs.SpelledInitiate.{IsInitiate}
 use Rattle.bay_assoc.specs.declared.hearing.AssociationTerms.{AssociationTerms}
 use Rattle.bay_assoc.specs.declared.hearing.Phase.{Phase}
-use Rattle.bay_assoc.specs.declared.hearing.Phase.TheVariants.{Idle, Open, Over, Failed}
+use Rattle.bay_assoc.specs.declared.hearing.Phase.TheVariants.{Idle, Open, Over}
 use Rattle.bay_assoc.specs.Session.{connect, finish, abort, transfer}
 use Rattle.bay_assoc.specs.Presentation.{Connect}
 use Rattle.bay_assoc.specs.Texts.{disconnect_text, user_text, release_text}
@@ -48,15 +48,11 @@ IsReleased octets text terms (Some user) =
 abbrev pub IsHeard : Phase → List ℕ → Hearing → Phase → Type 0
 IsHeard Idle octets (answer text) new =
     (terms : AssociationTerms) × IsAnswered octets text terms × (new ≡ Open terms)
-IsHeard Idle octets (mms pdu) new = ⊥
-IsHeard Idle octets (released text) new = ⊥
 IsHeard Idle octets aborted new = IsSpdu octets abort × (new ≡ Over)
-IsHeard (Open terms) octets (answer text) new = ⊥
 IsHeard (Open terms) octets (mms pdu) new =
     (user : List ℕ) × IsSpdu octets (transfer user)
     × IsUser user (record { id = pos terms.contexts.mms; value = pdu }) × (new ≡ Open terms)
 IsHeard (Open terms) octets (released text) new =
     (user : Option (List ℕ)) × IsReleased octets text terms user × (new ≡ Over)
 IsHeard (Open terms) octets aborted new = IsSpdu octets abort × (new ≡ Over)
-IsHeard Over octets heard new = ⊥
-IsHeard Failed octets heard new = ⊥
+IsHeard phase octets h new = ⊥

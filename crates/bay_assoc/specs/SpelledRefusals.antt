@@ -51,20 +51,15 @@ pub data Disagrees (contexts : List Context) (user : Carried) (f : AssocFault) :
 -- Before the association only a request for one and an abort may come.
 abbrev pub IsEarly : Spdu → Type 0
 IsEarly (connect user) = ⊥
-IsEarly accept = Unit {0}
-IsEarly (finish user) = Unit {0}
-IsEarly disconnect = Unit {0}
 IsEarly abort = ⊥
-IsEarly (transfer user) = Unit {0}
+IsEarly s = Unit {0}
 
 -- In an open association only data, a request for a release and an abort may come.
 abbrev pub IsLate : Spdu → Type 0
 IsLate (connect user) = Unit {0}
 IsLate accept = Unit {0}
-IsLate (finish user) = ⊥
 IsLate disconnect = Unit {0}
-IsLate abort = ⊥
-IsLate (transfer user) = ⊥
+IsLate s = ⊥
 
 -- Why a TSDU is refused before the association.
 pub data IsRefusedFirst (octets : List ℕ) (f : AssocFault) : Type 0 where

@@ -4,11 +4,9 @@ use Rattle.bay_assoc.specs.Session.{Unit, is_user, Spdu, connect, accept, finish
 
 -- A length is one octet below 255, or 255 and two octets, the higher first (X.225 8.2.5).
 abbrev pub IsSize : List ℕ → ℕ → Type 0
-IsSize [] n = ⊥
 IsSize (first ∷ []) n = (first < 255) × (n ≡ first)
-IsSize (first ∷ high ∷ []) n = ⊥
 IsSize (first ∷ high ∷ low ∷ []) n = (first ≡ 255) × (n ≡ high * 256 + low)
-IsSize (first ∷ high ∷ low ∷ next ∷ octets) n = ⊥
+IsSize octets n = ⊥
 
 -- The octets are these units and nothing else, one after another: of each its identifier, a length,
 -- and so many octets.

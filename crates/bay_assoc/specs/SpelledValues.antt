@@ -70,13 +70,11 @@ pub record IsOffer (octets : List ℕ) (contexts : List Context) : Type 0 where
 -- the calling selector or not, and the called one, of at most 16 octets, or not
 abbrev pub IsSelectors : List Part → Option (List ℕ) → Type 0
 IsSelectors [] None = Unit {0}
-IsSelectors [] (Some called) = ⊥
 IsSelectors (calling ∷ []) None = calling.tag ≡ context 1
 IsSelectors (first ∷ []) (Some called) = (first ≡ value (context 2) called) × (length called ≤ 16)
-IsSelectors (calling ∷ second ∷ []) None = ⊥
 IsSelectors (calling ∷ second ∷ []) (Some called) =
     (calling.tag ≡ context 1) × (second ≡ value (context 2) called) × (length called ≤ 16)
-IsSelectors (calling ∷ second ∷ next ∷ parts) called = ⊥
+IsSelectors parts called = ⊥
 
 -- The octets are parameters of the normal mode, of which these are known, in this order: the
 -- selectors, the contexts, and user data.

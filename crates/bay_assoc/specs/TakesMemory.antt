@@ -1,33 +1,22 @@
 -- Which TSDUs take memory: those that are answered.
-use Rattle.std.specs.Prelude.{Option, Some, None, IsSome}
+use Rattle.std.specs.Prelude.{Option, Some, IsSome}
 use Rattle.bay_assoc.specs.declared.hearing.Phase.{Phase}
-use Rattle.bay_assoc.specs.declared.hearing.Phase.TheVariants.{Idle, Open, Over, Failed}
+use Rattle.bay_assoc.specs.declared.hearing.Phase.TheVariants.{Idle, Open}
 use Rattle.bay_assoc.specs.Presentation.{mode_in}
-use Rattle.bay_assoc.specs.Session.{Spdu, connect, accept, finish, disconnect, abort, transfer}
+use Rattle.bay_assoc.specs.Session.{Spdu, connect, finish}
 
 -- A request for a connection of the normal mode, which is answered.
 abbrev pub IsConnect : Spdu → Type 0
 IsConnect (connect user) = IsSome (mode_in user)
-IsConnect accept = ⊥
-IsConnect (finish user) = ⊥
-IsConnect disconnect = ⊥
-IsConnect abort = ⊥
-IsConnect (transfer user) = ⊥
+IsConnect s = ⊥
 
 -- A request for a release, which is answered.
 abbrev pub IsFinish : Spdu → Type 0
-IsFinish (connect user) = ⊥
-IsFinish accept = ⊥
 IsFinish (finish user) = Unit {0}
-IsFinish disconnect = ⊥
-IsFinish abort = ⊥
-IsFinish (transfer user) = ⊥
+IsFinish s = ⊥
 
 -- A CONNECT before the association, and a FINISH in an open one.
 abbrev pub TakesMemory : Phase → Option Spdu → Type 0
 TakesMemory Idle (Some s) = IsConnect s
-TakesMemory Idle None = ⊥
 TakesMemory (Open terms) (Some s) = IsFinish s
-TakesMemory (Open terms) None = ⊥
-TakesMemory Over s = ⊥
-TakesMemory Failed s = ⊥
+TakesMemory phase s = ⊥

@@ -5,7 +5,6 @@ ghost use Rattle.bay_base.specs.Exact.{Gives};
 ghost use Rattle.bay_ber.specs.Values.{part_of, each_in};
 ghost use Rattle.bay_assoc.specs.declared.fault.AssocFault.TheVariants.{BadPresentation};
 ghost use Rattle.bay_assoc.specs.Results.{or_fault};
-ghost use Rattle.bay_assoc.specs.Presentation.{few_contexts};
 ghost use Rattle.bay_assoc.specs.Presentation as spec;
 ghost use Rattle.bay_assoc.specs.Views.{carried_view, connect_view};
 
@@ -44,14 +43,6 @@ pub struct Context {
 pub struct Carried<'a> {
     pub id: i64,
     pub value: &'a [u8],
-}
-
-// The integer under its own tag.
-#[tactic(auto, unfolding(crate::specs::Presentation::integer_under))]
-fn integer_under(value: &Value<'_>) -> Option<i64>
-    ensures { result ≡ spec.integer_under (part_of value.now) }
-{
-    int_of(value.under(Tag::universal(2))?).ok()
 }
 
 /// Reads octets as exactly one value and returns its content if it has this tag.
@@ -122,7 +113,7 @@ fn context_with(id: &Value<'_>, syntax: &Value<'_>, transfers: &Value<'_>) -> Op
     ensures { result ≡ spec.context_with (part_of id.now) (part_of syntax.now)
         (part_of transfers.now) }
 {
-    let id = context_id(integer_under(id)?)?;
+    let id = context_id(id.integer_under(Tag::universal(2))?)?;
     let name = syntax.under(Tag::universal(6))?;
     let list = transfers.under(Tag::sequence())?;
     let ber = offers_ber(list)?;
@@ -221,7 +212,7 @@ fn carried_as<'a>(id: &Value<'_>, value: &Value<'a>) -> Option<Carried<'a>>
     ensures { option_map carried_view result
         ≡ spec.carried_as (part_of id.now) (part_of value.now) }
 {
-    let id = integer_under(id)?;
+    let id = id.integer_under(Tag::universal(2))?;
     let value = value.under(Tag::context_constructed(0))?;
     Some(Carried { id, value })
 }

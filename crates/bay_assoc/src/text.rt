@@ -179,6 +179,7 @@ fn put_connected(
 }
 
 /// Writes the answer to a request for a connection (CPA), with a value of ACSE.
+#[tactic(auto, using(bay_ber::proofs::SheetLemmas::message_put, crate::proofs::TextLemmas::connected_short, crate::proofs::TextLemmas::connected_within))]
 pub(crate) fn connected(
     alloc: Global,
     called: Option<&[u8]>,
@@ -233,6 +234,7 @@ fn put_associated(writer: &mut Writer, mms: u16, pdu: &[u8])
 }
 
 /// Writes the answer to a request for an association (AARE), with a PDU of MMS.
+#[tactic(auto, using(bay_ber::proofs::SheetLemmas::message_put, crate::proofs::TextLemmas::associated_short, crate::proofs::TextLemmas::associated_within))]
 pub(crate) fn associated(alloc: Global, mms: u16, pdu: &[u8]) -> Result<Outgoing, AllocError>
     requires { length pdu.now ≤ 200 }
     ensures text { IfOk result (λ octets. octets ≡ associated_text mms pdu.now) }
@@ -252,6 +254,7 @@ fn release() -> &'static [u8]
 }
 
 // The RLRE in the context of ACSE, as user data.
+#[tactic(auto, using(bay_ber::proofs::SheetLemmas::message_put, crate::proofs::TextLemmas::released_short, crate::proofs::TextLemmas::released_within))]
 fn release_user(alloc: Global, acse: u16) -> Result<Outgoing, AllocError>
     ensures text { IfOk result (λ octets. octets ≡ user_text acse release_text) }
     ensures few { IfOk result (λ octets. length octets ≤ 41) }
