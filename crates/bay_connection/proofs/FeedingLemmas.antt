@@ -1,8 +1,8 @@
 -- What one feeding comes to.
-use Rattle.std.proofs.Common.{◌≡◌, ℕ, ◌-◌, ◌≤◌, List, [], ◌∷◌, ◌++◌, length, take, drop, Option, Some, None, Result, Ok, Err, IsSome, unwrap_or, option_to_list, refl, sym, ap, ◌∙◌, arith}
+use Rattle.std.proofs.Common.{◌≡◌, ℕ, ◌-◌, ◌≤◌, List, [], ◌∷◌, ◌++◌, length, take, drop, Option, Some, None, IsSome, unwrap_or, option_to_list, refl, sym, ap, ◌∙◌, arith}
 use Rattle.std.proofs.lemmas.List.{take_all}
 use Rattle.bay_transport.specs.declared.fault.TransportFault.{TransportFault}
-use Rattle.bay_transport.specs.declared.fault.TransportFault.TheVariants.{BadTpkt, BadCotp, ClassRefused, TsduTooLong, Failed, OutOfMemory}
+use Rattle.bay_transport.specs.declared.fault.TransportFault.TheVariants.{Failed, OutOfMemory}
 use Rattle.bay_transport.specs.declared.fed.Got.{Got}
 use Rattle.bay_transport.specs.declared.fed.Got.TheVariants as got
 use Rattle.bay_transport.specs.Code.{code_of}
@@ -10,24 +10,20 @@ use Rattle.bay_transport.specs.Doings.{Doing, Answers, Delivers, Ends, Fails, Le
 use Rattle.bay_transport.specs.Feeding as feeding
 use Rattle.bay_transport.specs.Feeding.{Received, doing_for, size_agreed, agreed_from, size_after, end_of_stream, broken, IsGoing, RefusesPiece}
 use Rattle.bay_transport.proofs.SizeLemmas.{after-size, delivers-size, quiet-going}
-use Rattle.bay_assoc.specs.declared.fault.AssocFault.{AssocFault}
 use Rattle.bay_assoc.specs.declared.hearing.Phase.{Phase}
 use Rattle.bay_assoc.specs.declared.hearing.Phase.TheVariants as phases
-use Rattle.bay_assoc.specs.Hearing.{Hearing, answer, mms, released, aborted, hearing}
-use Rattle.bay_connection.specs.Talk.{Talk, Indication, answers, tells, releases, ends, fails, Told, talk_over, on_hearing, talk_after, comes_to, indications, left_by}
+use Rattle.bay_connection.specs.Talk.{Talk, Indication, ends, fails, Told, talk_over, talk_after, comes_to, indications, left_by}
 use Rattle.bay_connection.specs.Feeding.{CompletesIndication, Comes, Feeds, GoesOn}
 use Rattle.bay_connection.specs.Stack.{AreJoined, IsJoined, IsReady, TellsOf}
 use Rattle.bay_connection.proofs.CuttingLemmas.{indications-take, left_by-take}
+use Rattle.bay_connection.proofs.GoingLemmas.{told-none}
 
 -- ---- the law
 
 comes-does : (t : Talk) (piece : List ℕ) (used : ℕ) (i : Indication) → Comes t piece used i
     → indications t (take used piece) ≡ i ∷ []
-comes-does t piece used (answers octets) h = h.does
-comes-does t piece used (tells terms pdu) h = h.does
-comes-does t piece used (releases octets) h = h.does
-comes-does t piece used ends h = h.does
 comes-does t piece used (fails code) h = h.1
+comes-does t piece used i h = h.does
 
 pub feeding-indications : (old new : Talk) (piece : List ℕ) (used : ℕ) (i : Indication)
     → new ≡ left_by old (take used piece) → Comes old piece used i → GoesOn old new piece used i
@@ -45,26 +41,19 @@ feeding-left old new piece used is =
 -- ---- what is ready
 
 agreed-joined : (left : Left) (phase : Phase) → IsSome (agreed_from left) → AreJoined left phase
-agreed-joined (Going connection rest) phases.Idle some = tt
 agreed-joined (Going connection rest) (phases.Open l) some = some
-agreed-joined (Going connection rest) phases.Over some = tt
-agreed-joined (Going connection rest) phases.Failed some = tt
-agreed-joined Over phase some = absurd (cc)
-agreed-joined Broken phase some = absurd (cc)
+agreed-joined (Going connection rest) phase some = tt
+agreed-joined left phase some = absurd (cc)
 
 pub sized-joined : (t : Talk) → IsSome (size_agreed t.stream) → IsJoined t
 sized-joined t some = agreed-joined t.stream.left t.phase some
 
 going-joined : (old new : Left) (phase : Phase) → AreJoined old phase → IsGoing old → IsGoing new
     → agreed_from new ≡ agreed_from old → AreJoined new phase
-going-joined (Going connection rest) (Going next more) phases.Idle joined a b e = tt
 going-joined (Going connection rest) (Going next more) (phases.Open l) joined a b e = rw e joined
-going-joined (Going connection rest) (Going next more) phases.Over joined a b e = tt
-going-joined (Going connection rest) (Going next more) phases.Failed joined a b e = tt
-going-joined (Going connection rest) Over phase joined a b e = absurd b
-going-joined (Going connection rest) Broken phase joined a b e = absurd b
-going-joined Over new phase joined a b e = absurd a
-going-joined Broken new phase joined a b e = absurd a
+going-joined (Going connection rest) (Going next more) phase joined a b e = tt
+going-joined (Going connection rest) new phase joined a b e = absurd b
+going-joined old new phase joined a b e = absurd a
 
 -- what octets that do nothing leave
 pub quiet-joined : (s : Stream) (phase : Phase) (octets : List ℕ) → AreJoined s.left phase
@@ -75,37 +64,23 @@ quiet-joined s phase octets joined going quiet =
 
 -- ---- one doing
 
-heard-some : (s : Stream) (r : Result (Hearing × Phase) AssocFault) (size : Option ℕ)
-    (later : Phase → Told) → (on_hearing size s r later).indications ≡ [] → ⊥
-heard-some s (Ok (answer tsdu, phase)) size later e = cc
-heard-some s (Ok (mms pdu, phase)) size later e = cc
-heard-some s (Ok (released tsdu, phase)) size later e = cc
-heard-some s (Ok (aborted, phase)) size later e = cc
-heard-some s (Err fault) size later e = cc
-
 told-some : (s : Stream) (d : Doing) (size : Option ℕ) (phase : Phase)
     → (talk_after s (d ∷ []) size phase).indications ≡ [] → ⊥
-told-some s (Answers n reply) size phase e = cc
-told-some s (Delivers tsdu) size phase e =
-    heard-some s (hearing phase tsdu) size (talk_after s [] size) e
-told-some s Ends size phase e = cc
-told-some s (Fails fault) size phase e = cc
+told-some s d size phase e =
+    let none : d ∷ [] ≡ [] = told-none s (d ∷ []) size phase e in
+    cc
 
 one-done : (t : Talk) (octets : List ℕ) (d : Doing) → doings t.stream octets ≡ d ∷ []
     → comes_to t octets ≡ talk_after (after t.stream octets) (d ∷ [])
     (size_agreed (after t.stream octets))
     t.phase
-one-done t octets (Answers n reply) e =
-    ap (λ (ds : List Doing). talk_after (after t.stream octets) ds (size_agreed t.stream) t.phase) e
 one-done t octets (Delivers tsdu) e =
     let size : size_agreed (after t.stream octets) ≡ size_agreed t.stream =
     after-size t.stream octets ∙ ap (size_after (size_agreed t.stream)) e in
     ap (λ (ds : List Doing). talk_after (after t.stream octets) ds (size_agreed t.stream) t.phase) e
     ∙ ap (λ (z : Option ℕ). talk_after (after t.stream octets) (Delivers tsdu ∷ []) z t.phase)
     (sym size)
-one-done t octets Ends e =
-    ap (λ (ds : List Doing). talk_after (after t.stream octets) ds (size_agreed t.stream) t.phase) e
-one-done t octets (Fails fault) e =
+one-done t octets d e =
     ap (λ (ds : List Doing). talk_after (after t.stream octets) ds (size_agreed t.stream) t.phase) e
 
 -- ---- one feeding
@@ -119,11 +94,8 @@ pub record FedSo (t : Talk) (piece : List ℕ) (used : ℕ) (heard : Option Indi
 
 completes-comes : (t : Talk) (piece : List ℕ) (used : ℕ) (i : Indication)
     → CompletesIndication t piece used i → Comes t piece used i
-completes-comes t piece used (answers octets) h = h
-completes-comes t piece used (tells terms pdu) h = h
-completes-comes t piece used (releases octets) h = h
-completes-comes t piece used ends h = h
 completes-comes t piece used (fails code) h = (h.within, h.does)
+completes-comes t piece used i h = h
 
 quiet-told : (t : Talk) (octets : List ℕ) → doings t.stream octets ≡ []
     → comes_to t octets ≡ record
@@ -162,8 +134,6 @@ over-done : (number : ℕ) (phase : Phase) (piece : List ℕ) (used : ℕ) (d : 
     (new : Talk) (s : Stream) → phase ≡ phases.Over → used ≡ 0 → d ≡ Ends → s.number ≡ number
     → talk_after s (d ∷ []) (size_agreed s) phase ≡ record { indications = i ∷ []; left = new }
     → (i ≡ ends) × (new ≡ talk_with number Over phase)
-over-done number phase piece used (Answers n reply) i new s over none is same e = absurd (cc)
-over-done number phase piece used (Delivers tsdu) i new s over none is same e = absurd (cc)
 over-done number phase piece used Ends i new s over none is same e =
     let a : ends ∷ [] ≡ i ∷ [] = ap (λ (r : Told). r.indications) e in
     let b : talk_over s ≡ new = ap (λ (r : Told). r.left) e in
@@ -172,7 +142,7 @@ over-done number phase piece used Ends i new s over none is same e =
       sym b ∙ ap (λ (n : ℕ). talk_with n Over phases.Over) same
           ∙ ap (talk_with number Over) (sym over),
     )
-over-done number phase piece used (Fails fault) i new s over none is same e = absurd (cc)
+over-done number phase piece used d i new s over none is same e = absurd (cc)
 
 fed-some : (number : ℕ) (left : Left) (phase : Phase) (piece : List ℕ) (used : ℕ) (d : Doing)
     (heard : Option Indication) (new : Talk) (s : Stream) → AreJoined left phase
@@ -233,11 +203,7 @@ pub fed-got : (t : Talk) (r : Received) (got : Got) (piece : List ℕ) (used : �
 fed-got t r got.More piece used heard new joined fed is so =
     fed-none t.stream.number t.stream.left t.phase piece used heard new r.stream joined fed is so.0
     so.1
-fed-got t r got.Answer piece used heard new joined fed is so =
-    fed-some t.stream.number t.stream.left t.phase piece used _ heard new r.stream joined fed is so
-fed-got t r got.Tsdu piece used heard new joined fed is so =
-    fed-some t.stream.number t.stream.left t.phase piece used _ heard new r.stream joined fed is so
-fed-got t r got.Ended piece used heard new joined fed is so =
+fed-got t r got piece used heard new joined fed is so =
     fed-some t.stream.number t.stream.left t.phase piece used _ heard new r.stream joined fed is so
 
 -- ---- what is ready
@@ -319,21 +285,14 @@ fault-done number Over phase piece fault code joined e k = absurd (cc)
 fault-done number Broken phase piece fault code joined e k = absurd joined
 
 joined-sound : (left : Left) (phase : Phase) → AreJoined left phase → left ≡ Broken → ⊥
-joined-sound (Going connection rest) phase joined e = cc
-joined-sound Over phase joined e = cc
 joined-sound Broken phase joined e = joined
+joined-sound left phase joined e = cc
 
 pub fed-fault : (t : Talk) (piece : List ℕ) (fault : TransportFault) (code : ℕ) → IsJoined t
     → RefusesPiece t.stream piece fault → code_of fault ≡ Some code
     → FedSo t piece (length piece) (Some (fails code)) (talk_over (broken t.stream))
-fed-fault t piece BadTpkt code joined refused k =
-    fault-done t.stream.number t.stream.left t.phase piece BadTpkt code joined refused k
-fed-fault t piece BadCotp code joined refused k =
-    fault-done t.stream.number t.stream.left t.phase piece BadCotp code joined refused k
-fed-fault t piece ClassRefused code joined refused k =
-    fault-done t.stream.number t.stream.left t.phase piece ClassRefused code joined refused k
-fed-fault t piece TsduTooLong code joined refused k =
-    fault-done t.stream.number t.stream.left t.phase piece TsduTooLong code joined refused k
 fed-fault t piece Failed code joined refused k =
     absurd (joined-sound t.stream.left t.phase joined refused)
 fed-fault t piece OutOfMemory code joined refused k = absurd (cc)
+fed-fault t piece fault code joined refused k =
+    fault-done t.stream.number t.stream.left t.phase piece fault code joined refused k

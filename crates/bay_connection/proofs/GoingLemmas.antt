@@ -1,38 +1,32 @@
 -- Which connections go on.
-use Rattle.std.proofs.Common.{◌≡◌, ℕ, List, [], ◌∷◌, Option, Some, IsSome, Result, Ok, Err, refl, ap, ◌∙◌}
-use Rattle.bay_transport.specs.Doings.{Doing, Answers, Delivers, Ends, Fails, Left, Going, Over, Broken, Stream, doings, after}
+use Rattle.std.proofs.Common.{◌≡◌, ℕ, List, [], ◌∷◌, Option, Some, IsSome, Result, Ok, Err, refl, ap, subst, ◌∙◌}
+use Rattle.bay_transport.specs.Doings.{Doing, Answers, Delivers, Ends, Fails, Left, Going, Stream, doings, after}
 use Rattle.bay_transport.specs.Feeding.{size_agreed, agreed_from, size_after, IsGoing}
 use Rattle.bay_transport.proofs.SizeLemmas.{after-size, delivers-size, quiet-going}
 use Rattle.bay_assoc.specs.declared.fault.AssocFault.{AssocFault}
 use Rattle.bay_assoc.specs.declared.hearing.Phase.{Phase}
 use Rattle.bay_assoc.specs.Hearing.{Hearing, answer, mms, released, aborted, hearing}
-use Rattle.bay_connection.specs.Talk.{Talk, Indication, answers, tells, releases, ends, fails, Told, on_hearing, talk_after, indications, left_by}
+use Rattle.bay_connection.specs.Talk.{Talk, Indication, ends, Told, on_hearing, talk_after, indications, left_by}
 use Rattle.bay_connection.specs.Feeding.{IsContinued}
 
 -- a size is agreed only where octets are still taken
 agreed-going : (left : Left) → IsSome (agreed_from left) → IsGoing left
 agreed-going (Going connection rest) some = tt
-agreed-going Over some = absurd (cc)
-agreed-going Broken some = absurd (cc)
+agreed-going left some = absurd (cc)
 
 -- ---- what comes to nothing has no doings
 
 hearing-some : (s : Stream) (r : Result (Hearing × Phase) AssocFault) (size : Option ℕ)
     (later : Phase → Told) → (on_hearing size s r later).indications ≡ [] → ⊥
 hearing-some s (Ok (answer tsdu, phase)) size later e = cc
-hearing-some s (Ok (mms pdu, phase)) size later e = cc
-hearing-some s (Ok (released tsdu, phase)) size later e = cc
-hearing-some s (Ok (aborted, phase)) size later e = cc
-hearing-some s (Err fault) size later e = cc
+hearing-some s r size later e = cc
 
-told-none : (s : Stream) (ds : List Doing) (size : Option ℕ) (phase : Phase)
+pub told-none : (s : Stream) (ds : List Doing) (size : Option ℕ) (phase : Phase)
     → (talk_after s ds size phase).indications ≡ [] → ds ≡ []
 told-none s [] size phase e = refl
-told-none s (Answers n reply ∷ ds) size phase e = absurd (cc)
 told-none s (Delivers tsdu ∷ ds) size phase e =
     absurd (hearing-some s (hearing phase tsdu) size (talk_after s ds size) e)
-told-none s (Ends ∷ ds) size phase e = absurd (cc)
-told-none s (Fails fault ∷ ds) size phase e = absurd (cc)
+told-none s ds size phase e = absurd (cc)
 
 quiet-left : (s : Stream) (ds : List Doing) (size : Option ℕ) (phase : Phase) → ds ≡ []
     → (talk_after s ds size phase).left.stream ≡ s
@@ -57,42 +51,21 @@ going-left : (s : Stream) (ds : List Doing) (size : Option ℕ) (phase : Phase)
 going-left s ds size phase none going =
     rw (quiet-left s ds size phase (told-none s ds size phase none)) going
 
+-- what goes on is not what ends
+not-same : (j i : Indication) → j ∷ [] ≡ i ∷ [] → IsContinued i → (IsContinued j → ⊥) → ⊥
+not-same j i e goes ends_it = let same : i ≡ j = cc in ends_it (subst IsContinued same goes)
+
 hearing-going : (s : Stream) (r : Result (Hearing × Phase) AssocFault) (size : Option ℕ)
     (later : Phase → Told) (i : Indication) → (on_hearing size s r later).indications ≡ i ∷ []
     → IsContinued i → ((p : Phase) → (later p).indications ≡ []
     → IsGoing (later p).left.stream.left) → IsGoing (on_hearing size s r later).left.stream.left
 hearing-going s (Ok (answer tsdu, phase)) size later i e goes rest = rest phase (cc)
 hearing-going s (Ok (mms pdu, phase)) size later i e goes rest = rest phase (cc)
-hearing-going s (Ok (released tsdu, phase)) size later (answers octets) e goes rest = absurd (cc)
-hearing-going s (Ok (released tsdu, phase)) size later (tells terms pdu) e goes rest = absurd (cc)
-hearing-going s (Ok (released tsdu, phase)) size later (releases octets) e goes rest = absurd goes
-hearing-going s (Ok (released tsdu, phase)) size later ends e goes rest = absurd goes
-hearing-going s (Ok (released tsdu, phase)) size later (fails code) e goes rest = absurd goes
-hearing-going s (Ok (aborted, phase)) size later (answers octets) e goes rest = absurd (cc)
-hearing-going s (Ok (aborted, phase)) size later (tells terms pdu) e goes rest = absurd (cc)
-hearing-going s (Ok (aborted, phase)) size later (releases octets) e goes rest = absurd goes
-hearing-going s (Ok (aborted, phase)) size later ends e goes rest = absurd goes
-hearing-going s (Ok (aborted, phase)) size later (fails code) e goes rest = absurd goes
-hearing-going s (Err fault) size later (answers octets) e goes rest = absurd (cc)
-hearing-going s (Err fault) size later (tells terms pdu) e goes rest = absurd (cc)
-hearing-going s (Err fault) size later (releases octets) e goes rest = absurd goes
-hearing-going s (Err fault) size later ends e goes rest = absurd goes
-hearing-going s (Err fault) size later (fails code) e goes rest = absurd goes
-
--- an end and a fault are heard as such
-over_not : (code : ℕ) (i : Indication) → IsContinued i → ends ∷ [] ≡ i ∷ [] → ⊥
-over_not code (answers octets) goes e = cc
-over_not code (tells terms pdu) goes e = cc
-over_not code (releases octets) goes e = goes
-over_not code ends goes e = goes
-over_not code (fails n) goes e = goes
-
-fails-not : (code : ℕ) (i : Indication) → IsContinued i → fails code ∷ [] ≡ i ∷ [] → ⊥
-fails-not code (answers octets) goes e = cc
-fails-not code (tells terms pdu) goes e = cc
-fails-not code (releases octets) goes e = goes
-fails-not code ends goes e = goes
-fails-not code (fails n) goes e = goes
+hearing-going s (Ok (released tsdu, phase)) size later i e goes rest =
+    absurd (not-same _ i e goes (λ h. h))
+hearing-going s (Ok (aborted, phase)) size later i e goes rest =
+    absurd (not-same ends i e goes (λ h. h))
+hearing-going s (Err fault) size later i e goes rest = absurd (not-same _ i e goes (λ h. h))
 
 -- with the size that is agreed behind the doings, and one agreed before a TSDU
 one-going : (s : Stream) (ds : List Doing) (size : Option ℕ) (phase : Phase) (i : Indication)
@@ -114,8 +87,8 @@ one-going s (Delivers tsdu ∷ ds) size phase i e delivers one goes =
     let size-is : size_agreed s ≡ size = e ∙ ap (size_after size) quiet in
     let some : IsSome (size_agreed s) = rw size-is (delivers tsdu ds refl) in
     going-left s ds size p none (agreed-going s.left some))
-one-going s (Ends ∷ ds) size phase i e delivers one goes = absurd (over_not 0 i goes one)
-one-going s (Fails fault ∷ ds) size phase i e delivers one goes = absurd (fails-not _ i goes one)
+one-going s (Ends ∷ ds) size phase i e delivers one goes = absurd (not-same ends i one goes (λ h. h))
+one-going s (Fails fault ∷ ds) size phase i e delivers one goes = absurd (not-same _ i one goes (λ h. h))
 
 pub heard-going : (t : Talk) (octets : List ℕ) (i : Indication) → indications t octets ≡ i ∷ []
     → IsContinued i → IsGoing (left_by t octets).stream.left

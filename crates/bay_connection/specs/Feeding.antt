@@ -48,9 +48,7 @@ GoesOn old new piece used indication =
 abbrev pub IsContinued : Indication → Type 0
 IsContinued (answers octets) = Unit {0}
 IsContinued (tells terms pdu) = Unit {0}
-IsContinued (releases octets) = ⊥
-IsContinued ends = ⊥
-IsContinued (fails code) = ⊥
+IsContinued indication = ⊥
 
 -- two runs, one after the other
 abbrev pub and_then : Told → Told → Told
@@ -64,21 +62,13 @@ pub record Client : Type 0 where
 
 -- A PDU of MMS is heard where the association is open.
 abbrev pub IsOpenFor : code.Indication → Phase → Type 0
-IsOpenFor heard.Nothing phase = Unit {0}
-IsOpenFor (heard.Answer octets) phase = Unit {0}
 IsOpenFor heard.Mms phase = IsSome (association_terms phase)
-IsOpenFor (heard.Released octets) phase = Unit {0}
-IsOpenFor heard.Ended phase = Unit {0}
-IsOpenFor (heard.Fault code) phase = Unit {0}
+IsOpenFor h phase = Unit {0}
 
 -- What is lent is the PDU of MMS that was heard, and nothing where something else was.
 abbrev pub LendsOnly : code.Indication → List ℕ → Type 0
-LendsOnly heard.Nothing pdu = pdu ≡ []
-LendsOnly (heard.Answer octets) pdu = pdu ≡ []
 LendsOnly heard.Mms pdu = Unit {0}
-LendsOnly (heard.Released octets) pdu = pdu ≡ []
-LendsOnly heard.Ended pdu = pdu ≡ []
-LendsOnly (heard.Fault code) pdu = pdu ≡ []
+LendsOnly h pdu = pdu ≡ []
 
 -- what is heard, and what the connection is then, without where it lies in memory
 abbrev pub indication_of : code.Indication → Client → Option Indication

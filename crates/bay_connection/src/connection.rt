@@ -1,16 +1,18 @@
 // A connection as its user sees it.
 ghost use Rattle.std.specs.Prelude.{◌≡◌, ◌<◌, ◌≤◌, ◌↔◌, [], IfOk, IfSome, IsSome, IsTrue, OnErr, length, take};
 ghost use Rattle.bay_transport.specs.Doings.{start};
-ghost use Rattle.bay_transport.specs.Feeding.{IsGoing};
+ghost use Rattle.bay_transport.specs.Feeding.{IsGoing, size_agreed};
 ghost use Rattle.bay_assoc.specs.Sizes.{IsPduSize};
 ghost use Rattle.bay_assoc.specs.Hears.{association_terms};
-ghost use Rattle.bay_connection.specs.Talk.{talk_over, terms_of, left_by, sending};
+ghost use Rattle.bay_connection.specs.Talk.{talk_over, terms_of, data_tpdus, left_by, sending};
 ghost use Rattle.bay_connection.specs.Feeding.{Feeds, indication_of, IsOpenFor, LendsOnly};
 
 use crate::heard::Fed;
 use crate::stack::Stack;
+use bay_assoc::assoc::Assoc;
 use bay_assoc::hearing::Phase;
 use bay_ber::outgoing::Outgoing;
+use bay_transport::transport::Transport;
 use std::alloc::{AllocError, Global};
 use std::marker::Model;
 
@@ -45,7 +47,12 @@ impl Connection {
         } }
     {
         Connection {
-            stack: Stack::new(alloc, number),
+            stack: Stack {
+                alloc,
+                transport: Transport::new(alloc, number),
+                assoc: Assoc::new(alloc),
+                pdu: 0,
+            },
         }
     }
 
@@ -87,7 +94,8 @@ impl Connection {
     pub fn pdu(&self) -> &[u8]
         ensures { result.now ≡ self.now.pdu }
     {
-        self.stack.pdu()
+        let tsdu = self.stack.transport.shown();
+        &tsdu[tsdu.len() - self.stack.pdu..]
     }
 
     /// Returns whether the association is open, so that PDUs of MMS can be sent.
@@ -108,13 +116,34 @@ impl Connection {
         self.stack.assoc.pdu_size()
     }
 
+    // The frames of a TSDU; where it is one frame and there is room, its header is written in
+    // front.
+    fn frames(&self, mut tsdu: Outgoing) -> Result<Outgoing, AllocError>
+        requires { IsSome (size_agreed self.now.talk.stream) }
+        ensures { IfOk result (λ octets. octets
+            ≡ data_tpdus (size_agreed self.now.talk.stream) tsdu) }
+    {
+        if let Some(header) = self.stack.transport.header(tsdu.as_slice().len()) {
+            if tsdu.front(&header) {
+                return Ok(tsdu);
+            }
+        }
+        let octets = self.stack.transport.wrap(&[], tsdu.as_slice())?;
+        Ok(Outgoing::new(octets))
+    }
+
     /// Returns the octets that send a PDU of MMS: a TSDU in the context of MMS, in data TPDUs of
     /// the agreed size. Copies nothing if one TPDU holds it and there is room in front of the PDU.
     /// The association must be open.
-    pub fn send(&self, pdu: Outgoing) -> Result<Outgoing, AllocError>
+    pub fn send(&self, mut pdu: Outgoing) -> Result<Outgoing, AllocError>
         requires { IsSome (association_terms self.now.talk.phase) }
         ensures { IfOk result (λ octets. octets ≡ sending (terms_of self.now.talk) pdu) }
     {
-        self.stack.send(pdu)
+        let front = self.stack.assoc.front(pdu.as_slice());
+        if pdu.front(front.as_slice()) {
+            return self.frames(pdu);
+        }
+        let octets = self.stack.transport.wrap(front.as_slice(), pdu.as_slice())?;
+        Ok(Outgoing::new(octets))
     }
 }

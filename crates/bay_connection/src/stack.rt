@@ -1,10 +1,9 @@
 // The layers of a connection: octets become TSDUs in the transport, and TSDUs are heard by the
 // association.
 ghost use Rattle.std.specs.Prelude.{◌≡◌, ◌<◌, ◌≤◌, [], Some, IfOk, IsSome, OnErr, OnOk, length, take};
-ghost use Rattle.bay_transport.specs.Doings.{Delivers, start};
+ghost use Rattle.bay_transport.specs.Doings.{Delivers};
 ghost use Rattle.bay_transport.specs.Feeding.{IsGoing, size_agreed, doing_for};
-ghost use Rattle.bay_assoc.specs.Hears.{association_terms};
-ghost use Rattle.bay_connection.specs.Talk.{answers, talk_over, terms_of, data_tpdus, sending, left_by};
+ghost use Rattle.bay_connection.specs.Talk.{answers, talk_over, data_tpdus, left_by};
 ghost use Rattle.bay_connection.specs.Feeding.{Feeds, indication_of, IsOpenFor, LendsOnly};
 ghost use Rattle.bay_connection.specs.Stack.{talk_of, pdu_of, client_of, IsKept, IsReady, TakesMemory, Tells, TellsOf};
 
@@ -12,8 +11,6 @@ use crate::heard::{Fed, Indication};
 use bay_assoc::assoc::Assoc;
 use bay_assoc::fault::AssocFault;
 use bay_assoc::hearing;
-use bay_assoc::hearing::Phase;
-use bay_ber::outgoing::Outgoing;
 use bay_transport::fault::TransportFault;
 use bay_transport::fed::Got;
 use bay_transport::transport::Transport;
@@ -22,7 +19,7 @@ use std::alloc::{AllocError, Global};
 /// The two layers, and what was received last.
 #[derive(Drop)]
 pub struct Stack {
-    alloc: Global,
+    pub(crate) alloc: Global,
     pub(crate) transport: Transport,
     pub(crate) assoc: Assoc,
     // How many octets of what the transport shows are a PDU of MMS; they are the last ones.
@@ -30,24 +27,6 @@ pub struct Stack {
 }
 
 impl Stack {
-    /// Creates a stack that has received nothing.
-    pub(crate) fn new(alloc: Global, number: u16) -> Stack
-        ensures kept { IsKept result }
-        ensures client { client_of result
-            ≡ record {
-              talk = record
-                  { stream = record { number = number; left = start }; phase = Phase.Idle };
-              pdu = [];
-            } }
-    {
-        Stack {
-            alloc,
-            transport: Transport::new(alloc, number),
-            assoc: Assoc::new(alloc),
-            pdu: 0,
-        }
-    }
-
     /// Ends both layers: takes no more octets, and frees their buffers.
     pub(crate) fn close(&mut self)
         ensures kept { IsKept self.new }
@@ -57,45 +36,6 @@ impl Stack {
         self.pdu = 0;
         self.transport.end();
         self.assoc.end();
-    }
-
-    /// Returns the last received PDU of MMS.
-    pub(crate) fn pdu(&self) -> &[u8]
-        requires { IsKept self.now }
-        ensures { result.now ≡ pdu_of self.now }
-    {
-        let tsdu = self.transport.shown();
-        &tsdu[tsdu.len() - self.pdu..]
-    }
-
-    // The frames of a TSDU; where it is one frame and there is room, its header is written in
-    // front.
-    fn frames(&self, mut tsdu: Outgoing) -> Result<Outgoing, AllocError>
-        requires { IsSome (size_agreed self.now.transport.stream) }
-        ensures { IfOk result (λ octets. octets
-            ≡ data_tpdus (size_agreed self.now.transport.stream) tsdu) }
-    {
-        if let Some(header) = self.transport.header(tsdu.as_slice().len()) {
-            if tsdu.front(&header) {
-                return Ok(tsdu);
-            }
-        }
-        let octets = self.transport.wrap(&[], tsdu.as_slice())?;
-        Ok(Outgoing::new(octets))
-    }
-
-    /// Returns the octets that send a PDU of MMS.
-    pub(crate) fn send(&self, mut pdu: Outgoing) -> Result<Outgoing, AllocError>
-        requires kept { IsKept self.now }
-        requires open { IsSome (association_terms self.now.assoc) }
-        ensures { IfOk result (λ octets. octets ≡ sending (terms_of (talk_of self.now)) pdu) }
-    {
-        let front = self.assoc.front(pdu.as_slice());
-        if pdu.front(front.as_slice()) {
-            return self.frames(pdu);
-        }
-        let octets = self.transport.wrap(front.as_slice(), pdu.as_slice())?;
-        Ok(Outgoing::new(octets))
     }
 
     // What is answered to a request that the association heard, in the TPDUs of the transport.
