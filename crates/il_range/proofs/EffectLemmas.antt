@@ -21,7 +21,7 @@ use Rattle.il_image.specs.declared.opcode.TimerUse.{TimerUse}
 use Rattle.bay_base.specs.Types.{same_type}
 use Rattle.il_image.specs.Arithmetic.{comparison_holds, computation_of, logic_of}
 use Rattle.il_image.specs.Values.{number_of, type_of}
-use Rattle.il_image.specs.Machine.{State, Trap, Turn, Goes, Halts, Traps, FullStack, WrongKind, MissingSlot, MissingTimer, ZeroDivisor, act, as_number, as_truth, divides, is_comparable, pushes, stores, value_of_width, with_slot}
+use Rattle.il_image.specs.Machine.{State, Trap, Turn, Goes, Halts, Traps, FullStack, WrongKind, MissingSlot, MissingTimer, ZeroDivisor, act, as_number, as_truth, divides, is_comparable, pushes, stores, value_of_width, with_slot, most_cells}
 use Rattle.il_image.specs.Machine as machine
 use Rattle.std.specs.Prelude.{ℤ, pos}
 use Rattle.il_image.specs.Timers.{after_call}
@@ -124,7 +124,8 @@ module _ (now next place : ℕ) (timers : List TimerState) (ts : List KnownTimer
       → AreIn cells q.cells → AreIn slots q.slots → AreTimersIn now after q.timers
       → DoneWith cells slots after
   covers-with q cells slots after e h k t =
-      subst (λ (r : Plain). Covers r (record { now = now; cells = cells; slots = slots; timers = after }))
+      subst (λ (r : Plain). Covers r
+      (record { now = now; cells = cells; slots = slots; timers = after }))
       (same_Some q p e) (record { cells = h; slots = k; timers = t })
 
   covers-along : (rs us : List Range) (cells slots : List Value) → Some (plain_of rs us) ≡ Some p
@@ -155,7 +156,7 @@ module _ (now next place : ℕ) (timers : List TimerState) (ts : List KnownTimer
   comes-load n rs us e cells slots h k =
       let g = has n us (λ r. with_cells (r ∷ rs) (plain_of rs us)) p e in
       next-slot n (state_of place cells slots timers) _ now next p
-      (λ v at. next-if (nat_lt (length cells) 32) _ FullStack now next p (
+      (λ v at. next-if (nat_lt (length cells) most_cells) _ FullStack now next p (
         refl,
         covers-along (g.range ∷ rs) us (v ∷ cells) slots g.gives
             (are-get slots us n v g.range k at g.at, h) k,
@@ -368,7 +369,7 @@ module _ (now next place : ℕ) (timers : List TimerState) (ts : List KnownTimer
       (λ t at. let done : Done (f t ∷ cells) slots =
       covers-along (read g.known ∷ rs) us (f t ∷ cells) slots g.gives
       (fits_in t g.known (timers-get n t g.known at g.at), h) k in
-      next-if (nat_lt (length cells) 32)
+      next-if (nat_lt (length cells) most_cells)
       (Goes (state_of next (f t ∷ cells) slots timers)) FullStack now next p (refl, done))
 
   comes-timer : (t : TimerUse) (n : ℕ) (rs us : List Range)
@@ -400,7 +401,8 @@ module _ (now next place : ℕ) (timers : List TimerState) (ts : List KnownTimer
   comes (Push v) rs us e cells slots h k =
       let done : Done (v ∷ cells) slots =
       covers-along (exactly v ∷ rs) us (v ∷ cells) slots e (in-exactly v, h) k in
-      next-if (nat_lt (length cells) 32) (Goes (state_of next (v ∷ cells) slots timers)) FullStack
+      next-if (nat_lt (length cells) most_cells) (Goes (state_of next (v ∷ cells) slots timers))
+      FullStack
       now next p (refl, done)
   comes Drop [] us e cells slots h k = absurd (cc)
   comes Drop (r ∷ rs) us e [] slots h k = tt

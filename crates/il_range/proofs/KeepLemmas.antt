@@ -15,7 +15,7 @@ use Rattle.il_image.specs.declared.timer.TimerState.{TimerState}
 use Rattle.il_image.specs.declared.value.Value.{Value}
 use Rattle.il_image.specs.declared.value.Value.TheVariants.{Truth, Short, Long, Wide, Span}
 use Rattle.il_image.specs.Arithmetic.{comparison_holds, computation_of, wider_value}
-use Rattle.il_image.specs.Machine.{Halted, State, Trap, Turn, Goes, Halts, Traps, FullStack, WrongKind, MissingSlot, MissingTimer, ZeroDivisor, act, as_number, as_span, as_truth, divides, ending_of, goes, is_comparable, run_from, stores, turn_of, value_of_width, with_slot, with_timer, with_top, with_two}
+use Rattle.il_image.specs.Machine.{Halted, State, Trap, Turn, Goes, Halts, Traps, FullStack, WrongKind, MissingSlot, MissingTimer, ZeroDivisor, act, as_number, as_span, as_truth, divides, ending_of, goes, is_comparable, run_from, stores, turn_of, value_of_width, with_slot, with_timer, with_top, with_two, most_cells}
 use Rattle.il_image.specs.Places.{begun_at}
 use Rattle.il_image.specs.declared.timer.TimerPhase.{TimerPhase}
 use Rattle.il_image.specs.declared.timer.TimerPhase.TheVariants.{Idle, Held, Since}
@@ -29,7 +29,8 @@ use Rattle.il_range.specs.Ranges.{began, began_at, kind_of}
 
 -- The slots have the types, and the timers the kinds, that they had, and a delay that runs began
 -- now, or ran before.
-pub record Keeps (now : ℕ) (slots : List Value) (timers : List TimerState) (s : State) : Type 0 where
+pub record Keeps (now : ℕ) (slots : List Value) (timers : List TimerState) (s : State)
+    : Type 0 where
   pub types : map type_of slots ≡ map type_of s.slots
   pub kinds : map kind_of timers ≡ map kind_of s.timers
   pub begins : Continues now timers s.timers
@@ -62,7 +63,8 @@ keep-unless now true t trap s h = tt
 keep-unless now false t trap s h = h
 
 keep-top : (now : ℕ) (cells : List Value) (f : Value → List Value → Turn) (s : State)
-    → ((v : Value) (below : List Value) → NextKeeps now (f v below) s) → NextKeeps now (with_top cells f) s
+    → ((v : Value) (below : List Value) → NextKeeps now (f v below) s)
+    → NextKeeps now (with_top cells f) s
 keep-top now [] f s h = tt
 keep-top now (v ∷ below) f s h = h v below
 
@@ -83,7 +85,8 @@ keep-span : (now : ℕ) (v : Value) (f : ℕ → Turn) (s : State) → ((n : ℕ
 keep-span now (Span n) f s h = h n
 keep-span now v f s h = tt
 
-keep-number : (now : ℕ) (w : Width) (v : Value) (f : ℤ → Turn) (s : State) → ((z : ℤ) → NextKeeps now (f z) s)
+keep-number : (now : ℕ) (w : Width) (v : Value) (f : ℤ → Turn) (s : State)
+    → ((z : ℤ) → NextKeeps now (f z) s)
     → NextKeeps now (as_number w v f) s
 keep-number now width.Int (Short z) f s h = h z
 keep-number now width.Dint (Long z) f s h = h z
@@ -110,7 +113,8 @@ keep-timer now n s f h = go (slice_get s.timers n) refl
     go None e = tt
     go (Some t) e = h t e
 
-keep-wider : (now : ℕ) (o : Option Value) (f : Value → Turn) (s : State) → ((v : Value) → NextKeeps now (f v) s)
+keep-wider : (now : ℕ) (o : Option Value) (f : Value → Turn) (s : State)
+    → ((v : Value) → NextKeeps now (f v) s)
     → NextKeeps now (elim o [ None ↦ Traps WrongKind | Some v ↦ f v ]) s
 keep-wider now None f s h = tt
 keep-wider now (Some v) f s h = h v
@@ -175,15 +179,18 @@ step-keeps : (now : ℕ) (i : Instr) (next : ℕ) (s : State) → NextKeeps now 
 unfolding act
 step-keeps now Halt next s = tt
 step-keeps now (Push v) next s =
-    keep-if now (nat_lt (length s.cells) 32) (goes next (v ∷ s.cells) s) FullStack s (λ e. same now s)
+    keep-if now (nat_lt (length s.cells) most_cells) (goes next (v ∷ s.cells) s) FullStack s
+    (λ e. same now s)
 step-keeps now Drop next s = keep-top now s.cells _ s (λ v below. same now s)
 step-keeps now (Slot Load n) next s =
-    keep-slot now n s _ (λ v at. keep-if now (nat_lt (length s.cells) 32) (goes next (v ∷ s.cells) s)
+    keep-slot now n s _ (λ v at. keep-if now (nat_lt (length s.cells) most_cells)
+    (goes next (v ∷ s.cells) s)
     FullStack s
     (λ e. same now s))
 step-keeps now (Slot Store n) next s =
     keep-slot now n s _ (λ v at. keep-top now s.cells _ s
-    (λ top below. keep-if now (same_type (type_of top) (type_of v)) (stores n top next s) WrongKind s
+    (λ top below. keep-if now (same_type (type_of top) (type_of v)) (stores n top next s) WrongKind
+    s
     (λ e. slot-keeps now s n v top at (same-is (type_of top) (type_of v) e))))
 step-keeps now (Slot SetIf n) next s =
     keep-slot now n s _ (λ v at. keep-top now s.cells _ s
@@ -194,7 +201,8 @@ step-keeps now (Slot ResetIf n) next s =
 step-keeps now Not next s =
     keep-top now s.cells _ s (λ top below. keep-truth now top _ s (λ b e. same now s))
 step-keeps now (Combine c) next s =
-    keep-two now s.cells _ s (λ a b below. keep-truth now b _ s (λ x e. keep-truth now a _ s (λ y f. same now s)))
+    keep-two now s.cells _ s
+    (λ a b below. keep-truth now b _ s (λ x e. keep-truth now a _ s (λ y f. same now s)))
 step-keeps now (Compute o w) next s =
     keep-two now s.cells _ s (λ a b below. keep-number now w b _ s (λ y. keep-number now w a _ s
     (λ x. keep-unless now (divides o && int_eq y (pos 0))
@@ -222,10 +230,10 @@ step-keeps now (Timer Run n) next s =
     keep-timer now n s _ (λ t at. timer-keeps now s n t (after_call t now) at refl
     (call-begins t.kind t.input t.phase now))
 step-keeps now (Timer LoadOutput n) next s =
-    keep-timer now n s _ (λ t at. keep-if now (nat_lt (length s.cells) 32)
+    keep-timer now n s _ (λ t at. keep-if now (nat_lt (length s.cells) most_cells)
     (goes next (Truth t.output ∷ s.cells) s) FullStack s (λ e. same now s))
 step-keeps now (Timer LoadElapsed n) next s =
-    keep-timer now n s _ (λ t at. keep-if now (nat_lt (length s.cells) 32)
+    keep-timer now n s _ (λ t at. keep-if now (nat_lt (length s.cells) most_cells)
     (goes next (Span t.elapsed ∷ s.cells) s) FullStack s (λ e. same now s))
 
 turn-keeps : (now : ℕ) (o : Option (Instr × ℕ)) (s : State) → NextKeeps now (turn_of now o s) s

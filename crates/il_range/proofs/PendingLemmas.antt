@@ -9,6 +9,7 @@ use Rattle.il_image.specs.declared.timer.TimerState.{TimerState}
 use Rattle.il_image.specs.declared.value.Value.{Value}
 use Rattle.il_image.specs.declared.value.Value.TheVariants.{Truth}
 use Rattle.il_image.specs.Machine.{Goes, act, jumps_where}
+use Rattle.il_image.proofs.SetLemmas.{set-here, set-elsewhere}
 use Rattle.il_range.specs.declared.known.Known.{Known}
 use Rattle.il_range.specs.declared.range.Range.{Range}
 use Rattle.il_range.specs.declared.range.Range.TheVariants.{No, Yes}
@@ -18,20 +19,6 @@ use Rattle.il_range.specs.Pending.{Branches, Held, held, Covers, CoversAt, IsJoi
 use Rattle.il_range.proofs.RangeLemmas.{in-join_left, in-join_right, of-negated}
 use Rattle.il_range.proofs.ListLemmas.{each-left, each-right, joined-reverse}
 use Rattle.il_range.proofs.TimerLemmas.{timer-join_left, timer-join_right}
-
-pub set-here : {A : Type 0} (xs : List A) (i : ℕ) (v : A) → i < length xs
-    → slice_get (slice_set xs i v) i ≡ Some v
-set-here [] i v h = absurd (omega arith)
-set-here (x ∷ xs) zero v h = refl
-set-here (x ∷ xs) (suc i) v h = set-here xs i v (omega arith)
-
-pub set-elsewhere : {A : Type 0} (xs : List A) (i j : ℕ) (v : A) → (j ≡ i → ⊥)
-    → slice_get (slice_set xs i v) j ≡ slice_get xs j
-set-elsewhere [] i j v ne = refl
-set-elsewhere (x ∷ xs) zero zero v ne = absurd (ne refl)
-set-elsewhere (x ∷ xs) zero (suc j) v ne = refl
-set-elsewhere (x ∷ xs) (suc i) zero v ne = refl
-set-elsewhere (x ∷ xs) (suc i) (suc j) v ne = set-elsewhere xs i j v (λ e. ne (ap suc e))
 
 pub set-twice : {A : Type 0} (xs : List A) (i : ℕ) (v w : A)
     → slice_set (slice_set xs i v) i w ≡ slice_set xs i w

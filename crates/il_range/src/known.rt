@@ -1,5 +1,5 @@
 // What is known of the stack and of the slots before an instruction.
-ghost use Rattle.std.specs.Prelude.{◌≡◌, ◌∷◌, List, length, OnOk, IfOk, Some};
+ghost use Rattle.std.specs.Prelude.{◌≡◌, ◌<◌, ◌∷◌, List, length, OnOk, IfOk, Some};
 ghost use Rattle.il_range.specs.Effects.{effect, joined};
 ghost use Rattle.il_range.specs.Effects as spec;
 ghost use Rattle.il_range.specs.Pending.{Arrives, IsJoin, plain};
@@ -23,7 +23,21 @@ pub(crate) struct Known {
     pub traces: Traces,
 }
 
-fn pushed(known: &mut Known, range: Range) -> Result<(), Stop>
+// The place of a slot or a timer, of which there are so many.
+fn place_of(number: u16, count: usize) -> Result<usize, Stop>
+    ensures is { IfOk result (λ place. place ≡ number) }
+    ensures there { IfOk result (λ place. place < count) }
+{
+    let place = usize::from(number);
+    if place < count {
+        Ok(place)
+    } else {
+        Err(Stop::Undecided)
+    }
+}
+
+// Pushes what is known of a value.
+fn push(known: &mut Known, range: Range) -> Result<(), Stop>
     ensures cells { OnOk result ((plain known.new).cells ≡ range ∷ (plain known.old).cells) }
     ensures slots { known.new.slots ≡ known.old.slots }
     ensures timers { known.new.timers ≡ known.old.timers }
@@ -32,7 +46,8 @@ fn pushed(known: &mut Known, range: Range) -> Result<(), Stop>
     Ok(())
 }
 
-fn popped(known: &mut Known) -> Result<Range, Stop>
+// Pops what is known of the top.
+fn pop(known: &mut Known) -> Result<Range, Stop>
     ensures cells { IfOk result (λ r. (plain known.old).cells ≡ r ∷ (plain known.new).cells) }
     ensures slots { known.new.slots ≡ known.old.slots }
     ensures timers { known.new.timers ≡ known.old.timers }
@@ -49,64 +64,57 @@ pub(crate) fn top_of(known: &mut Known) -> Result<Range, Stop>
     ensures top { IfOk result (λ r. (below : List Range) × ((plain known.old).cells ≡ r ∷ below)) }
 {
     known.traces.turn();
-    let top = popped(known)?;
-    pushed(known, top)?;
+    let top = pop(known)?;
+    push(known, top)?;
     Ok(top)
 }
 
+// LOAD: pushes what is known of a slot.
 fn load(known: &mut Known, n: u16) -> Result<(), Stop>
     ensures { OnOk result (effect (Instr.Slot SlotUse.Load n) (plain known.old)
         ≡ Some (plain known.new)) }
 {
-    let n = usize::from(n);
-    if n >= known.slots.len() {
-        return Err(Stop::Undecided);
-    }
+    let n = place_of(n, known.slots.len())?;
     let range = known.slots[n];
-    pushed(known, range)
+    push(known, range)
 }
 
+// STORE: what is known of the top is known of a slot.
 fn store(known: &mut Known, n: u16) -> Result<(), Stop>
     ensures { OnOk result (effect (Instr.Slot SlotUse.Store n) (plain known.old)
         ≡ Some (plain known.new)) }
 {
-    let n = usize::from(n);
-    if n >= known.slots.len() {
-        return Err(Stop::Undecided);
-    }
-    let top = popped(known)?;
+    let n = place_of(n, known.slots.len())?;
+    let top = pop(known)?;
     known.slots[n] = top;
-    pushed(known, top)
+    push(known, top)
 }
 
+// SETIF: a slot is TRUE where the top is.
 fn set_if(known: &mut Known, n: u16) -> Result<(), Stop>
     ensures { OnOk result (effect (Instr.Slot SlotUse.SetIf n) (plain known.old)
         ≡ Some (plain known.new)) }
 {
-    let n = usize::from(n);
-    if n >= known.slots.len() {
-        return Err(Stop::Undecided);
-    }
-    let top = popped(known)?;
+    let n = place_of(n, known.slots.len())?;
+    let top = pop(known)?;
     let changed = either(top, known.slots[n]);
     known.slots[n] = changed;
-    pushed(known, top)
+    push(known, top)
 }
 
+// RESETIF: a slot is FALSE where the top is TRUE.
 fn reset_if(known: &mut Known, n: u16) -> Result<(), Stop>
     ensures { OnOk result (effect (Instr.Slot SlotUse.ResetIf n) (plain known.old)
         ≡ Some (plain known.new)) }
 {
-    let n = usize::from(n);
-    if n >= known.slots.len() {
-        return Err(Stop::Undecided);
-    }
-    let top = popped(known)?;
+    let n = place_of(n, known.slots.len())?;
+    let top = pop(known)?;
     let changed = both(negated(top), known.slots[n]);
     known.slots[n] = changed;
-    pushed(known, top)
+    push(known, top)
 }
 
+// What an instruction does with a slot.
 fn use_slot(known: &mut Known, slot_use: SlotUse, n: u16) -> Result<(), Stop>
     ensures { OnOk result (effect (Instr.Slot slot_use n) (plain known.old)
         ≡ Some (plain known.new)) }
@@ -119,126 +127,114 @@ fn use_slot(known: &mut Known, slot_use: SlotUse, n: u16) -> Result<(), Stop>
     }
 }
 
+// AND, OR, XOR: one BOOL of two.
 fn connect(known: &mut Known, connective: Connective) -> Result<(), Stop>
     ensures { OnOk result (effect (Instr.Combine connective) (plain known.old)
         ≡ Some (plain known.new)) }
 {
-    let b = popped(known)?;
-    let a = popped(known)?;
-    pushed(known, connected(connective, a, b))
+    let b = pop(known)?;
+    let a = pop(known)?;
+    push(known, connected(connective, a, b))
 }
 
+// A comparison: a BOOL of two values.
 fn compare(known: &mut Known, comparison: Comparison) -> Result<(), Stop>
     ensures { OnOk result (effect (Instr.Compare comparison) (plain known.old)
         ≡ Some (plain known.new)) }
 {
-    let b = popped(known)?;
-    let a = popped(known)?;
-    pushed(known, compared(comparison, a, b))
+    let b = pop(known)?;
+    let a = pop(known)?;
+    push(known, compared(comparison, a, b))
 }
 
+// ADD to MOD: one number of two.
 fn compute(known: &mut Known, operation: Operation, width: Width) -> Result<(), Stop>
     ensures { OnOk result (effect (Instr.Compute operation width) (plain known.old)
         ≡ Some (plain known.new)) }
 {
-    let b = popped(known)?;
-    let a = popped(known)?;
-    pushed(known, computed(operation, width, a, b))
+    let b = pop(known)?;
+    let a = pop(known)?;
+    push(known, computed(operation, width, a, b))
 }
 
+// NOT: the other BOOL.
 fn invert(known: &mut Known) -> Result<(), Stop>
     ensures { OnOk result (effect Instr.Not (plain known.old) ≡ Some (plain known.new)) }
 {
-    let top = popped(known)?;
-    pushed(known, negated(top))
+    let top = pop(known)?;
+    push(known, negated(top))
 }
 
+// DROP: takes the top off.
 fn drop_top(known: &mut Known) -> Result<(), Stop>
     ensures { OnOk result (effect Instr.Drop (plain known.old) ≡ Some (plain known.new)) }
 {
-    let _top = popped(known)?;
+    pop(known)?;
     Ok(())
 }
 
+// SETIN: the top is the IN of a timer.
 fn set_input(known: &mut Known, n: u16) -> Result<(), Stop>
     ensures { OnOk result (effect (Instr.Timer TimerUse.SetInput n) (plain known.old)
         ≡ Some (plain known.new)) }
 {
-    let n = usize::from(n);
-    if n >= known.timers.len() {
-        return Err(Stop::Undecided);
-    }
-    let top = popped(known)?;
+    let n = place_of(n, known.timers.len())?;
+    let top = pop(known)?;
     let timer = known.timers[n];
     known.timers[n] = KnownTimer {
-        kind: timer.kind,
         input: top,
-        preset: timer.preset,
-        output: timer.output,
-        elapsed: timer.elapsed,
-        below: timer.below,
+        ..timer
     };
     Ok(())
 }
 
+// SETPT: the top is the PT of a timer.
 fn set_preset(known: &mut Known, n: u16) -> Result<(), Stop>
     ensures { OnOk result (effect (Instr.Timer TimerUse.SetPreset n) (plain known.old)
         ≡ Some (plain known.new)) }
 {
-    let n = usize::from(n);
-    if n >= known.timers.len() {
-        return Err(Stop::Undecided);
-    }
-    let top = popped(known)?;
+    let n = place_of(n, known.timers.len())?;
+    let top = pop(known)?;
     let timer = known.timers[n];
     known.timers[n] = KnownTimer {
-        kind: timer.kind,
-        input: timer.input,
         preset: top,
-        output: timer.output,
-        elapsed: timer.elapsed,
-        below: timer.below,
+        ..timer
     };
     Ok(())
 }
 
+// RUN: calls a timer.
 fn call(known: &mut Known, n: u16) -> Result<(), Stop>
     ensures { OnOk result (effect (Instr.Timer TimerUse.Run n) (plain known.old)
         ≡ Some (plain known.new)) }
 {
-    let n = usize::from(n);
-    if n >= known.timers.len() {
-        return Err(Stop::Undecided);
-    }
+    let n = place_of(n, known.timers.len())?;
     let timer = called(known.timers[n]);
     known.timers[n] = timer;
     Ok(())
 }
 
+// LOADQ: pushes what is known of Q.
 fn load_output(known: &mut Known, n: u16) -> Result<(), Stop>
     ensures { OnOk result (effect (Instr.Timer TimerUse.LoadOutput n) (plain known.old)
         ≡ Some (plain known.new)) }
 {
-    let n = usize::from(n);
-    if n >= known.timers.len() {
-        return Err(Stop::Undecided);
-    }
+    let n = place_of(n, known.timers.len())?;
     let output = known.timers[n].output;
-    pushed(known, output)
+    push(known, output)
 }
 
+// LOADET: pushes what is known of ET.
 fn load_elapsed(known: &mut Known, n: u16) -> Result<(), Stop>
     ensures { OnOk result (effect (Instr.Timer TimerUse.LoadElapsed n) (plain known.old)
         ≡ Some (plain known.new)) }
 {
-    let n = usize::from(n);
-    if n >= known.timers.len() {
-        return Err(Stop::Undecided);
-    }
+    let n = place_of(n, known.timers.len())?;
     let elapsed = known.timers[n].elapsed;
-    pushed(known, elapsed)
+    push(known, elapsed)
 }
 
+// What an instruction does with a timer.
 fn use_timer(known: &mut Known, timer_use: TimerUse, n: u16) -> Result<(), Stop>
     ensures { OnOk result (effect (Instr.Timer timer_use n) (plain known.old)
         ≡ Some (plain known.new)) }
@@ -257,7 +253,7 @@ pub(crate) fn apply(known: &mut Known, instr: Instr) -> Result<(), Stop>
     ensures { OnOk result (effect instr (plain known.old) ≡ Some (plain known.new)) }
 {
     match instr {
-        Instr::Push(value) => pushed(known, exactly(value)),
+        Instr::Push(value) => push(known, exactly(value)),
         Instr::Slot(slot_use, n) => use_slot(known, slot_use, n),
         Instr::Combine(connective) => connect(known, connective),
         Instr::Compute(operation, width) => compute(known, operation, width),

@@ -29,7 +29,7 @@ fn step(
 }
 
 // A jump so many octets past the next instruction.
-fn leap(
+fn jump_past(
     distance: u16,
     next: usize,
     here: Known,
@@ -59,11 +59,11 @@ fn branch(
         (Branches jumps distance next (plain here) pending.old.items pending.new.items) }
 {
     match jumps {
-        Range::Yes => leap(distance, next, here, pending),
+        Range::Yes => jump_past(distance, next, here, pending),
         Range::No => arrive(pending, next, here),
         _ => {
             let other = copy_of(alloc, &here)?;
-            leap(distance, next, other, pending)?;
+            jump_past(distance, next, other, pending)?;
             arrive(pending, next, here)
         }
     }
@@ -84,7 +84,7 @@ fn jump(
 {
     let mut here = here;
     match when {
-        When::Always => leap(distance, next, here, pending),
+        When::Always => jump_past(distance, next, here, pending),
         When::IfTrue => {
             let top = top_of(&mut here)?;
             branch(alloc, top, distance, next, here, pending)
@@ -132,7 +132,7 @@ fn visit(
 }
 
 // So many places where nothing is pending.
-fn nothing(alloc: Global, count: usize) -> Result<Vec<Option<Known>>, Stop>
+fn none_pending(alloc: Global, count: usize) -> Result<Vec<Option<Known>>, Stop>
     ensures { IfOk result (λ v. length v.items ≡ count) }
 {
     let mut pending = Vec::new(alloc);
@@ -150,7 +150,7 @@ pub(crate) fn outcome(alloc: Global, code: &[u8], first: Known) -> Result<Known,
         (λ end. Predicts code.now first.timers.items first.slots.items end.timers.items
         end.slots.items) }
 {
-    let mut pending = nothing(alloc, code.len() + 1)?;
+    let mut pending = none_pending(alloc, code.len() + 1)?;
     arrive(&mut pending, 0, first)?;
     for place in 0..code.len() {
         visit(alloc, code, place, &mut pending)?;

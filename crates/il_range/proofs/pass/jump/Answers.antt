@@ -11,11 +11,11 @@ use Rattle.il_range.proofs.pass.jump.Goals as goal
 pub returns-in-Always-clause-ok : goal.returns-in-Always-clause-ok
 returns-in-Always-clause-ok c =
     let old = c.args.pending.now.items in
-    let new = c.leap.new.pending.items in
-    subst (λ (w : When). OnOk c.leap.result
+    let new = c.jump_past.new.pending.items in
+    subst (λ (w : When). OnOk c.jump_past.result
     (Moves (Jump w c.args.distance) c.args.next (plain c.args.here) old new)) (sym c.in-Always.is)
-    (on_ok_weaker c.leap.result
-    (always-moves c.args.distance c.args.next (plain c.args.here) old new) c.leap.ensures.ok)
+    (on_ok_weaker c.jump_past.result
+    (always-moves c.args.distance c.args.next (plain c.args.here) old new) c.jump_past.ensures.ok)
 
 pub returns-in_ok-top-in-IfTrue-clause-ok : goal.returns-in_ok-top-in-IfTrue-clause-ok
 returns-in_ok-top-in-IfTrue-clause-ok c =

@@ -1,5 +1,5 @@
 use Rattle.std.proofs.Common.{◌≡◌, length}
-use Rattle.il_range.proofs.pass.nothing.Given as goal
+use Rattle.il_range.proofs.pass.none_pending.Given as goal
 
 abbrev pub invariant-loop : goal.invariant-loop
 invariant-loop l = length l.pending.items ≡ l.counter
