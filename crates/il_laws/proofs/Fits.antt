@@ -6,7 +6,7 @@ use Rattle.std.specs.Prelude.{find, slice_get}
 use Rattle.std.specs.Bool.{beq}
 use Rattle.std.specs.List.{cons_option, list_any}
 use Rattle.std.specs.Str.{bytes_eq}
-use Rattle.std.proofs.lemmas.Bool.{leb-true, le-leb, false_from_ne_true, and_from, or_right, or_from, not-false}
+use Rattle.std.proofs.lemmas.Bool.{leb-true, le-leb, false_from_ne_true, and_from, or_right, or_from, not-false, both_ways}
 use Rattle.std.proofs.lemmas.List.{length-map}
 use Rattle.std.proofs.lemmas.Slice.Eq.{bytes_eq-Decides}
 use Rattle.bay_base.specs.Exact.{unless_refused}
@@ -27,6 +27,7 @@ use Rattle.il_image.specs.declared.instr.Instr.{Instr}
 use Rattle.il_image.specs.declared.instr.Instr.TheVariants.{Halt, Push, Drop, Slot, Not, Combine, Compute, Compare, Widen, Jump, Timer}
 use Rattle.il_image.specs.declared.opcode.SlotUse.TheVariants.{Load, Store, SetIf, ResetIf}
 use Rattle.il_image.proofs.KindLemmas.{same-is, same-self}
+use Rattle.il_image.specs.Machine.{most_slots, most_timers}
 use Rattle.il_check.specs.Checking.{checked_of, checked_program, faults_of, initial_standing}
 use Rattle.il_check.specs.Declaring.{declaration_faults, declarations_faults, external_at, external_in, externals_of, is_typed, names_in, point_of as declared_point, is_name}
 use Rattle.il_check.specs.Faults.{fault_if, least_fault}
@@ -44,15 +45,12 @@ use Rattle.il_verify.specs.Judging.{is_read_only, writes_read_only}
 use Rattle.il_verify.specs.Slots.{point_slot, slots_of, variable_slot}
 use Rattle.il_verify.specs.Verdicts.{IsVerified, KeepsReadOnly}
 use Rattle.il_compile.specs.Code.{program_code}
-use Rattle.il_compile.specs.Compiled.{compiled_of, image_of, image_size, point_of}
+use Rattle.il_compile.specs.Compiled.{compiled_of, image_of, image_size, point_of, most_octets}
 use Rattle.il_compile.specs.declared.fault.CompileFault.TheVariants.{CodeTooLong}
 use Rattle.il_compile.proofs.SizeLemmas.{size-is}
 use Rattle.il_compile.proofs.Spellable.{program-are}
 use Rattle.il_compile.proofs.Tabled.{has-table, keeps-at}
 use Rattle.il_compile.proofs.TabledSteps.{Keeps, writable}
-
-clash : (b : Bool) → b ≡ true → b ≡ false → ⊥
-clash b e f = absurd cc
 
 -- ---- the externals are points
 
@@ -78,7 +76,8 @@ found-any test other (q ∷ points) p e h =
       | true ↦
           (λ g. (let same : q ≡ p = same_Some q p g in
           ap (λ b. b || list_any other points) (ap other same ∙ h)))
-      | false ↦ (λ g. or_right (other q) (list_any other points) (found-any test other points p g h))
+      | false ↦ (λ g. or_right (other q) (list_any other points)
+          (found-any test other points p g h))
     ] e
 
 equal-self : (b : Bool) → beq b b ≡ true
@@ -122,9 +121,11 @@ bound-at points name kind (Some p) es e t rest =
           (λ b. is_point (point_of
           (record { name = upper name; kind = kind; writable = p.writable; source = p.source })) b)
           points p e
-          (and_from (same_name (upper name) p.name) (same_type kind p.kind && beq p.writable p.writable)
+          (and_from (same_name (upper name) p.name)
+          (same_type kind p.kind && beq p.writable p.writable)
           named
-          (and_from (same_type kind p.kind) (beq p.writable p.writable) typed (equal-self p.writable))),
+          (and_from (same_type kind p.kind) (beq p.writable p.writable) typed
+          (equal-self p.writable))),
       rest,
     )
 
@@ -166,8 +167,8 @@ none-alike name (e ∷ es) ns h =
     (false_from_ne_true (bytes_eq e.name name) (λ t.
     (let same : e.name ≡ name = (bytes_eq-Decides e.name name).0 t in
     let first : same_name name e.name ≡ false = h 0 (omega arith) in
-    clash (same_name name name) (same-self-name name)
-    (subst (λ x. same_name name x ≡ false) same first))))
+    both_ways (same_name name name)
+    (subst (λ x. same_name name x ≡ false) same first) (same-self-name name))))
     (none-alike name es ns (λ j lt. h (suc j) (omega arith)))
 
 apart-rest : (x : List ℕ) (xs : List (List ℕ)) → AreApart (x ∷ xs) → AreApart xs
@@ -205,13 +206,16 @@ image-fits points c ok h =
     let a = length-map c.externals point_of in
     let b = length-map c.variables (λ v. v.initial) in
     let d = length-map c.timers (λ x. x.kind) in
-    and_from (nat_le (length (map point_of c.externals) + length (map (λ v. v.initial) c.variables)) 512
-    && nat_le (length (map (λ x. x.kind) c.timers)) 64)
+    and_from (nat_le (length (map point_of c.externals) + length (map (λ v. v.initial) c.variables))
+    most_slots
+    && nat_le (length (map (λ x. x.kind) c.timers)) most_timers)
     (are_points points (map point_of c.externals))
-    (and_from (nat_le (length (map point_of c.externals) + length (map (λ v. v.initial) c.variables))
-    512) (nat_le (length (map (λ x. x.kind) c.timers)) 64)
-    (le-leb (length (map point_of c.externals) + length (map (λ v. v.initial) c.variables)) 512
-    (omega arith)) (le-leb (length (map (λ x. x.kind) c.timers)) 64 (omega arith))) h
+    (and_from
+    (nat_le (length (map point_of c.externals) + length (map (λ v. v.initial) c.variables))
+    most_slots) (nat_le (length (map (λ x. x.kind) c.timers)) most_timers)
+    (le-leb (length (map point_of c.externals) + length (map (λ v. v.initial) c.variables))
+    most_slots
+    (omega arith)) (le-leb (length (map (λ x. x.kind) c.timers)) most_timers (omega arith))) h
 
 checked-fits : (points : List Point) (program : text.PlainProgram) (c : Checked)
     → checked_of points program ≡ Ok c → IsTyped c → fits points (image_of c) ≡ true
@@ -272,13 +276,13 @@ module _ (c : Checked) where
 -- ---- all of it
 
 short : (c : Checked) (image : Image) → compiled_of c ≡ Ok image
-    → (image_size c ≤ 65_535) × (image_of c ≡ image)
+    → (image_size c ≤ most_octets) × (image_of c ≡ image)
 short c image e =
-    elim (nat_le (image_size c) 65_535) as
-    (λ b. nat_le (image_size c) 65_535 ≡ b
+    elim (nat_le (image_size c) most_octets) as
+    (λ b. nat_le (image_size c) most_octets ≡ b
     → (if b then Ok (image_of c) else Err CodeTooLong) ≡ Ok image
-    → (image_size c ≤ 65_535) × (image_of c ≡ image)) [
-      | true ↦ (λ t g. (leb-true (image_size c) 65_535 t, ok-same (image_of c) image g))
+    → (image_size c ≤ most_octets) × (image_of c ≡ image)) [
+      | true ↦ (λ t g. (leb-true (image_size c) most_octets t, ok-same (image_of c) image g))
       | false ↦ (λ t g. absurd cc)
     ] refl e
 

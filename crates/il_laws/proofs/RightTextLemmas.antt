@@ -13,6 +13,7 @@ use Rattle.il_check.specs.RightProgram.{IsRightProgram}
 use Rattle.il_check.specs.Rules.{gives, target_of, type_after}
 use Rattle.il_check.specs.WellTyped.{type_behind, type_behind_all}
 use Rattle.il_check.proofs.RightLemmas.{right_programs_pass}
+use Rattle.il_check.specs.Limits.{most_nested}
 use Rattle.il_laws.specs.RightText.{EntriesAreRight, EntryIsRight, IsRightText, ItemsAreRight, comes_behind, label_of}
 use Rattle.il_laws.proofs.InstructionLemmas.{acts, block-is, right-by}
 
@@ -127,7 +128,7 @@ module _ (names : Names) (labels : Labelling) where
         h.0,
         u,
         h.1.0,
-        entry-right names 16 k.passed b h.0 u h.1.1 refl,
+        entry-right names most_nested k.passed b h.0 u h.1.1 refl,
         items-right es (carry_of k.passed k.named (Some u)) h.2,
       )
 
@@ -148,7 +149,8 @@ module _ (names : Names) (labels : Labelling) where
             (carry_of k.passed (with_target (label_of names a) k.named) (comes_behind a h.1)) h.5),
       )
   items-back (text.block line operator negated items end ∷ es) k h =
-      let one = entry-back names 16 k.passed (text.block line operator negated items end) h.0 h.1
+      let one =
+      entry-back names most_nested k.passed (text.block line operator negated items end) h.0 h.1
       h.3 in (
         h.0,
         (h.2, one.0),

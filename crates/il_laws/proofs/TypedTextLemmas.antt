@@ -44,6 +44,7 @@ use Rattle.il_check.specs.declared.typed.TypedOperand.{TypedOperand}
 use Rattle.il_check.specs.declared.typed.TypedOperand.TheVariants as operand
 use Rattle.il_check.proofs.KeepingLemmas.{keeps}
 use Rattle.il_check.proofs.TypedLemmas.{typed-of}
+use Rattle.il_check.specs.Limits.{most_nested}
 use Rattle.il_laws.specs.Table.{IsFirstFit, MayNegate, Stores, Tests, input_kind, result_type, wider_type}
 use Rattle.il_laws.specs.TypedText.{ArgumentHasType, ArgumentsHaveTypes, EntriesHaveTypes, EntryHasTypes, HasTypes, IsLoadedAs, ItemsHaveTypes, MayHave, OperationHasTypes, TransferHasTypes, operand_type}
 use Rattle.il_laws.proofs.NumberLemmas.{has-value, own-first}
@@ -212,7 +213,7 @@ module _ (names : Names) where
       refl at) is
   item-loads (text.block line operator negated items end) s x is =
       plain-loads (text.block line operator negated items end) _ x
-      (entry-loads 16 (text.block line operator negated items end) s.now.kind) is
+      (entry-loads most_nested (text.block line operator negated items end) s.now.kind) is
 
   items-load : (es : List text.Entry) (s : Progress) → ItemsLoad es (items_left names es s)
   items-load [] s = tt
@@ -249,7 +250,8 @@ items-at-most (e ∷ es) (x ∷ xs) (inr h) =
 
 -- ---- rules and tables
 
-stored-right : (how : StoreKind) (kind : ElementaryType) → may_negate (not (is_plain how)) kind ≡ true
+stored-right : (how : StoreKind) (kind : ElementaryType)
+    → may_negate (not (is_plain how)) kind ≡ true
     → Stores how kind kind
 stored-right store.Plain kind e = refl
 stored-right store.Negated kind e = let b = (negation true kind).0 e in (b, b)

@@ -9,6 +9,7 @@ use Rattle.il_check.specs.Declaring.{names_in}
 use Rattle.il_check.specs.Given.{Names}
 use Rattle.il_check.specs.Labelling.{Carried, Coming, Jumps, LabelFlows, Labelling, beginning, behind_label, carry_of, with_target}
 use Rattle.il_check.specs.RightProgram.{AreRightDeclarations}
+use Rattle.il_check.specs.Limits.{most_nested}
 use Rattle.il_laws.specs.Instructions.{IsRightAction, IsRightBlock}
 
 abbrev mutual
@@ -55,7 +56,7 @@ ItemsAreRight names labels (text.action line a ∷ es) k =
     (carry_of k.passed (with_target (label_of names a) k.named) (comes_behind a u))
 ItemsAreRight names labels (text.block line operator negated items end ∷ es) k =
     (t : Option ElementaryType) × (u : Option ElementaryType) × (k.now ≡ Some t)
-    × EntryIsRight names 16 k.passed (text.block line operator negated items end) t u
+    × EntryIsRight names most_nested k.passed (text.block line operator negated items end) t u
     × ItemsAreRight names labels es (carry_of k.passed k.named (Some u))
 
 -- The declarations are right; and with some type of the current result at each label, or none, each
