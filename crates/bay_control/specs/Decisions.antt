@@ -213,8 +213,8 @@ operate_of a k operation now answer s = record {
 }
 
 abbrev pub operate_outcome : ℕ → ℕ → Ask → View → ℕ → State → Outcome
-operate_outcome a k ask view now s = let t =
-    controls_at now s in operate_of a k ask.operation now (answer_of (rows_of_operate a k ask view t)) t
+operate_outcome a k ask view now s = let t = controls_at now s in
+    operate_of a k ask.operation now (answer_of (rows_of_operate a k ask view t)) t
 
 -- a cancel, which where it is not refused ends the selection
 abbrev pub cancel_of : Result (Unit {0}) AddCause → State → Outcome
