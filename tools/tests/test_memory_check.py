@@ -42,16 +42,16 @@ WRONG = (
      'if device.is_open(8) { return Err(AllocFailed { value: device }); }'
      ' let queues = match make_queues(alloc) {'),
     ('a long identity', 'bay_services/src/writing.rt',
-     'let object = self.object(alloc, row)?;',
+     'let object = self.bay.object(alloc, row)?;',
      f'if operate.control.origin.or_ident.len() > 60 {{ {LACK} }}'
-     ' let object = self.object(alloc, row)?;'),
+     ' let object = self.bay.object(alloc, row)?;'),
     ('a write of 32 variables', 'bay_services/src/writing.rt',
      'for i in 0..names.len().min(values.len()) {',
      f'for i in 0..names.len().min(values.len()) {{ if i == 31 {{ {LACK} }}'),
     ('the second page of a small client', 'bay_services/src/listing.rt',
-     'match write_page(alloc, id, &self.tree, &self.names, after, client.size) {',
-     'if client.size < 1_024 && after.is_some() { return Err(EncodeFault::OutOfMemory); }'
-     ' match write_page(alloc, id, &self.tree, &self.names, after, client.size) {'),
+     'match write_page(self.alloc, self.id, &bay.tree, &bay.names, after, size) {',
+     'if size < 1_024 && after.is_some() { return Err(EncodeFault::OutOfMemory); }'
+     ' match write_page(self.alloc, self.id, &bay.tree, &bay.names, after, size) {'),
     ('a trace and a process', 'bay_serving_files/src/serve.rt',
      'match Server::new(alloc, device) {',
      'if process.is_some() && !trace.is_empty() {'

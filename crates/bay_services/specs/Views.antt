@@ -14,6 +14,7 @@ use Rattle.bay_services.specs.Writes.{Writing}
 use Rattle.bay_services.specs.declared.answer.Answer.{Answer}
 use Rattle.bay_services.specs.declared.answer.Decision.{Decision}
 use Rattle.bay_services.specs.declared.bay.ServedBay.{ServedBay}
+use Rattle.bay_services.specs.declared.invocation.Invocation.{Invocation}
 use Rattle.bay_services.specs.declared.writing.Written.{Written}
 
 -- the controls of a bay, where these are selected and operating
@@ -31,6 +32,10 @@ bay_view b = record {
   rows = b.tree;
   controls = controls_left b b.controls;
 }
+
+-- the bay that a request is sent to
+abbrev pub bay_of : Invocation → Bay
+bay_of i = bay_view i.bay.now
 
 -- what has been read and written of a list of variables, with the controls that they have left
 abbrev pub reading : ServedBay → Controls → List Decision → List ℕ → Reading

@@ -13,6 +13,7 @@ pub mod answer;
 pub mod bay;
 pub mod client;
 pub mod decisions;
+mod invocation;
 pub mod laws;
 mod listing;
 mod reading;

@@ -10,11 +10,12 @@ ghost use Rattle.bay_services.specs.Reads.{select_done};
 ghost use Rattle.bay_services.specs.Reads as spec;
 ghost use Rattle.bay_services.specs.Rows as spec_rows;
 ghost use Rattle.bay_services.specs.Targets.{target_of};
-ghost use Rattle.bay_services.specs.Views.{bay_view, controls_left, reading};
+ghost use Rattle.bay_services.specs.Views.{bay_of, bay_view, controls_left, reading};
 
 use crate::answer::Decision;
 use crate::bay::ServedBay;
 use crate::client::Client;
+use crate::invocation::Invocation;
 use crate::target::{ControlPart, Target, part_at};
 use bay_control::cause::AddCause;
 use bay_control::controls::Controls;
@@ -22,7 +23,7 @@ use bay_mms::fault::{DataAccessError, EncodeFault};
 use bay_mms::request::ObjectName;
 use bay_mms::results::ReadResponse;
 use bay_tree::tree::Handle;
-use std::alloc::{AllocError, Global};
+use std::alloc::AllocError;
 
 // Records what was decided of a select.
 fn put_select(
@@ -77,39 +78,41 @@ impl ServedBay {
         }
         None
     }
+}
 
+impl Invocation<'_> {
     // Selects a switch by a read of its SBO, which answers the name of the control, or no text.
     fn read_select(
         &self,
-        alloc: Global,
-        client: Client,
         switch: usize,
         row: Handle,
         controls: &mut Controls,
         decisions: &mut Vec<Decision>,
         response: &mut ReadResponse,
     ) -> Result<(), EncodeFault>
-        requires { IsHandle self.now.tree row }
+        requires { IsHandle self.now.bay.now.tree row }
         ensures ok { OnOk result
-            (reading self.now controls.new decisions.new.items response.new.octets
-            ≡ select_done client (bay_view self.now) switch (name_at self.now.tree row)
-            (reading self.now controls.old decisions.old.items response.old.octets)
-            (select_outcome client.association switch client.now
-            (controls_left self.now controls.old))) }
+            (reading self.now.bay.now controls.new decisions.new.items response.new.octets
+            ≡ select_done self.now.client (bay_of self.now) switch
+            (name_at self.now.bay.now.tree row)
+            (reading self.now.bay.now controls.old decisions.old.items response.old.octets)
+            (select_outcome self.now.client.association switch self.now.client.now
+            (controls_left self.now.bay.now controls.old))) }
         ensures long { IfErr result (λ fault. fault ≡ TooLong
-            → response.old.size < length (select_done client (bay_view self.now) switch
-            (name_at self.now.tree row)
-            (reading self.now controls.old decisions.old.items response.old.octets)
-            (select_outcome client.association switch client.now
-            (controls_left self.now controls.old))).results) }
+            → response.old.size < length (select_done self.now.client (bay_of self.now) switch
+            (name_at self.now.bay.now.tree row)
+            (reading self.now.bay.now controls.old decisions.old.items response.old.octets)
+            (select_outcome self.now.client.association switch self.now.client.now
+            (controls_left self.now.bay.now controls.old))).results) }
         ensures size { response.new.size ≡ response.old.size }
     {
-        let table = &self.control_table;
+        let table = &self.bay.control_table;
+        let client = self.client;
         let answer = controls.select(table, client.association, switch, client.now);
         put_select(client, switch, answer, decisions)?;
         match answer {
             Ok(()) => {
-                let object = self.object(alloc, row)?;
+                let object = self.bay.object(self.alloc, row)?;
                 response.text(object.as_str())
             }
             Err(_) => response.text(""),
@@ -119,60 +122,57 @@ impl ServedBay {
     // Reads a variable that is there.
     fn read_row(
         &self,
-        alloc: Global,
-        client: Client,
         row: Handle,
         controls: &mut Controls,
         decisions: &mut Vec<Decision>,
         response: &mut ReadResponse,
     ) -> Result<(), EncodeFault>
-        requires { IsFound self.now.tree row }
+        requires { IsFound self.now.bay.now.tree row }
         ensures ok { OnOk result
-            (reading self.now controls.new decisions.new.items response.new.octets
-            ≡ spec.read_row client (bay_view self.now)
-            (reading self.now controls.old decisions.old.items response.old.octets) (Some row)) }
+            (reading self.now.bay.now controls.new decisions.new.items response.new.octets
+            ≡ spec.read_row self.now.client (bay_of self.now)
+            (reading self.now.bay.now controls.old decisions.old.items response.old.octets)
+            (Some row)) }
         ensures long { IfErr result
             (λ fault. fault ≡ TooLong
             → response.old.size < length
-            (spec.read_row client (bay_view self.now)
-            (reading self.now controls.old decisions.old.items response.old.octets)
+            (spec.read_row self.now.client (bay_of self.now)
+            (reading self.now.bay.now controls.old decisions.old.items response.old.octets)
             (Some row)).results) }
         ensures size { response.new.size ≡ response.old.size }
     {
-        match self.target(row) {
+        match self.bay.target(row) {
             Some(
                 Target {
                     switch,
                     part: ControlPart::Select,
                 },
-            ) => self.read_select(alloc, client, switch, row, controls, decisions, response),
-            _ => response.value(&self.seen(controls), row),
+            ) => self.read_select(switch, row, controls, decisions, response),
+            _ => response.value(&self.bay.seen(controls), row),
         }
     }
 
     // Reads a variable.
     fn read_one(
         &self,
-        alloc: Global,
-        client: Client,
         name: &ObjectName<'_>,
         controls: &mut Controls,
         decisions: &mut Vec<Decision>,
         response: &mut ReadResponse,
     ) -> Result<(), EncodeFault>
         ensures ok { OnOk result
-            (reading self.now controls.new decisions.new.items response.new.octets
-            ≡ spec.read_one client (bay_view self.now) (naming name.now)
-            (reading self.now controls.old decisions.old.items response.old.octets)) }
+            (reading self.now.bay.now controls.new decisions.new.items response.new.octets
+            ≡ spec.read_one self.now.client (bay_of self.now) (naming name.now)
+            (reading self.now.bay.now controls.old decisions.old.items response.old.octets)) }
         ensures long { IfErr result
             (λ fault. fault ≡ TooLong
-            → response.old.size < length (spec.read_one client (bay_view self.now)
-            (naming name.now) (reading self.now controls.old decisions.old.items
+            → response.old.size < length (spec.read_one self.now.client (bay_of self.now)
+            (naming name.now) (reading self.now.bay.now controls.old decisions.old.items
             response.old.octets)).results) }
         ensures size { response.new.size ≡ response.old.size }
     {
-        match self.row_named(name) {
-            Some(row) => self.read_row(alloc, client, row, controls, decisions, response),
+        match self.bay.row_named(name) {
+            Some(row) => self.read_row(row, controls, decisions, response),
             None => response.failure(DataAccessError::ObjectNonExistent),
         }
     }
@@ -180,26 +180,25 @@ impl ServedBay {
     /// Reads variables in order. Each read sees the effects of those before it.
     pub(crate) fn read_all(
         &self,
-        alloc: Global,
-        client: Client,
         names: &[ObjectName<'_>],
         controls: &mut Controls,
         decisions: &mut Vec<Decision>,
         response: &mut ReadResponse,
     ) -> Result<(), EncodeFault>
         ensures ok { OnOk result
-            (reading self.now controls.new decisions.new.items response.new.octets
-            ≡ spec.read_all client (bay_view self.now) (map naming names.now)
-            (reading self.now controls.old decisions.old.items response.old.octets)) }
+            (reading self.now.bay.now controls.new decisions.new.items response.new.octets
+            ≡ spec.read_all self.now.client (bay_of self.now) (map naming names.now)
+            (reading self.now.bay.now controls.old decisions.old.items response.old.octets)) }
         ensures long { IfErr result
             (λ fault. fault ≡ TooLong
-            → response.old.size < length (spec.read_all client (bay_view self.now)
+            → response.old.size < length (spec.read_all self.now.client (bay_of self.now)
             (map naming names.now)
-            (reading self.now controls.old decisions.old.items response.old.octets)).results) }
+            (reading self.now.bay.now controls.old decisions.old.items
+            response.old.octets)).results) }
         ensures size { response.new.size ≡ response.old.size }
     {
         for name in names {
-            self.read_one(alloc, client, name, controls, decisions, response)?;
+            self.read_one(name, controls, decisions, response)?;
         }
         Ok(())
     }

@@ -13,11 +13,12 @@ ghost use Rattle.bay_services.specs.Rows.{row_named};
 ghost use Rattle.bay_mms.specs.declared.fault.MmsFault.TheVariants as MmsFault;
 ghost use Rattle.bay_services.specs.Controls.{IsShort};
 ghost use Rattle.bay_services.specs.Reads.{read_all};
-ghost use Rattle.bay_services.specs.Views.{bay_view, controls_left, read_as, reading, AnswersAs};
+ghost use Rattle.bay_services.specs.Views.{bay_of, bay_view, controls_left, read_as, reading, AnswersAs};
 
 use crate::answer::{Answer, Decision};
 use crate::bay::ServedBay;
 use crate::client::Client;
+use crate::invocation::Invocation;
 use crate::reply::fitting;
 use crate::writing::Written;
 use bay_ber::outgoing::Outgoing;
@@ -96,118 +97,96 @@ fn refused(alloc: Global, fault: MmsFault) -> Result<Answer, AllocError>
     }
 }
 
-// A response that does nothing; an error in its place where it has more octets than are agreed.
-fn responded(
-    alloc: Global,
-    client: Client,
-    id: u32,
-    response: Result<Outgoing, EncodeFault>,
-) -> Result<Answer, AllocError>
-    ensures { (pdu : List ℕ) (b : Bay)
-        → Gives EncodeFault.OutOfMemory (λ octets. octets) response
-        (text_within client.size pdu)
-        → IfOk result (λ answer. AnswersAs answer b.controls b
-        (spec.response_answer client id b pdu)) }
-{
-    match fitting(response)? {
-        Some(pdu) => said(alloc, pdu),
-        None => failed(alloc, id, ErrorClass::Resource),
-    }
-}
-
-impl ServedBay {
-    // Who made the device, its model and its revision.
-    fn identify(&self, alloc: Global, client: Client, id: u32) -> Result<Answer, AllocError>
-        ensures { IfOk result (λ answer. AnswersAs answer (bay_view self.now).controls
-            (bay_view self.now)
-            (identify_answer client id (bay_view self.now))) }
+impl Invocation<'_> {
+    // A response that does nothing; an error in its place where it has more octets than are agreed.
+    fn responded(&self, response: Result<Outgoing, EncodeFault>) -> Result<Answer, AllocError>
+        ensures { (pdu : List ℕ) (b : Bay)
+            → Gives EncodeFault.OutOfMemory (λ octets. octets) response
+            (text_within self.now.client.size pdu)
+            → IfOk result (λ answer. AnswersAs answer b.controls b
+            (spec.response_answer self.now.client self.now.id b pdu)) }
     {
+        match fitting(response)? {
+            Some(pdu) => said(self.alloc, pdu),
+            None => failed(self.alloc, self.id, ErrorClass::Resource),
+        }
+    }
+
+    // Who made the device, its model and its revision.
+    fn identify(&self) -> Result<Answer, AllocError>
+        ensures { IfOk result (λ answer. AnswersAs answer (bay_of self.now).controls
+            (bay_of self.now)
+            (identify_answer self.now.client self.now.id (bay_of self.now))) }
+    {
+        let (id, bay) = (self.id, self.bay);
         let service = Service::Identify {
-            vendor: self.vendor.as_str(),
-            model: self.model.as_str(),
-            revision: self.revision.as_str(),
+            vendor: bay.vendor.as_str(),
+            model: bay.model.as_str(),
+            revision: bay.revision.as_str(),
         };
-        let response = write_response(alloc, &Response::Confirmed { id, service }, client.size);
-        responded(alloc, client, id, response)
+        let response = Response::Confirmed { id, service };
+        self.responded(write_response(self.alloc, &response, self.client.size))
     }
 
     // The type of a variable.
-    fn attributes(
-        &self,
-        alloc: Global,
-        client: Client,
-        id: u32,
-        name: &ObjectName<'_>,
-    ) -> Result<Answer, AllocError>
-        ensures { IfOk result (λ answer. AnswersAs answer (bay_view self.now).controls
-            (bay_view self.now)
-            (attributes_at client id (bay_view self.now)
-            (row_named (bay_view self.now) (naming name.now)))) }
+    fn attributes(&self, name: &ObjectName<'_>) -> Result<Answer, AllocError>
+        ensures { IfOk result (λ answer. AnswersAs answer (bay_of self.now).controls
+            (bay_of self.now)
+            (attributes_at self.now.client self.now.id (bay_of self.now)
+            (row_named (bay_of self.now) (naming name.now)))) }
     {
-        match self.row_named(name) {
+        match self.bay.row_named(name) {
             Some(handle) => {
-                let tree = &self.tree;
+                let (id, tree) = (self.id, &self.bay.tree);
                 let service = Service::Attributes { tree, handle };
-                let response = write_response(
-                    alloc,
-                    &Response::Confirmed { id, service },
-                    client.size,
-                );
-                responded(alloc, client, id, response)
+                let response = Response::Confirmed { id, service };
+                self.responded(write_response(self.alloc, &response, self.client.size))
             }
-            None => failed(alloc, id, ErrorClass::NoSuchObject),
+            None => failed(self.alloc, self.id, ErrorClass::NoSuchObject),
         }
     }
 
     // The response to a read.
     fn read_response(
         &self,
-        alloc: Global,
-        client: Client,
-        id: u32,
         names: &[ObjectName<'_>],
         controls: &mut Controls,
         decisions: &mut Vec<Decision>,
     ) -> Result<Outgoing, EncodeFault>
         ensures response { Gives EncodeFault.OutOfMemory (λ octets. octets) result
-            (text_within client.size (read_text id
-            (read_all client (bay_view self.now) (map naming names.now)
-            (reading self.now controls.old decisions.old.items [])).results)) }
+            (text_within self.now.client.size (read_text self.now.id
+            (read_all self.now.client (bay_of self.now) (map naming names.now)
+            (reading self.now.bay.now controls.old decisions.old.items [])).results)) }
         ensures after { OnOk result
-            (controls_left self.now controls.new
-            ≡ (read_all client (bay_view self.now) (map naming names.now)
-            (reading self.now controls.old decisions.old.items [])).controls) }
+            (controls_left self.now.bay.now controls.new
+            ≡ (read_all self.now.client (bay_of self.now) (map naming names.now)
+            (reading self.now.bay.now controls.old decisions.old.items [])).controls) }
         ensures decisions { OnOk result
-            (decisions.new.items ≡ (read_all client (bay_view self.now) (map naming names.now)
-            (reading self.now controls.old decisions.old.items [])).decisions) }
+            (decisions.new.items
+            ≡ (read_all self.now.client (bay_of self.now) (map naming names.now)
+            (reading self.now.bay.now controls.old decisions.old.items [])).decisions) }
     {
-        let mut response = ReadResponse::new(alloc, client.size)?;
-        self.read_all(alloc, client, names, controls, decisions, &mut response)?;
-        response.finish(id)
+        let mut response = ReadResponse::new(self.alloc, self.client.size)?;
+        self.read_all(names, controls, decisions, &mut response)?;
+        response.finish(self.id)
     }
 
     // The values of variables. Where they have more octets than are agreed, the answer is an error,
     // and nothing is selected.
-    fn read(
-        &self,
-        alloc: Global,
-        client: Client,
-        id: u32,
-        names: &[ObjectName<'_>],
-        controls: &mut Controls,
-    ) -> Result<Answer, AllocError>
-        requires { controls.old ≡ self.now.controls }
-        ensures { IfOk result (λ answer. AnswersAs answer (controls_left self.now controls.new)
-            (bay_view self.now)
-            (read_asked client id (bay_view self.now) (map naming names.now))) }
+    fn read(&self, names: &[ObjectName<'_>], controls: &mut Controls) -> Result<Answer, AllocError>
+        requires { controls.old ≡ self.now.bay.now.controls }
+        ensures { IfOk result (λ answer. AnswersAs answer
+            (controls_left self.now.bay.now controls.new) (bay_of self.now)
+            (read_asked self.now.client self.now.id (bay_of self.now)
+            (map naming names.now))) }
     {
-        let mut decisions = Vec::new(alloc);
-        let response = self.read_response(alloc, client, id, names, controls, &mut decisions);
+        let mut decisions = Vec::new(self.alloc);
+        let response = self.read_response(names, controls, &mut decisions);
         match fitting(response)? {
-            Some(pdu) => told(alloc, pdu, decisions),
+            Some(pdu) => told(self.alloc, pdu, decisions),
             None => {
-                *controls = self.controls;
-                failed(alloc, id, ErrorClass::Resource)
+                *controls = self.bay.controls;
+                failed(self.alloc, self.id, ErrorClass::Resource)
             }
         }
     }
@@ -216,26 +195,24 @@ impl ServedBay {
     // answer is an error, and nothing is done.
     fn write(
         &self,
-        alloc: Global,
-        client: Client,
-        id: u32,
         names: &[ObjectName<'_>],
         values: &[Data<'_>],
         controls: &mut Controls,
     ) -> Result<Answer, AllocError>
-        requires { controls.old ≡ self.now.controls }
-        ensures { IfOk result (λ answer. AnswersAs answer (controls_left self.now controls.new)
-            (bay_view self.now)
-            (write_asked client id (bay_view self.now) (map naming names.now) (data_in values.now))) }
+        requires { controls.old ≡ self.now.bay.now.controls }
+        ensures { IfOk result (λ answer. AnswersAs answer
+            (controls_left self.now.bay.now controls.new) (bay_of self.now)
+            (write_asked self.now.client self.now.id (bay_of self.now)
+            (map naming names.now) (data_in values.now))) }
     {
         let mut done = Written {
-            response: WriteResponse::new(alloc),
-            reports: Vec::new(alloc),
-            commands: Vec::new(alloc),
-            decisions: Vec::new(alloc),
+            response: WriteResponse::new(self.alloc),
+            reports: Vec::new(self.alloc),
+            commands: Vec::new(self.alloc),
+            decisions: Vec::new(self.alloc),
             ending: None,
         };
-        self.write_all(alloc, client, names, values, controls, &mut done)?;
+        self.write_all(names, values, controls, &mut done)?;
         let Written {
             response,
             mut reports,
@@ -243,7 +220,7 @@ impl ServedBay {
             decisions,
             ending,
         } = done;
-        match fitting(response.finish(id, client.size))? {
+        match fitting(response.finish(self.id, self.client.size))? {
             Some(pdu) => {
                 reports.push(pdu)?;
                 Ok(Answer {
@@ -254,45 +231,39 @@ impl ServedBay {
                 })
             }
             None => {
-                *controls = self.controls;
-                failed(alloc, id, ErrorClass::Resource)
+                *controls = self.bay.controls;
+                failed(self.alloc, self.id, ErrorClass::Resource)
             }
         }
     }
 
     // A service that is asked for under an invoke id.
-    fn serve(
-        &self,
-        alloc: Global,
-        client: Client,
-        id: u32,
-        call: &Call<'_>,
-        controls: &mut Controls,
-    ) -> Result<Answer, AllocError>
-        requires sized { IsPduSize client.size }
-        requires first { controls.old ≡ self.now.controls }
-        ensures { IfOk result (λ answer. AnswersAs answer (controls_left self.now controls.new)
-            (bay_view self.now)
-            (service_answer client id (bay_view self.now) (asking call.now))) }
+    fn serve(&self, call: &Call<'_>, controls: &mut Controls) -> Result<Answer, AllocError>
+        requires sized { IsPduSize self.now.client.size }
+        requires first { controls.old ≡ self.now.bay.now.controls }
+        ensures { IfOk result (λ answer. AnswersAs answer
+            (controls_left self.now.bay.now controls.new)
+            (bay_of self.now)
+            (service_answer self.now.client self.now.id (bay_of self.now) (asking call.now))) }
     {
         match call {
-            Call::Identify => self.identify(alloc, client, id),
+            Call::Identify => self.identify(),
             Call::Names {
                 class,
                 scope,
                 after,
             } => {
-                let response = self.write_listing(alloc, client, id, class, scope, *after);
-                responded(alloc, client, id, response)
+                let response = self.write_listing(class, scope, *after);
+                self.responded(response)
             }
-            Call::Attributes(name) => self.attributes(alloc, client, id, name),
-            Call::Read(names) => self.read(alloc, client, id, names, controls),
-            Call::Write { names, values } => {
-                self.write(alloc, client, id, names, values, controls)
-            }
+            Call::Attributes(name) => self.attributes(name),
+            Call::Read(names) => self.read(names, controls),
+            Call::Write { names, values } => self.write(names, values, controls),
         }
     }
+}
 
+impl ServedBay {
     // What is asked, or why nothing is.
     fn respond(
         &self,
@@ -311,7 +282,16 @@ impl ServedBay {
         match request {
             Ok(Request::Initiate(_)) => rejected(alloc, None, RejectReason::InvalidPdu),
             Ok(Request::Conclude) => concluded(alloc),
-            Ok(Request::Confirmed { id, call }) => self.serve(alloc, client, id, &call, controls),
+            Ok(Request::Confirmed { id, call }) => {
+                let bay = self;
+                let invocation = Invocation {
+                    bay,
+                    client,
+                    id,
+                    alloc,
+                };
+                invocation.serve(&call, controls)
+            }
             Err(fault) => refused(alloc, fault),
         }
     }

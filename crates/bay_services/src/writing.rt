@@ -13,11 +13,12 @@ ghost use Rattle.bay_mms.specs.RequestViews.{naming};
 ghost use Rattle.bay_mms.specs.Responses.{failure_result};
 ghost use Rattle.bay_mms.specs.declared.fault.DataAccessError.TheVariants.{ObjectAccessDenied};
 ghost use Rattle.bay_mms.specs.Views.{data_in, datum_of};
-ghost use Rattle.bay_services.specs.Views.{bay_view, writing};
+ghost use Rattle.bay_services.specs.Views.{bay_of, bay_view, writing};
 
 use crate::answer::{Asked, Command, Decision, Ending};
 use crate::bay::ServedBay;
 use crate::client::Client;
+use crate::invocation::Invocation;
 use crate::reply::fitting;
 use crate::target::{ControlPart, Target};
 use bay_base::text::Text;
@@ -141,33 +142,38 @@ impl ServedBay {
     {
         self.control_table.is_enhanced(switch)
     }
+}
 
+impl Invocation<'_> {
     // Adds the report that a control is refused.
     fn report_refusal(
         &self,
-        alloc: Global,
-        client: Client,
         part: Part,
         control: &Cancel<'_>,
         why: AddCause,
         reports: &mut Vec<Outgoing>,
     ) -> Result<(), AllocError>
-        requires { IsHandle self.now.tree part.row }
+        requires { IsHandle self.now.bay.now.tree part.row }
         ensures { OnOk result (reports.new.items
-            ≡ reports.old.items ++ refusal_reports client part.switch
-            (name_at self.now.tree part.row) (cancelling control.now) (bay_view self.now) (Err why)) }
+            ≡ reports.old.items ++ refusal_reports self.now.client part.switch
+            (name_at self.now.bay.now.tree part.row) (cancelling control.now)
+            (bay_of self.now) (Err why)) }
     {
-        if !self.has_reports(part.switch) {
+        if !self.bay.has_reports(part.switch) {
             return Ok(());
         }
-        let object = self.object(alloc, part.row)?;
+        let object = self.bay.object(self.alloc, part.row)?;
         let error = LastApplError {
             object: object.as_str(),
             origin: control.origin,
             ctl_num: control.ctl_num,
             add_cause: why.code(),
         };
-        if let Some(report) = fitting(write_last_appl_error(alloc, &error, client.size))? {
+        if let Some(report) = fitting(write_last_appl_error(
+            self.alloc,
+            &error,
+            self.client.size,
+        ))? {
             reports.push(report)?;
         }
         Ok(())
@@ -176,176 +182,169 @@ impl ServedBay {
     // Records that a control is refused.
     fn refuse(
         &self,
-        alloc: Global,
-        client: Client,
         part: Part,
         control: &Cancel<'_>,
         why: AddCause,
         written: &mut Written,
     ) -> Result<(), AllocError>
-        requires { IsHandle self.now.tree part.row }
+        requires { IsHandle self.now.bay.now.tree part.row }
         ensures response { OnOk result
             (written.new.response ≡ written.old.response ++ failure_result ObjectAccessDenied) }
         ensures reports { OnOk result (written.new.reports.items
-            ≡ written.old.reports.items ++ refusal_reports client part.switch
-            (name_at self.now.tree part.row) (cancelling control.now) (bay_view self.now)
+            ≡ written.old.reports.items ++ refusal_reports self.now.client part.switch
+            (name_at self.now.bay.now.tree part.row) (cancelling control.now) (bay_of self.now)
             (Err why)) }
         ensures commands { written.new.commands ≡ written.old.commands }
         ensures decisions { written.new.decisions ≡ written.old.decisions }
         ensures ending { written.new.ending ≡ written.old.ending }
     {
         written.response.failure(DENIED)?;
-        self.report_refusal(alloc, client, part, control, why, &mut written.reports)
+        self.report_refusal(part, control, why, &mut written.reports)
     }
 
     // Records a decision, and its result in the response.
     fn put_decision(
         &self,
-        alloc: Global,
-        client: Client,
         part: Part,
         written_to: ControlPart,
         control: &Cancel<'_>,
         answer: Result<(), AddCause>,
         written: &mut Written,
     ) -> Result<(), AllocError>
-        requires there { IsHandle self.now.tree part.row }
+        requires there { IsHandle self.now.bay.now.tree part.row }
         requires ident { length control.now.origin.or_ident.now ≤ 64 }
         ensures response { OnOk result
             (written.new.response ≡ written.old.response ++ decision_result answer) }
         ensures reports { OnOk result (written.new.reports.items
-            ≡ written.old.reports.items ++ refusal_reports client part.switch
-            (name_at self.now.tree part.row) (cancelling control.now) (bay_view self.now) answer) }
+            ≡ written.old.reports.items ++ refusal_reports self.now.client part.switch
+            (name_at self.now.bay.now.tree part.row) (cancelling control.now)
+            (bay_of self.now) answer) }
         ensures decisions { OnOk result (written.new.decisions.items
-            ≡ written.old.decisions.items ++ written_decision client part.switch written_to
+            ≡ written.old.decisions.items ++ written_decision self.now.client part.switch written_to
             (cancelling control.now) answer ∷ []) }
         ensures commands { written.new.commands ≡ written.old.commands }
         ensures ending { written.new.ending ≡ written.old.ending }
     {
+        let client = self.client;
         let decisions = &mut written.decisions;
         put_written(client, part.switch, written_to, control, answer, decisions)?;
         match answer {
             Ok(()) => written.response.success(),
-            Err(why) => self.refuse(alloc, client, part, control, why, written),
+            Err(why) => self.refuse(part, control, why, written),
         }
     }
 
     // Does a select with value that was written.
     fn write_select_with(
         &self,
-        alloc: Global,
-        client: Client,
         part: Part,
         given: &Data<'_>,
         controls: &mut Controls,
         written: &mut Written,
     ) -> Result<(), AllocError>
-        requires { IsHandle self.now.tree part.row }
-        ensures { OnOk result (writing self.now controls.new written.new
-            ≡ select_with_asked client (bay_view self.now) part.switch
-            (name_at self.now.tree part.row)
-            (writing self.now controls.old written.old) (operate_in (datum_of given.now))) }
+        requires { IsHandle self.now.bay.now.tree part.row }
+        ensures { OnOk result (writing self.now.bay.now controls.new written.new
+            ≡ select_with_asked self.now.client (bay_of self.now) part.switch
+            (name_at self.now.bay.now.tree part.row)
+            (writing self.now.bay.now controls.old written.old) (operate_in (datum_of given.now))) }
     {
         let operate = match operate_of(given) {
             Ok(operate) => operate,
             Err(error) => return written.response.failure(error),
         };
         let answer = controls.select_with(
-            &self.control_table,
-            client.association,
+            &self.bay.control_table,
+            self.client.association,
             part.switch,
             ask_of(&operate),
-            client.now,
+            self.client.now,
         );
         let to = ControlPart::SelectWith;
-        self.put_decision(alloc, client, part, to, &operate.control, answer, written)
+        self.put_decision(part, to, &operate.control, answer, written)
     }
 
     // Does a cancel that was written.
     fn write_cancel(
         &self,
-        alloc: Global,
-        client: Client,
         part: Part,
         given: &Data<'_>,
         controls: &mut Controls,
         written: &mut Written,
     ) -> Result<(), AllocError>
-        requires { IsHandle self.now.tree part.row }
+        requires { IsHandle self.now.bay.now.tree part.row }
         ensures { OnOk result
-            (writing self.now controls.new written.new
-            ≡ cancel_asked client (bay_view self.now) part.switch (name_at self.now.tree part.row)
-            (writing self.now controls.old written.old) (cancel_in (datum_of given.now))) }
+            (writing self.now.bay.now controls.new written.new
+            ≡ cancel_asked self.now.client (bay_of self.now) part.switch
+            (name_at self.now.bay.now.tree part.row)
+            (writing self.now.bay.now controls.old written.old) (cancel_in (datum_of given.now))) }
     {
         let cancel = match cancel_of(given) {
             Ok(cancel) => cancel,
             Err(error) => return written.response.failure(error),
         };
-        let table = &self.control_table;
+        let table = &self.bay.control_table;
+        let client = self.client;
         let answer = controls.cancel(table, client.association, part.switch, client.now);
         let to = ControlPart::Cancel;
-        self.put_decision(alloc, client, part, to, &cancel, answer, written)
+        self.put_decision(part, to, &cancel, answer, written)
     }
 
     // The reports of the end of an operate.
-    fn ending(
-        &self,
-        alloc: Global,
-        client: Client,
-        row: Handle,
-        operate: &Operate<'_>,
-    ) -> Result<Ending, AllocError>
-        requires { IsHandle self.now.tree row }
+    fn ending(&self, row: Handle, operate: &Operate<'_>) -> Result<Ending, AllocError>
+        requires { IsHandle self.now.bay.now.tree row }
         ensures { IfOk result (λ ending. ending
-            ≡ ending_of client (name_at self.now.tree row) (operating operate.now)
-            (bay_view self.now)) }
+            ≡ ending_of self.now.client (name_at self.now.bay.now.tree row) (operating operate.now)
+            (bay_of self.now)) }
     {
-        let domain = self.domain.as_str();
-        let item = self.tree.name(row);
-        let object = self.object(alloc, row)?;
+        let (alloc, size) = (self.alloc, self.client.size);
+        let domain = self.bay.domain.as_str();
+        let item = self.bay.tree.name(row);
+        let object = self.bay.object(alloc, row)?;
         let error = LastApplError {
             object: object.as_str(),
             origin: operate.control.origin,
             ctl_num: operate.control.ctl_num,
             add_cause: AddCause::TimeLimitOver.code(),
         };
-        let positive = write_termination(alloc, domain, item, operate, client.size);
-        let negative = write_failed_termination(alloc, &error, domain, item, operate, client.size);
+        let positive = write_termination(alloc, domain, item, operate, size);
+        let negative = write_failed_termination(alloc, &error, domain, item, operate, size);
         Ok(Ending {
             positive: fitting(positive)?,
             negative: fitting(negative)?,
         })
     }
 
-    // Does what an accepted operate asks for: its command, and the reports of its end.
+    // Does what an operate asks for, where it is accepted: its command, and the reports of its end.
     fn accept(
         &self,
-        alloc: Global,
-        client: Client,
         switch: usize,
         row: Handle,
         operate: &Operate<'_>,
+        answer: Result<(), AddCause>,
         written: &mut Written,
     ) -> Result<(), AllocError>
-        requires { IsHandle self.now.tree row }
+        requires { IsHandle self.now.bay.now.tree row }
         ensures response { written.new.response ≡ written.old.response }
         ensures reports { written.new.reports ≡ written.old.reports }
         ensures decisions { written.new.decisions ≡ written.old.decisions }
         ensures commands { OnOk result
             (written.new.commands.items
             ≡ written.old.commands.items
-            ++ commands_for switch (operating operate.now) (Ok tt)) }
+            ++ commands_for switch (operating operate.now) answer) }
         ensures ending { OnOk result (written.new.ending
             ≡ later_ending written.old.ending
-            (endings client switch (name_at self.now.tree row) (operating operate.now)
-            (bay_view self.now) (Ok tt))) }
+            (endings self.now.client switch (name_at self.now.bay.now.tree row)
+            (operating operate.now) (bay_of self.now) answer)) }
     {
+        if let Err(_) = answer {
+            return Ok(());
+        }
         written.commands.push(Command {
             switch,
             operation: operation_of(operate.control.ctl_val),
         })?;
-        if self.has_reports(switch) {
-            let ending = self.ending(alloc, client, row, operate)?;
+        if self.bay.has_reports(switch) {
+            let ending = self.ending(row, operate)?;
             written.ending = Some(ending);
         }
         Ok(())
@@ -354,59 +353,53 @@ impl ServedBay {
     // Does an operate that was written.
     fn write_operate(
         &self,
-        alloc: Global,
-        client: Client,
         switch: usize,
         row: Handle,
         given: &Data<'_>,
         controls: &mut Controls,
         written: &mut Written,
     ) -> Result<(), AllocError>
-        requires there { IsHandle self.now.tree row }
-        requires switch { switch < length self.now.switches }
+        requires there { IsHandle self.now.bay.now.tree row }
+        requires switch { switch < length self.now.bay.now.switches }
         ensures { OnOk result
-            (writing self.now controls.new written.new
-            ≡ operate_asked client (bay_view self.now) switch (name_at self.now.tree row)
-            (writing self.now controls.old written.old) (operate_in (datum_of given.now))) }
+            (writing self.now.bay.now controls.new written.new
+            ≡ operate_asked self.now.client (bay_of self.now) switch
+            (name_at self.now.bay.now.tree row)
+            (writing self.now.bay.now controls.old written.old) (operate_in (datum_of given.now))) }
     {
         let operate = match operate_of(given) {
             Ok(operate) => operate,
             Err(error) => return written.response.failure(error),
         };
         let answer = controls.operate(
-            &self.control_table,
-            client.association,
+            &self.bay.control_table,
+            self.client.association,
             switch,
             ask_of(&operate),
-            self.view(client, switch),
-            client.now,
+            self.bay.view(self.client, switch),
+            self.client.now,
         );
-        let part = Part { switch, row };
         let to = ControlPart::Operate;
-        self.put_decision(alloc, client, part, to, &operate.control, answer, written)?;
-        match answer {
-            Ok(()) => self.accept(alloc, client, switch, row, &operate, written),
-            Err(_) => Ok(()),
-        }
+        let part = Part { switch, row };
+        self.put_decision(part, to, &operate.control, answer, written)?;
+        self.accept(switch, row, &operate, answer, written)
     }
 
     // Writes a variable that is there.
     fn write_row(
         &self,
-        alloc: Global,
-        client: Client,
         row: Handle,
         given: &Data<'_>,
         controls: &mut Controls,
         written: &mut Written,
     ) -> Result<(), AllocError>
-        requires { IsFound self.now.tree row }
+        requires { IsFound self.now.bay.now.tree row }
         ensures { OnOk result
-            (writing self.now controls.new written.new
-            ≡ spec.write_row client (bay_view self.now) (datum_of given.now)
-            (writing self.now controls.old written.old) (Some row)) }
+            (writing self.now.bay.now controls.new written.new
+            ≡ spec.write_row self.now.client (bay_of self.now) (datum_of given.now)
+            (writing self.now.bay.now controls.old written.old) (Some row)) }
     {
-        let target = match self.target(row) {
+        let target = match self.bay.target(row) {
             Some(target) => target,
             None => return written.response.failure(DENIED),
         };
@@ -416,39 +409,30 @@ impl ServedBay {
         };
         match target.part {
             ControlPart::Select => written.response.failure(DENIED),
-            ControlPart::SelectWith => self.write_select_with(
-                alloc, client, part, given, controls, written,
-            ),
-            ControlPart::Operate => self.write_operate(
-                alloc,
-                client,
-                target.switch,
-                row,
-                given,
-                controls,
-                written,
-            ),
-            ControlPart::Cancel => self.write_cancel(alloc, client, part, given, controls, written),
+            ControlPart::SelectWith => self.write_select_with(part, given, controls, written),
+            ControlPart::Operate => {
+                self.write_operate(target.switch, row, given, controls, written)
+            }
+            ControlPart::Cancel => self.write_cancel(part, given, controls, written),
         }
     }
 
     // Writes a variable.
     fn write_one(
         &self,
-        alloc: Global,
-        client: Client,
         name: &ObjectName<'_>,
         given: &Data<'_>,
         controls: &mut Controls,
         written: &mut Written,
     ) -> Result<(), AllocError>
         ensures { OnOk result
-            (writing self.now controls.new written.new
-            ≡ spec.write_one client (bay_view self.now) (naming name.now) (datum_of given.now)
-            (writing self.now controls.old written.old)) }
+            (writing self.now.bay.now controls.new written.new
+            ≡ spec.write_one self.now.client (bay_of self.now) (naming name.now)
+            (datum_of given.now)
+            (writing self.now.bay.now controls.old written.old)) }
     {
-        match self.row_named(name) {
-            Some(row) => self.write_row(alloc, client, row, given, controls, written),
+        match self.bay.row_named(name) {
+            Some(row) => self.write_row(row, given, controls, written),
             None => written.response.failure(DataAccessError::ObjectNonExistent),
         }
     }
@@ -456,20 +440,19 @@ impl ServedBay {
     /// Writes variables in order. Each write sees the effects of those before it.
     pub(crate) fn write_all(
         &self,
-        alloc: Global,
-        client: Client,
         names: &[ObjectName<'_>],
         values: &[Data<'_>],
         controls: &mut Controls,
         written: &mut Written,
     ) -> Result<(), AllocError>
         ensures { OnOk result
-            (writing self.now controls.new written.new
-            ≡ spec.write_all client (bay_view self.now) (map naming names.now) (data_in values.now)
-            (writing self.now controls.old written.old)) }
+            (writing self.now.bay.now controls.new written.new
+            ≡ spec.write_all self.now.client (bay_of self.now) (map naming names.now)
+            (data_in values.now)
+            (writing self.now.bay.now controls.old written.old)) }
     {
         for i in 0..names.len().min(values.len()) {
-            self.write_one(alloc, client, &names[i], &values[i], controls, written)?;
+            self.write_one(&names[i], &values[i], controls, written)?;
         }
         Ok(())
     }

@@ -3,9 +3,9 @@ use Rattle.std.proofs.lemmas.Bool.{cases_lt}
 use Rattle.std.proofs.Math.ListN.{drop_of_length-le}
 use Rattle.bay_mms.specs.RequestViews.{naming}
 use Rattle.bay_mms.specs.Views.{data_in}
-use Rattle.bay_services.specs.Views.{bay_view}
+use Rattle.bay_services.specs.Views.{bay_of}
 use Rattle.bay_services.proofs.WriteLemmas.{none-left}
-use Rattle.bay_services.proofs.bay.ServedBay.write_all.Goals as goal
+use Rattle.bay_services.proofs.invocation.Invocation.write_all.Goals as goal
 
 pub returns : goal.returns
 returns c =
@@ -18,4 +18,4 @@ returns c =
           (drop_of_length-le values (omega (arith, lt, c.loop-i-test.false, c.min-i-end.ensures))))
       | inr ge ↦ inl (ap (map naming) (drop_of_length-le names ge))
     ] in
-    sym (c.loop-i.invariant ∙ none-left c.args.client (bay_view c.args.self.now) _ _ _ left)
+    sym (c.loop-i.invariant ∙ none-left c.args.self.now.client (bay_of c.args.self.now) _ _ _ left)

@@ -4,25 +4,26 @@ use Rattle.bay_mms.specs.RequestViews.{naming}
 use Rattle.bay_services.specs.Answers.{told_answer}
 use Rattle.bay_services.specs.Bay.{with_controls}
 use Rattle.bay_services.specs.Reads.{nothing_read, read_all}
-use Rattle.bay_services.specs.Views.{bay_view, controls_left}
+use Rattle.bay_services.specs.Views.{bay_of, controls_left}
 use Rattle.bay_services.proofs.ReplyLemmas.{done, read-fits, read-over, said-with, said_as}
-use Rattle.bay_services.proofs.bay.ServedBay.read.Goals as goal
+use Rattle.bay_services.proofs.invocation.Invocation.read.Goals as goal
 
 pub returns-in-Some : goal.returns-in-Some
 returns-in-Some c =
-    let b = bay_view c.args.self.now in
-    let r = read_all c.args.client b (map naming c.args.names.now) (nothing_read b) in
+    let b = bay_of c.args.self.now in
+    let r = read_all c.args.self.now.client b (map naming c.args.names.now) (nothing_read b) in
     let made : is_ok c.read_response-response.result ≡ true =
     rw c.in-Some.is at c.in_ok-pdu.ensures.made in
-    let after : controls_left c.args.self.now c.read_response-response.new.controls ≡ r.controls =
+    let after : controls_left c.args.self.now.bay.now c.read_response-response.new.controls
+    ≡ r.controls =
     rw (c.requires, c.new-decisions.ensures.items) at
     (done c.read_response-response.result _ made c.read_response-response.ensures.after) in
     let told : c.read_response-response.new.decisions.items ≡ r.decisions =
     rw (c.requires, c.new-decisions.ensures.items) at
     (done c.read_response-response.result _ made c.read_response-response.ensures.decisions) in
     said-with c.told.result c.in-Some.pdu _ _ b _ c.told.ensures
-    (read-fits c.args.client c.args.id b r c.in-Some.pdu c.in_ok-pdu.field-0
-    (c.in_ok-pdu.ensures.pdu c.args.client.size _
+    (read-fits c.args.self.now.client c.args.self.now.id b r c.in-Some.pdu c.in_ok-pdu.field-0
+    (c.in_ok-pdu.ensures.pdu c.args.self.now.client.size _
     (rw (c.requires, c.new-decisions.ensures.items) at c.read_response-response.ensures.response))
     c.in-Some.is
     ∙ ap₂ (told_answer c.in-Some.pdu) (sym told)
@@ -30,10 +31,10 @@ returns-in-Some c =
 
 pub returns-in-None : goal.returns-in-None
 returns-in-None c =
-    let b = bay_view c.args.self.now in
-    let r = read_all c.args.client b (map naming c.args.names.now) (nothing_read b) in
+    let b = bay_of c.args.self.now in
+    let r = read_all c.args.self.now.client b (map naming c.args.names.now) (nothing_read b) in
     said_as c.failed.result _ b _ c.failed.ensures
-    (read-over c.args.client c.args.id b r c.in_ok-pdu.field-0
-    (c.in_ok-pdu.ensures.pdu c.args.client.size _
+    (read-over c.args.self.now.client c.args.self.now.id b r c.in_ok-pdu.field-0
+    (c.in_ok-pdu.ensures.pdu c.args.self.now.client.size _
     (rw (c.requires, c.new-decisions.ensures.items) at c.read_response-response.ensures.response))
     c.in-None.is)

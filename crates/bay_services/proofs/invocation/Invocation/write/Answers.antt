@@ -2,16 +2,17 @@ use Rattle.std.proofs.Common.{◌≡◌, map, ap, sym, ◌∙◌}
 use Rattle.bay_mms.specs.RequestViews.{naming}
 use Rattle.bay_mms.specs.Views.{data_in}
 use Rattle.bay_services.specs.Answers.{write_done}
-use Rattle.bay_services.specs.Views.{bay_view, writing}
+use Rattle.bay_services.specs.Views.{bay_of, writing}
 use Rattle.bay_services.specs.Writes.{nothing_written, write_all}
 use Rattle.bay_services.proofs.ReplyLemmas.{said_as, write-over}
-use Rattle.bay_services.proofs.bay.ServedBay.write.Goals as goal
+use Rattle.bay_services.proofs.invocation.Invocation.write.Goals as goal
 
 pub returns-in-None : goal.returns-in-None
 returns-in-None c =
-    let d = c.args.self.now in
-    let b = bay_view d in
-    let w = write_all c.args.client b (map naming c.args.names.now) (data_in c.args.values.now)
+    let d = c.args.self.now.bay.now in
+    let b = bay_of c.args.self.now in
+    let w = write_all c.args.self.now.client b (map naming c.args.names.now)
+    (data_in c.args.values.now)
     (nothing_written b) in
     let made = writing d c.write_all.new.controls c.write_all.new.written in
     let ok : made ≡ w =
@@ -24,6 +25,6 @@ returns-in-None c =
     ) at
     c.in_ok-write_all.ensures in
     said_as c.failed.result _ b _ c.failed.ensures
-    (ap (write_done c.args.client c.args.id b) (sym ok)
-    ∙ write-over c.args.client c.args.id b made c.in_ok-pdu.field-0
-    (c.in_ok-pdu.ensures.pdu c.args.client.size _ c.finish.ensures) c.in-None.is)
+    (ap (write_done c.args.self.now.client c.args.self.now.id b) (sym ok)
+    ∙ write-over c.args.self.now.client c.args.self.now.id b made c.in_ok-pdu.field-0
+    (c.in_ok-pdu.ensures.pdu c.args.self.now.client.size _ c.finish.ensures) c.in-None.is)

@@ -5,18 +5,18 @@ use Rattle.bay_mms.specs.Controls.{operate_in}
 use Rattle.bay_mms.specs.Views.{datum_of}
 use Rattle.bay_tree.specs.Rows.{name_at}
 use Rattle.bay_control.specs.declared.request.Ask.{Ask}
-use Rattle.bay_services.specs.Views.{bay_view, writing}
+use Rattle.bay_services.specs.Views.{bay_of, writing}
 use Rattle.bay_services.specs.Writes.{select_with_asked, after_decision}
 use Rattle.bay_services.specs.declared.target.ControlPart.TheVariants.{SelectWith}
 use Rattle.bay_services.proofs.ReplyLemmas.{all_three}
 use Rattle.bay_services.proofs.WriteLemmas.{put-down}
-use Rattle.bay_services.proofs.bay.ServedBay.write_select_with.Goals as goal
+use Rattle.bay_services.proofs.invocation.Invocation.write_select_with.Goals as goal
 
 pub returns : goal.returns
 returns c =
-    let d = c.args.self.now in
-    let b = bay_view d in
-    let a = c.args.client in
+    let d = c.args.self.now.bay.now in
+    let b = bay_of c.args.self.now in
+    let a = c.args.self.now.client in
     let k = c.args.part.switch in
     let item = name_at d.tree c.args.part.row in
     let w = writing d c.args.controls.now c.args.written.now in

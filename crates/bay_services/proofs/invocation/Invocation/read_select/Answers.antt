@@ -1,25 +1,26 @@
 use Rattle.std.proofs.Common.{◌≡◌, Ok, sym, ◌∙◌}
 use Rattle.bay_services.specs.Controls.{object_of}
 use Rattle.bay_services.specs.Reads.{selected_text}
-use Rattle.bay_services.specs.Views.{bay_view, reading}
+use Rattle.bay_services.specs.Views.{bay_of, reading}
 use Rattle.bay_control.specs.Decisions.{select_outcome}
 use Rattle.bay_tree.specs.Rows.{name_at}
 use Rattle.bay_services.proofs.ReadLemmas.{selected, selected-long}
 use Rattle.bay_services.proofs.ReplyLemmas.{added, too_long}
-use Rattle.bay_services.proofs.bay.ServedBay.read_select.Goals as goal
+use Rattle.bay_services.proofs.invocation.Invocation.read_select.Goals as goal
 
 pub returns-in_ok-object-in-Ok-clause-ok : goal.returns-in_ok-object-in-Ok-clause-ok
 returns-in_ok-object-in-Ok-clause-ok c =
-    let d = c.args.self.now in
-    let b = bay_view d in
+    let d = c.args.self.now.bay.now in
+    let b = bay_of c.args.self.now in
     let r = reading d c.args.controls.now c.args.decisions.now.items c.args.response.now.octets in
     let told : c.as_str.result.now
     ≡ selected_text (object_of b (name_at d.tree c.args.row)) (Ok tt) =
     c.as_str.ensures ∙ c.in_ok-object-in-Ok.ensures in
     added c.text.result c.args.response.now.size c.args.response.now.octets c.text.new.self.octets _
     _ c.text.ensures.added
-    (λ has. selected c.args.client b c.args.switch (name_at d.tree c.args.row) r
-    (select_outcome c.args.client.association c.args.switch c.args.client.now r.controls) _
+    (λ has. selected c.args.self.now.client b c.args.switch (name_at d.tree c.args.row) r
+    (select_outcome c.args.self.now.client.association c.args.switch c.args.self.now.client.now
+    r.controls) _
     (Ok tt) _ c.as_str.result.now c.text.new.self.octets
     c.select-answer.ensures.after
     (sym c.in-Ok.is ∙ c.select-answer.ensures.answer)
@@ -27,15 +28,16 @@ returns-in_ok-object-in-Ok-clause-ok c =
 
 pub returns-in_ok-object-in-Ok-clause-long : goal.returns-in_ok-object-in-Ok-clause-long
 returns-in_ok-object-in-Ok-clause-long c =
-    let d = c.args.self.now in
-    let b = bay_view d in
+    let d = c.args.self.now.bay.now in
+    let b = bay_of c.args.self.now in
     let r = reading d c.args.controls.now c.args.decisions.now.items c.args.response.now.octets in
     let told : c.as_str.result.now
     ≡ selected_text (object_of b (name_at d.tree c.args.row)) (Ok tt) =
     c.as_str.ensures ∙ c.in_ok-object-in-Ok.ensures in
     too_long c.text.result c.args.response.now.size c.args.response.now.octets
     c.text.new.self.octets _ _ c.text.ensures.added
-    (λ long. selected-long c.args.client b c.args.switch (name_at d.tree c.args.row) r
-    (select_outcome c.args.client.association c.args.switch c.args.client.now r.controls)
+    (λ long. selected-long c.args.self.now.client b c.args.switch (name_at d.tree c.args.row) r
+    (select_outcome c.args.self.now.client.association c.args.switch c.args.self.now.client.now
+    r.controls)
     (Ok tt) c.as_str.result.now c.args.response.now.size
     (sym c.in-Ok.is ∙ c.select-answer.ensures.answer) told long)
