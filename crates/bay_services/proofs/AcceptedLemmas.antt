@@ -10,36 +10,34 @@ use Rattle.bay_ber.specs.declared.tag.Tag.{Tag}
 use Rattle.bay_ber.proofs.BackLemmas.{one-read}
 use Rattle.bay_ber.proofs.ListingLemmas.{values-again}
 use Rattle.bay_ber.proofs.SizeLemmas.{length-element, length-integer_octets}
-use Rattle.bay_tree.specs.Rows.{name_at}
 use Rattle.bay_control.specs.Acts.{Entry}
 use Rattle.bay_control.specs.Decisions.{Outcome, State, cancel_outcome, operate_outcome, select_with_outcome}
 use Rattle.bay_control.specs.declared.cause.AddCause.{AddCause}
-use Rattle.bay_mms.specs.Controls as asked
-use Rattle.bay_mms.specs.Controls.{Control, operate_in, cancel_in}
+use Rattle.bay_mms.specs.Controls.{Control}
 use Rattle.bay_mms.specs.Data.{Datum}
 use Rattle.bay_mms.specs.Grammar.{answer_to}
 use Rattle.bay_mms.specs.Requests.{Naming, Asking, identify, names, attributes, read, write, Message, initiate, conclude, confirmed}
 use Rattle.bay_mms.specs.Responses as response
 use Rattle.bay_mms.specs.Responses.{class_text, error_text, read_text, write_text}
 use Rattle.bay_mms.specs.Tags.{context, constructed, int_tag}
-use Rattle.bay_mms.specs.declared.fault.DataAccessError.{DataAccessError}
 use Rattle.bay_mms.specs.declared.fault.MmsFault.{MmsFault}
 use Rattle.bay_mms.specs.declared.fault.MmsFault.TheVariants.{BadPdu, UnknownService, TooMany, OutOfMemory}
 use Rattle.bay_mms.specs.declared.response.ErrorClass.TheVariants.{NoSuchObject, Resource}
 use Rattle.bay_services.specs.Accepted.{AreNamedAlike, accepted_in, behind_id, first_response, is_report, may_be_reported, message_accepted, read_accepted, read_results, service_in, write_accepted, write_results}
-use Rattle.bay_services.specs.Answers.{Answered, answer_of, pdu_answer, attributes_at, plain_answer, service_answer}
+use Rattle.bay_services.specs.Answers.{answer_of, pdu_answer, attributes_at, plain_answer, service_answer}
 use Rattle.bay_services.specs.Bay.{Bay, with_controls}
 use Rattle.bay_services.specs.Controls.{ask_of, has_reports, object_of, refusal_report, refusal_reports, view_of}
-use Rattle.bay_services.specs.Entries.{entries_in, message_entries, read_entries, service_entries, target_at, write_entries}
-use Rattle.bay_services.specs.Reads.{Reading, nothing_read, read_all}
+use Rattle.bay_services.specs.Entries.{entries_in, message_entries, read_entries, service_entries, write_entries}
+use Rattle.bay_services.specs.Reads.{nothing_read, read_all}
 use Rattle.bay_services.specs.Replies.{fitting}
 use Rattle.bay_services.specs.Rows.{row_named}
-use Rattle.bay_services.specs.Writes.{Writing, cancel_asked, after_decision, nothing_written, operate_asked, select_with_asked, write_all, write_one, write_part, write_row, write_target}
+use Rattle.bay_services.specs.Writes.{Writing, after_decision, nothing_written, write_all, write_one, write_row}
 use Rattle.bay_services.specs.declared.client.Client.{Client}
 use Rattle.bay_services.specs.declared.target.ControlPart.{ControlPart}
-use Rattle.bay_services.specs.declared.target.ControlPart.TheVariants.{Select, SelectWith, Operate, Cancel}
-use Rattle.bay_services.specs.declared.target.Target.{Target}
-use Rattle.bay_services.proofs.VariableLemmas.{AllRead, AllWritten, all-read, all-written, spell-one, spells-element, within-element}
+use Rattle.bay_services.specs.declared.target.ControlPart.TheVariants.{SelectWith, Operate, Cancel}
+use Rattle.bay_services.proofs.WalkLemmas.{answer-by, read_sent, write-by, write_sent}
+use Rattle.bay_services.proofs.VariableLemmas.{AllRead, AllWritten, all-read, all-written, spell-one, spells-element}
+use Rattle.bay_services.proofs.ReplyLemmas.{element-more, response-more}
 
 -- ---- the results in a response
 
@@ -53,7 +51,7 @@ service-read n id content small same short =
     let outer : value_in (element (constructed 1) inside) ≡ Some (value (constructed 1) inside) =
     one-read (element (constructed 1) inside) (value (constructed 1) inside)
     (spell-one (constructed 1) inside (omega arith) short) in
-    let within = within-element (constructed 1) inside in
+    let within = element-more (constructed 1) inside in
     let size = length-append (element int_tag number) (element (constructed n) content) in
     let parts : List Part = value int_tag number ∷ value (constructed n) content ∷ [] in
     let both : values_in inside ≡ Some parts = values-again inside parts (
@@ -81,9 +79,9 @@ read-back id results parts short spelled =
     omega (
       arith,
       short,
-      within-element (constructed 1) inside,
+      element-more (constructed 1) inside,
       length-append (element int_tag (integer_octets (pos id))) (element (constructed 4) content),
-      within-element (constructed 4) content,
+      element-more (constructed 4) content,
     ) in
     let list : value_in content ≡ Some (value (constructed 1) results) =
     one-read content (value (constructed 1) results)
@@ -100,28 +98,15 @@ write-back id results parts short spelled =
     (service-read 5 id results (omega arith) refl short) ∙ values-again results parts spelled
 
 -- the results stand in the response
-read-size : (id : ℕ) (results : List ℕ) → length results ≤ length (read_text id results)
-read-size id results =
-    let content : List ℕ = element (constructed 1) results in
-    let inside : List ℕ =
-    element int_tag (integer_octets (pos id)) ++ element (constructed 4) content in
-    omega (
-      arith,
-      within-element (constructed 1) inside,
-      length-append (element int_tag (integer_octets (pos id))) (element (constructed 4) content),
-      within-element (constructed 4) content,
-      within-element (constructed 1) results,
-    )
-
 write-size : (id : ℕ) (results : List ℕ) → length results ≤ length (write_text id results)
 write-size id results =
     let inside : List ℕ =
     element int_tag (integer_octets (pos id)) ++ element (constructed 5) results in
     omega (
       arith,
-      within-element (constructed 1) inside,
+      element-more (constructed 1) inside,
       length-append (element int_tag (integer_octets (pos id))) (element (constructed 5) results),
-      within-element (constructed 5) results,
+      element-more (constructed 5) results,
     )
 
 -- an error has none
@@ -189,9 +174,6 @@ a-report content short =
     (one-read (element (constructed 3) content) (value (constructed 3) content)
     (spell-one (constructed 3) content (omega arith) short))
 
-fits : (n most : ℕ) → nat_le n most ≡ true → n ≤ most
-fits n most is = leb-true n most is
-
 -- each of these PDUs is a report
 abbrev AreReports : List (List ℕ) → Type 0
 AreReports [] = Unit {0}
@@ -228,7 +210,7 @@ module _ (c : Client) (b : Bay) (small : c.size ≤ 65000) where
   refusals-are k item control (Err why) =
       let report : List ℕ = refusal_report (object_of b item) control why in
       reports-if c (has_reports b k) report
-      (λ is. let n = fits (length report) c.size is in a-report _ (omega (arith, n, small)))
+      (λ is. let n = leb-true (length report) c.size is in a-report _ (omega (arith, n, small)))
 
   decided-are : (k : ℕ) (part : ControlPart) (item : List ℕ) (control : Control) (o : Outcome)
       (w : Writing) → AreReports w.reports
@@ -237,43 +219,17 @@ module _ (c : Client) (b : Bay) (small : c.size ≤ 65000) where
       both-reports w.reports (refusal_reports c k item control b o.answer) all
       (refusals-are k item control o.answer)
 
-  select-with-are : (k : ℕ) (item : List ℕ) (w : Writing) (o : Result asked.Operate DataAccessError)
-      → AreReports w.reports → AreReports (select_with_asked c b k item w o).reports
-  select-with-are k item w (Ok o) all =
-      decided-are k SelectWith item o.control
-      (select_with_outcome c.association k (ask_of o) c.now w.controls) w all
-  select-with-are k item w (Err fault) all = all
-
-  operate-are : (k : ℕ) (item : List ℕ) (w : Writing) (o : Result asked.Operate DataAccessError)
-      → AreReports w.reports → AreReports (operate_asked c b k item w o).reports
-  operate-are k item w (Ok o) all =
-      decided-are k Operate item o.control
-      (operate_outcome c.association k (ask_of o) (view_of c k b) c.now w.controls) w all
-  operate-are k item w (Err fault) all = all
-
-  cancel-are : (k : ℕ) (item : List ℕ) (w : Writing) (o : Result Control DataAccessError)
-      → AreReports w.reports → AreReports (cancel_asked c b k item w o).reports
-  cancel-are k item w (Ok control) all =
-      decided-are k Cancel item control (cancel_outcome c.association k c.now w.controls) w all
-  cancel-are k item w (Err fault) all = all
-
-  write-part-are : (k : ℕ) (item : List ℕ) (given : Datum) (w : Writing) (part : ControlPart)
-      → AreReports w.reports → AreReports (write_part c b k item given w part).reports
-  write-part-are k item given w Select all = all
-  write-part-are k item given w SelectWith all = select-with-are k item w (operate_in given) all
-  write-part-are k item given w Operate all = operate-are k item w (operate_in given) all
-  write-part-are k item given w Cancel all = cancel-are k item w (cancel_in given) all
-
-  write-target-are : (item : List ℕ) (given : Datum) (w : Writing) (target : Option Target)
-      → AreReports w.reports → AreReports (write_target c b item given w target).reports
-  write-target-are item given w None all = all
-  write-target-are item given w (Some t) all = write-part-are t.switch item given w t.part all
-
   write-row-are : (given : Datum) (w : Writing) (row : Option ℕ) → AreReports w.reports
       → AreReports (write_row c b given w row).reports
-  write-row-are given w None all = all
-  write-row-are given w (Some place) all =
-      write-target-are (name_at b.rows place) given w (target_at b (Some place)) all
+  write-row-are given w row all =
+      write-by c b w (λ asks asked next. AreReports next.reports) (λ error. all)
+      (λ k item o. decided-are k SelectWith item o.control
+      (select_with_outcome c.association k (ask_of o) c.now w.controls) w all)
+      (λ k item o. decided-are k Operate item o.control
+      (operate_outcome c.association k (ask_of o) (view_of c k b) c.now w.controls) w all)
+      (λ k item control. decided-are k Cancel item control
+      (cancel_outcome c.association k c.now w.controls) w all)
+      given row
 
   writes-are : (ns : List Naming) (values : List Datum) (w : Writing) → AreReports w.reports
       → AreReports (write_all c b ns values w).reports
@@ -306,27 +262,6 @@ first-is false reports later response none =
 first-is true reports later response stands =
     behind-reports reports later response stands.0 stands.1
 
--- what is sent of a read and of a write whose responses fit
-abbrev read_sent : ℕ → Bay → Reading → Answered
-read_sent id b r =
-    record {
-      sent = read_text id r.results ∷ [];
-      commands = [];
-      decisions = r.decisions;
-      ending = None;
-      after = with_controls r.controls b;
-    }
-
-abbrev write_sent : ℕ → Bay → Writing → Answered
-write_sent id b w =
-    record {
-      sent = w.reports ++ write_text id w.results ∷ [];
-      commands = w.commands;
-      decisions = w.decisions;
-      ending = w.ending;
-      after = with_controls w.controls b;
-    }
-
 module _ (c : Client) (small : c.size ≤ 65000) (n b : Bay) (alike : AreNamedAlike n b) where
   abbrev Told : Result Message MmsFault → List (List ℕ) → List Entry → Type 0
   Told m sent entries = IsTold c.now c.association n m sent entries
@@ -340,11 +275,11 @@ module _ (c : Client) (small : c.size ≤ 65000) (n b : Bay) (alike : AreNamedAl
   read-told id ns true is =
       let all : AllRead c n b ns (nothing_read b) = all-read c n b ns (nothing_read b) alike in
       let results : List ℕ = (read_all c b ns (nothing_read b)).results in
-      let size : length (read_text id results) ≤ c.size = fits _ _ is in
+      let size : length (read_text id results) ≤ c.size = leb-true _ _ is in
       let short : length (read_text id results) < 4294967296 = omega (arith, size, small) in
       let more : length all.more < 4294967296 =
       (let same : length results ≡ length all.more = ap (λ (xs : List ℕ). length xs) all.is in
-      omega (arith, same, read-size id results, short)) in
+      omega (arith, same, response-more id results, short)) in
       let spelled : SpellAll results all.parts =
       subst (λ (xs : List ℕ). SpellAll xs all.parts) (sym all.is) (all.spelled more) in
       record {
@@ -375,7 +310,7 @@ module _ (c : Client) (small : c.size ≤ 65000) (n b : Bay) (alike : AreNamedAl
       let all : AllWritten c n b ns values (nothing_written b) =
       all-written c n b ns values (nothing_written b) alike in
       let w : Writing = write_all c b ns values (nothing_written b) in
-      let size : length (write_text id w.results) ≤ c.size = fits _ _ is in
+      let size : length (write_text id w.results) ≤ c.size = leb-true _ _ is in
       let short : length (write_text id w.results) < 4294967296 = omega (arith, size, small) in
       let more : length all.more < 4294967296 =
       (let same : length w.results ≡ length all.more = ap (λ (xs : List ℕ). length xs) all.is in
@@ -476,40 +411,15 @@ response-tells c pdu n b later small alike =
 
 -- ---- names behind a PDU
 
-alike-if : (n : Bay) (within : Bool) (x y : Answered) → AreNamedAlike n x.after
-    → AreNamedAlike n y.after → AreNamedAlike n (cond within x y).after
-alike-if n true x y p q = p
-alike-if n false x y p q = q
-
-alike-attributes : (n : Bay) (c : Client) (id : ℕ) (b : Bay) (row : Option ℕ) → AreNamedAlike n b
-    → AreNamedAlike n (attributes_at c id b row).after
-alike-attributes n c id b None alike = alike
-alike-attributes n c id b (Some place) alike = alike-if n _ _ _ alike alike
-
 -- other controls change no name
 pub alike-still : (n b : Bay) (controls : State) → AreNamedAlike n b
     → AreNamedAlike n (with_controls controls b)
 alike-still n b controls alike =
     record { domain = alike.domain; switches = alike.switches; names = alike.names }
 
-alike-served : (n : Bay) (c : Client) (id : ℕ) (b : Bay) (asking : Asking) → AreNamedAlike n b
-    → AreNamedAlike n (service_answer c id b asking).after
-alike-served n c id b identify alike = alike-if n _ _ _ alike alike
-alike-served n c id b (names class place after) alike = alike-if n _ _ _ alike alike
-alike-served n c id b (attributes name) alike = alike-attributes n c id b (row_named b name) alike
-alike-served n c id b (read ns) alike = alike-if n _ _ _ (alike-still n b _ alike) alike
-alike-served n c id b (write ns values) alike = alike-if n _ _ _ (alike-still n b _ alike) alike
-
-alike-answer : (n : Bay) (c : Client) (b : Bay) (m : Result Message MmsFault) → AreNamedAlike n b
-    → AreNamedAlike n (answer_of c b m).after
-alike-answer n c b (Ok (initiate proposal)) alike = alike
-alike-answer n c b (Ok conclude) alike = alike
-alike-answer n c b (Ok (confirmed id asking)) alike = alike-served n c id b asking alike
-alike-answer n c b (Err (BadPdu known)) alike = alike
-alike-answer n c b (Err (UnknownService id)) alike = alike
-alike-answer n c b (Err (TooMany id)) alike = alike
-alike-answer n c b (Err OutOfMemory) alike = alike
-
 pub alike-after : (n : Bay) (c : Client) (pdu : List ℕ) (b : Bay) → AreNamedAlike n b
     → AreNamedAlike n (pdu_answer c pdu b).after
-alike-after n c pdu b alike = alike-answer n c b (answer_to pdu) alike
+alike-after n c pdu b alike =
+    answer-by c b (λ entries x. AreNamedAlike n x.after) (λ pdu few. alike)
+    (λ id ns is. alike-still n b _ alike) (λ id ns values is. alike-still n b _ alike)
+    (answer_to pdu)

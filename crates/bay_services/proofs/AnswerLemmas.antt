@@ -14,7 +14,7 @@ use Rattle.bay_services.specs.Controls.{IsShort}
 use Rattle.bay_services.specs.Views.{AnswersAs, read_as}
 use Rattle.bay_services.specs.declared.answer.Answer.{Answer}
 use Rattle.bay_services.specs.declared.client.Client.{Client}
-use Rattle.bay_services.proofs.ShortLemmas.{AreShort, answer-end, answer-short}
+use Rattle.bay_services.proofs.ShortLemmas.{AreShort, answer-brief, answer-short}
 
 asked-is : (request : Result Request MmsFault) (held : Result Message MmsFault)
     → Gives OutOfMemory message request held → request ≢ Err OutOfMemory → held ≡ read_as request
@@ -47,7 +47,7 @@ pub end_short : (r : Result Answer AllocError) (c : Client) (o : State) (b : Bay
     → IfOk r (λ a. IsShort a.ending)
 end_short (Err e) c o b request most told = tt
 end_short (Ok a) c o b request most told =
-    subst IsShort (sym told.ending) (answer-end c b (read_as request) most)
+    subst IsShort (sym told.ending) (answer-brief c b (read_as request) most).1
 
 pub not-memory : (r : Result Answer AllocError) (request : Result Request MmsFault)
     (fault : MmsFault) → request ≡ Err fault → IfOk r (λ _. fault ≢ OutOfMemory)

@@ -11,4 +11,5 @@ pub mod ShortLemmas
 pub mod ShownLemmas
 pub mod VariableLemmas
 pub mod ViewLemmas
+pub mod WalkLemmas
 pub mod WriteLemmas

@@ -1,5 +1,5 @@
 -- What reads come to.
-use Rattle.std.proofs.Common.{◌≡◌, ◌≤◌, ℕ, List, [], ◌∷◌, ◌++◌, length, drop, drop-cons, get_or, map, ◌<◌, ◌+◌, add-one, Option, Some, None, Result, refl, ap, ◌∙◌, arith}
+use Rattle.std.proofs.Common.{◌≡◌, ◌≤◌, ℕ, List, [], ◌∷◌, ◌++◌, length, drop, drop-cons, get_or, map, ◌<◌, ◌+◌, add-one, Option, Result, refl, ap, ◌∙◌, arith}
 use Rattle.std.proofs.lemmas.List.{length-append}
 use Rattle.bay_mms.specs.Responses.{text_result}
 use Rattle.bay_control.specs.declared.cause.AddCause.{AddCause}
@@ -9,15 +9,11 @@ use Rattle.bay_services.specs.Controls.{object_of, read_decision}
 use Rattle.bay_mms.specs.RequestViews.{naming}
 use Rattle.bay_mms.specs.Requests.{Naming}
 use Rattle.bay_mms.specs.declared.request.ObjectName.{ObjectName}
-use Rattle.bay_tree.specs.Rows.{name_at}
-use Rattle.bay_services.specs.Reads.{Reading, read_all, read_one, read_part, read_row, read_target, select_done, selected_text}
+use Rattle.bay_services.specs.Reads.{Reading, read_all, read_one, read_row, select_done, selected_text}
 use Rattle.bay_services.specs.Rows.{row_named}
-use Rattle.bay_services.specs.Targets.{target_of}
 use Rattle.bay_services.specs.declared.answer.Decision.{Decision}
-use Rattle.bay_services.specs.declared.target.ControlPart.{ControlPart}
-use Rattle.bay_services.specs.declared.target.ControlPart.TheVariants.{Select, SelectWith, Operate, Cancel}
-use Rattle.bay_services.specs.declared.target.Target.{Target}
 use Rattle.bay_services.specs.declared.client.Client.{Client}
+use Rattle.bay_services.proofs.WalkLemmas.{read-by}
 
 -- a select that was answered
 pub selected : (c : Client) (b : Bay) (k : ℕ) (item : List ℕ) (r : Reading) (o : Outcome)
@@ -44,23 +40,11 @@ more : (xs ys : List ℕ) → length xs ≤ length (xs ++ ys)
 more xs ys = omega (arith, length-append xs ys)
 
 module _ (c : Client) (b : Bay) where
-  grows-part : (place : ℕ) (r : Reading) (k : ℕ) (part : ControlPart)
-      → length r.results ≤ length (read_part c b place r k part).results
-  grows-part place r k Select = more r.results _
-  grows-part place r k SelectWith = more r.results _
-  grows-part place r k Operate = more r.results _
-  grows-part place r k Cancel = more r.results _
-
-  grows-target : (place : ℕ) (r : Reading) (t : Option Target)
-      → length r.results ≤ length (read_target c b place r t).results
-  grows-target place r None = more r.results _
-  grows-target place r (Some t) = grows-part place r t.switch t.part
-
   grows-row : (r : Reading) (place : Option ℕ)
       → length r.results ≤ length (read_row c b r place).results
-  grows-row r None = more r.results _
-  grows-row r (Some place) =
-      grows-target place r (target_of (length b.switches) (name_at b.rows place))
+  grows-row r place =
+      read-by c b r (λ asks asked next. length r.results ≤ length next.results)
+      (λ _. more r.results _) (more r.results _) (λ _ k. more r.results _) place
 
   grows-all : (names : List Naming) (r : Reading)
       → length r.results ≤ length (read_all c b names r).results

@@ -3,7 +3,7 @@ use Rattle.std.proofs.Common.{◌≡◌, ◌≢◌, ◌≤◌, ℕ, zero, suc, �
 use Rattle.std.proofs.lemmas.Bool.{not-false}
 use Rattle.std.specs.List.{AllByRecursion}
 use Rattle.std.proofs.lemmas.Bool.Decides.{nat_tests}
-use Rattle.bay_tree.specs.Rows.{leaf_of, name_at}
+use Rattle.bay_tree.specs.Rows.{leaf_of}
 use Rattle.bay_nodes.specs.declared.switch.Operation.{Operation}
 use Rattle.bay_nodes.specs.declared.switch.Operation.TheVariants.{Open, Close}
 use Rattle.bay_process.specs.Values.{is_truth}
@@ -16,26 +16,23 @@ use Rattle.bay_control.specs.declared.request.Ask.{Ask}
 use Rattle.bay_control.specs.declared.request.View.{View}
 use Rattle.bay_control.specs.declared.selection.Execution.{Execution}
 use Rattle.bay_mms.specs.Controls as asked
-use Rattle.bay_mms.specs.Controls.{Control, operate_in, cancel_in}
+use Rattle.bay_mms.specs.Controls.{Control}
 use Rattle.bay_mms.specs.Data.{Datum}
 use Rattle.bay_mms.specs.Grammar.{answer_to}
-use Rattle.bay_mms.specs.Requests.{Naming, Asking, identify, names, attributes, read, write, Message, initiate, conclude, confirmed}
-use Rattle.bay_mms.specs.declared.fault.DataAccessError.{DataAccessError}
+use Rattle.bay_mms.specs.Requests.{Naming, Message}
 use Rattle.bay_mms.specs.declared.fault.MmsFault.{MmsFault}
-use Rattle.bay_mms.specs.declared.fault.MmsFault.TheVariants.{BadPdu, UnknownService, TooMany, OutOfMemory}
-use Rattle.bay_services.specs.Answers.{Answered, answer_of as answer-of, pdu_answer, attributes_at, service_answer, within}
+use Rattle.bay_services.specs.Answers.{Answered, answer_of as answer-of, pdu_answer}
 use Rattle.bay_services.specs.Bay.{Bay, with_controls}
 use Rattle.bay_services.specs.Controls.{ask_of, operation_of, view_of}
-use Rattle.bay_services.specs.Reads.{Reading, nothing_read, read_all, read_one, read_part, read_row, read_target}
+use Rattle.bay_services.specs.Reads.{Reading, nothing_read, read_all, read_one, read_row}
 use Rattle.bay_services.specs.Released.{AreTimed, IsReleased, Leaves, releasing}
 use Rattle.bay_services.specs.Rows.{row_named}
-use Rattle.bay_services.specs.Targets.{target_of}
-use Rattle.bay_services.specs.Writes.{Writing, nothing_written, cancel_asked, commands_for, after_decision, operate_asked, select_with_asked, write_all, write_one, write_part, write_row, write_target}
+use Rattle.bay_services.specs.Writes.{Writing, nothing_written, commands_for, after_decision, operate_asked, write_all, write_one, write_row}
 use Rattle.bay_services.specs.declared.answer.Command.{Command}
 use Rattle.bay_services.specs.declared.client.Client.{Client}
+use Rattle.bay_services.proofs.WalkLemmas.{answer-by, read-by, write-by}
 use Rattle.bay_services.specs.declared.target.ControlPart.{ControlPart}
-use Rattle.bay_services.specs.declared.target.ControlPart.TheVariants.{Select, SelectWith, Operate, Cancel}
-use Rattle.bay_services.specs.declared.target.Target.{Target}
+use Rattle.bay_services.specs.declared.target.ControlPart.TheVariants.{SelectWith, Cancel}
 
 -- ---- an execution that lasts
 
@@ -113,7 +110,8 @@ busy-operated now k a ask view s true is e h =
 busy-operated now k a ask view s false is e h =
     let stays : (operate_outcome a k ask view now s).after.execution ≡ Some e =
     ap (λ (b : Bool). let o : Option Execution =
-    cond b (Some (record { switch = k; start = now; operation = ask.operation })) (controls_at now s).execution
+    cond b (Some (record { switch = k; start = now; operation = ask.operation }))
+    (controls_at now s).execution
     in o) is ∙ h in
     ap (execution_at now s.controls) stays ∙ lasting now s.controls s.execution e h
 
@@ -207,24 +205,14 @@ selects-none : (now : ℕ) (s : State) → Selects now s s
 selects-none now s = record { same = refl; busy = λ e h. h }
 
 module _ (c : Client) (b : Bay) where
-  read-part-selects : (s : State) (place : ℕ) (r : Reading) (k : ℕ) (part : ControlPart)
-      → Selects c.now s r.controls → Selects c.now s (read_part c b place r k part).controls
-  read-part-selects s place r k Select p =
-      record { same = p.same; busy = λ e h. busy-still c.now r.controls e (p.busy e h) }
-  read-part-selects s place r k SelectWith p = p
-  read-part-selects s place r k Operate p = p
-  read-part-selects s place r k Cancel p = p
-
-  read-target-selects : (s : State) (place : ℕ) (r : Reading) (t : Option Target)
-      → Selects c.now s r.controls → Selects c.now s (read_target c b place r t).controls
-  read-target-selects s place r None p = p
-  read-target-selects s place r (Some t) p = read-part-selects s place r t.switch t.part p
-
   read-row-selects : (s : State) (r : Reading) (row : Option ℕ) → Selects c.now s r.controls
       → Selects c.now s (read_row c b r row).controls
-  read-row-selects s r None p = p
-  read-row-selects s r (Some place) p =
-      read-target-selects s place r (target_of (length b.switches) (name_at b.rows place)) p
+  read-row-selects s r row p =
+      read-by c b r (λ asks asked next. Selects c.now s next.controls) (λ place. p) p
+      (λ place k. record {
+        same = p.same;
+        busy = λ e h. busy-still c.now r.controls e (p.busy e h);
+      }) row
 
   read-all-selects : (s : State) (ns : List Naming) (r : Reading) → Selects c.now s r.controls
       → Selects c.now s (read_all c b ns r).controls
@@ -271,7 +259,8 @@ module _ (c : Client) (b : Bay) (s : State) (k : ℕ) (o : asked.Operate) where
         fresh = not-false c.fresh seen.fresh;
         enabled =
             enabled-now c b k (operation_of o.control.ctl_val)
-            (not-false (is_released (operation_of o.control.ctl_val) (view_of c k b)) seen.released);
+            (not-false (is_released (operation_of o.control.ctl_val) (view_of c k b))
+            seen.released);
         idle = idle-now c.now b.controls s (controls_at c.now b.controls).execution busy seen.idle
             refl;
       }
@@ -296,7 +285,8 @@ module _ (c : Client) (b : Bay) (s : State) (k : ℕ) (o : asked.Operate) where
   single-operated (Ok done) timed is =
       let seen =
       saw c.association k (ask_of o) (view_of c k b) (controls_at c.now s) (ap is_ok is) in
-      let e : Execution = record { switch = k; start = c.now; operation = operation_of o.control.ctl_val } in
+      let e : Execution =
+      record { switch = k; start = c.now; operation = operation_of o.control.ctl_val } in
       let starts : outcome.after.execution ≡ Some e =
       ap (λ (t : Bool). let x : Option Execution =
       cond t (Some e) (controls_at c.now s).execution in x) (ap is_ok is) in (
@@ -325,23 +315,10 @@ kept-decided c b k part item control o w same kept busy = record {
   sole = λ timed. sole-still c.now w.commands w.controls o.after same busy (kept.sole timed);
 }
 
-kept-select : (c : Client) (b : Bay) (k : ℕ) (item : List ℕ) (w : Writing)
-    (r : Result asked.Operate DataAccessError) → Kept c b w
-    → Kept c b (select_with_asked c b k item w r)
-kept-select c b k item w (Err fault) kept =
-    record { busy = kept.busy; released = kept.released; sole = kept.sole }
-kept-select c b k item w (Ok o) kept =
-    kept-decided c b k SelectWith item o.control
-    (select_with_outcome c.association k (ask_of o) c.now w.controls) w refl kept
-    (busy-still c.now w.controls)
-
-kept-operate : (c : Client) (b : Bay) (k : ℕ) (item : List ℕ) (w : Writing)
-    (r : Result asked.Operate DataAccessError) → Kept c b w
-    → Kept c b (operate_asked c b k item w r)
+kept-operate : (c : Client) (b : Bay) (k : ℕ) (item : List ℕ) (w : Writing) (o : asked.Operate)
+    → Kept c b w → Kept c b (operate_asked c b k item w (Ok o))
 unfolding outcome
-kept-operate c b k item w (Err fault) kept =
-    record { busy = kept.busy; released = kept.released; sole = kept.sole }
-kept-operate c b k item w (Ok o) kept =
+kept-operate c b k item w o kept =
     let out = operate_outcome c.association k (ask_of o) (view_of c k b) c.now w.controls in
     let busy : Busies c.now w.controls out.after =
     busy-operated c.now k c.association (ask_of o) (view_of c k b) w.controls
@@ -362,35 +339,18 @@ kept-operate c b k item w (Ok o) kept =
           };
     }
 
-kept-cancel : (c : Client) (b : Bay) (k : ℕ) (item : List ℕ) (w : Writing)
-    (r : Result Control DataAccessError) → Kept c b w → Kept c b (cancel_asked c b k item w r)
-kept-cancel c b k item w (Err fault) kept =
-    record { busy = kept.busy; released = kept.released; sole = kept.sole }
-kept-cancel c b k item w (Ok control) kept =
-    kept-decided c b k Cancel item control (cancel_outcome c.association k c.now w.controls) w refl
-    kept (busy-still c.now w.controls)
-
-kept-part : (c : Client) (b : Bay) (k : ℕ) (item : List ℕ) (given : Datum) (w : Writing)
-    (part : ControlPart) → Kept c b w → Kept c b (write_part c b k item given w part)
-kept-part c b k item given w Select kept =
-    record { busy = kept.busy; released = kept.released; sole = kept.sole }
-kept-part c b k item given w SelectWith kept = kept-select c b k item w (operate_in given) kept
-kept-part c b k item given w Operate kept = kept-operate c b k item w (operate_in given) kept
-kept-part c b k item given w Cancel kept = kept-cancel c b k item w (cancel_in given) kept
-
-kept-target : (c : Client) (b : Bay) (item : List ℕ) (given : Datum) (w : Writing)
-    (t : Option Target) → Kept c b w → Kept c b (write_target c b item given w t)
-kept-target c b item given w None kept =
-    record { busy = kept.busy; released = kept.released; sole = kept.sole }
-kept-target c b item given w (Some t) kept = kept-part c b t.switch item given w t.part kept
-
 kept-row : (c : Client) (b : Bay) (given : Datum) (w : Writing) (row : Option ℕ) → Kept c b w
     → Kept c b (write_row c b given w row)
-kept-row c b given w None kept =
-    record { busy = kept.busy; released = kept.released; sole = kept.sole }
-kept-row c b given w (Some place) kept =
-    kept-target c b (name_at b.rows place) given w
-    (target_of (length b.switches) (name_at b.rows place)) kept
+kept-row c b given w row kept =
+    write-by c b w (λ asks asked next. Kept c b next)
+    (λ error. record { busy = kept.busy; released = kept.released; sole = kept.sole })
+    (λ k item o. kept-decided c b k SelectWith item o.control
+    (select_with_outcome c.association k (ask_of o) c.now w.controls) w refl kept
+    (busy-still c.now w.controls))
+    (λ k item o. kept-operate c b k item w o kept)
+    (λ k item control. kept-decided c b k Cancel item control
+    (cancel_outcome c.association k c.now w.controls) w refl kept (busy-still c.now w.controls))
+    given row
 
 kept-all : (c : Client) (b : Bay) (ns : List Naming) (values : List Datum) (w : Writing)
     → Kept c b w → Kept c b (write_all c b ns values w)
@@ -407,64 +367,28 @@ record Does (c : Client) (b : Bay) (x : Answered) : Type 0 where
   released : AllByRecursion (IsReleased c b) x.commands
   sole : AreTimed b.controls.controls → Sole c.now x.commands x.after.controls
 
-does-if : (c : Client) (b : Bay) (fits : Bool) (x y : Answered) → Does c b x → Does c b y
-    → Does c b (cond fits x y)
-does-if c b true x y p q = p
-does-if c b false x y p q = q
-
-does-nothing : (c : Client) (b : Bay) (sent : List (List ℕ))
-    → Does c b (record {
-      sent = sent;
-      commands = [];
-      decisions = [];
-      ending = None;
-      after = b;
-    })
-does-nothing c b sent =
-    record {
+does-answer : (c : Client) (b : Bay) (m : Result Message MmsFault) → Does c b (answer-of c b m)
+does-answer c b m =
+    answer-by c b (λ entries x. Does c b x)
+    (λ pdu few. record {
       leaves = leaves-none c.now b;
       released = tt;
       sole = λ timed. record { timed = timed; single = tt };
-    }
-
-does-within : (c : Client) (b : Bay) (id : ℕ) (response : List ℕ) (x : Answered) → Does c b x
-    → Does c b (within c id b response x)
-does-within c b id response x does =
-    does-if c b (nat_le (length response) c.size) x _ does (does-nothing c b _)
-
-does-attributes : (c : Client) (b : Bay) (id : ℕ) (row : Option ℕ)
-    → Does c b (attributes_at c id b row)
-does-attributes c b id None = does-nothing c b _
-does-attributes c b id (Some place) = does-within c b id _ _ (does-nothing c b _)
-
-does-served : (c : Client) (b : Bay) (id : ℕ) (a : Asking) → Does c b (service_answer c id b a)
-does-served c b id identify = does-within c b id _ _ (does-nothing c b _)
-does-served c b id (names class place after) = does-within c b id _ _ (does-nothing c b _)
-does-served c b id (attributes name) = does-attributes c b id (row_named b name)
-does-served c b id (read ns) =
-    let kept =
+    })
+    (λ id ns is. let kept =
     read-all-selects c b b.controls ns (nothing_read b) (selects-none c.now b.controls) in
-    does-within c b id _ _ (record {
+    record {
       leaves = leaves-with c.now b _ kept.busy;
       released = tt;
       sole = λ timed. record { timed = rw (← kept.same) timed; single = tt };
     })
-does-served c b id (write ns values) =
-    let kept = kept-all c b ns values (nothing_written b) (kept-nothing c b) in
-    does-within c b id _ _ (record {
+    (λ id ns values is. let kept =
+    kept-all c b ns values (nothing_written b) (kept-nothing c b) in
+    record {
       leaves = leaves-with c.now b _ kept.busy;
       released = kept.released;
       sole = kept.sole;
-    })
-
-does-answer : (c : Client) (b : Bay) (r : Result Message MmsFault) → Does c b (answer-of c b r)
-does-answer c b (Ok (initiate proposal)) = does-nothing c b _
-does-answer c b (Ok conclude) = does-nothing c b _
-does-answer c b (Ok (confirmed id a)) = does-served c b id a
-does-answer c b (Err (BadPdu known)) = does-nothing c b _
-does-answer c b (Err (UnknownService id)) = does-nothing c b _
-does-answer c b (Err (TooMany id)) = does-nothing c b _
-does-answer c b (Err OutOfMemory) = does-nothing c b _
+    }) m
 
 pub all-of : {A : Type 0} (P : A → Type 0) (xs : List A) → AllByRecursion P xs → All P xs
 all-of P [] h k d lt = absurd (omega (arith, lt))
@@ -521,33 +445,10 @@ snoc-some : (xs : List (List ℕ)) (x : List ℕ) → xs ++ x ∷ [] ≢ []
 snoc-some [] x e = cc
 snoc-some (y ∷ xs) x e = cc
 
-sent-if : (fits : Bool) (x y : Answered) → x.sent ≢ [] → y.sent ≢ [] → (cond fits x y).sent ≢ []
-sent-if true x y p q = p
-sent-if false x y p q = q
-
 one-sent : (pdu : List ℕ) → pdu ∷ [] ≢ []
 one-sent pdu e = cc
 
-sent-attributes : (c : Client) (b : Bay) (id : ℕ) (row : Option ℕ)
-    → (attributes_at c id b row).sent ≢ []
-sent-attributes c b id None = one-sent _
-sent-attributes c b id (Some place) = sent-if _ _ _ (one-sent _) (one-sent _)
-
-sent-served : (c : Client) (b : Bay) (id : ℕ) (a : Asking) → (service_answer c id b a).sent ≢ []
-sent-served c b id identify = sent-if _ _ _ (one-sent _) (one-sent _)
-sent-served c b id (names class place after) = sent-if _ _ _ (one-sent _) (one-sent _)
-sent-served c b id (attributes name) = sent-attributes c b id (row_named b name)
-sent-served c b id (read ns) = sent-if _ _ _ (one-sent _) (one-sent _)
-sent-served c b id (write ns values) = sent-if _ _ _ (snoc-some _ _) (one-sent _)
-
-sent-answer : (c : Client) (b : Bay) (r : Result Message MmsFault) → (answer-of c b r).sent ≢ []
-sent-answer c b (Ok (initiate proposal)) = one-sent _
-sent-answer c b (Ok conclude) = one-sent _
-sent-answer c b (Ok (confirmed id a)) = sent-served c b id a
-sent-answer c b (Err (BadPdu known)) = one-sent _
-sent-answer c b (Err (UnknownService id)) = one-sent _
-sent-answer c b (Err (TooMany id)) = one-sent _
-sent-answer c b (Err OutOfMemory) = one-sent _
-
 pub answer-sent : (c : Client) (pdu : List ℕ) (b : Bay) → (pdu_answer c pdu b).sent ≢ []
-answer-sent c pdu b = sent-answer c b (answer_to pdu)
+answer-sent c pdu b =
+    answer-by c b (λ entries x. x.sent ≢ []) (λ pdu few. one-sent pdu) (λ id ns is. one-sent _)
+    (λ id ns values is. snoc-some _ _) (answer_to pdu)

@@ -197,10 +197,11 @@ pub lost_none : (r : Result (Option (List ℕ)) AllocError) (P Q : Type 0)
 lost_none (Ok found) P Q h = rw h.0 tt
 lost_none (Err none) P Q h = tt
 
--- a response has its results in it
-element-more : (tag : Tag) (content : List ℕ) → length content ≤ length (element tag content)
+-- a content is no longer than what it stands in
+pub element-more : (tag : Tag) (content : List ℕ) → length content ≤ length (element tag content)
 element-more tag content = omega (arith, length-element-is tag content, more-than (length content))
 
+-- a response has its results in it
 pub response-more : (id : ℕ) (results : List ℕ) → length results ≤ length (read_text id results)
 response-more id results =
     let one = element (constructed 1) results in

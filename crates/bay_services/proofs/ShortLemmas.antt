@@ -1,39 +1,26 @@
--- Each PDU of an answer has at most 65,000 octets.
+-- Each PDU of an answer has at most 65,000 octets, and so have the reports of an end.
 use Rattle.std.proofs.Common.{◌≡◌, ◌≤◌, ℕ, zero, suc, Bool, true, false, cond, nat_le, All, IfSome, List, [], ◌∷◌, ◌++◌, length, Option, Some, None, option_to_list, Result, Ok, Err, refl, arith}
-use Rattle.std.proofs.lemmas.Bool.Decides.{nat_tests}
 use Rattle.std.proofs.lemmas.List.Elements.{All-append}
 use Rattle.bay_control.specs.Decisions.{Outcome, cancel_outcome, operate_outcome, select_with_outcome}
 use Rattle.bay_control.specs.declared.cause.AddCause.{AddCause}
 use Rattle.bay_mms.specs.Controls as asked
-use Rattle.bay_mms.specs.Controls.{Control, cancel_in, operate_in}
+use Rattle.bay_mms.specs.Controls.{Control}
 use Rattle.bay_mms.specs.Data.{Datum}
-use Rattle.bay_mms.specs.Requests.{Naming, Asking, identify, names, attributes, read, write, Message, initiate, conclude, confirmed}
-use Rattle.bay_mms.specs.Responses.{concluded_text, error_text, read_text, reject_text, write_text}
-use Rattle.bay_mms.specs.declared.fault.DataAccessError.{DataAccessError}
+use Rattle.bay_mms.specs.Requests.{Naming, Message}
+use Rattle.bay_mms.specs.Responses.{write_text}
 use Rattle.bay_mms.specs.declared.fault.MmsFault.{MmsFault}
-use Rattle.bay_mms.specs.declared.fault.MmsFault.TheVariants.{BadPdu, UnknownService, TooMany, OutOfMemory}
-use Rattle.bay_mms.specs.declared.response.ErrorClass.{ErrorClass}
-use Rattle.bay_mms.specs.declared.response.ErrorClass.TheVariants.{NoSuchObject, Resource}
-use Rattle.bay_mms.specs.declared.response.RejectReason.{RejectReason}
-use Rattle.bay_mms.specs.declared.response.RejectReason.TheVariants.{UnrecognizedService, InvalidPdu}
-use Rattle.bay_mms.specs.Tags.{context}
-use Rattle.bay_mms.proofs.ShortLemmas.{error_short, reject_short}
-use Rattle.bay_ber.proofs.SizeLemmas.{length-element}
-use Rattle.bay_tree.specs.Rows.{name_at}
-use Rattle.bay_services.specs.Answers.{Answered, answer_of, attributes_at, read_asked, response_answer, plain_answer, service_answer, write_asked}
+use Rattle.bay_services.specs.Answers.{Answered, answer_of}
 use Rattle.bay_services.specs.Bay.{Bay}
 use Rattle.bay_services.specs.Controls as controls
 use Rattle.bay_services.specs.Controls.{IsShort, ask_of, ending_of, endings, failed_report, has_reports, object_of, refusal_report, refusal_reports, termination_report, view_of}
-use Rattle.bay_services.specs.Reads.{nothing_read, read_all}
 use Rattle.bay_services.specs.Replies.{fitting}
 use Rattle.bay_services.specs.Rows.{row_named}
-use Rattle.bay_services.specs.Targets.{target_of}
-use Rattle.bay_services.specs.Writes.{Writing, after_decision, cancel_asked, later_ending, nothing_written, operate_asked, select_with_asked, write_all, write_one, write_part, write_row, write_target}
+use Rattle.bay_services.specs.Writes.{Writing, after_decision, later_ending, nothing_written, operate_asked, write_all, write_one, write_row}
 use Rattle.bay_services.specs.declared.answer.Ending.{Ending}
 use Rattle.bay_services.specs.declared.client.Client.{Client}
+use Rattle.bay_services.proofs.WalkLemmas.{answer-by, fits-size, write-by}
 use Rattle.bay_services.specs.declared.target.ControlPart.{ControlPart}
-use Rattle.bay_services.specs.declared.target.ControlPart.TheVariants.{Select, SelectWith, Operate, Cancel}
-use Rattle.bay_services.specs.declared.target.Target.{Target}
+use Rattle.bay_services.specs.declared.target.ControlPart.TheVariants.{SelectWith, Operate, Cancel}
 
 -- each of these PDUs is short
 abbrev pub AreShort : List (List ℕ) → Type 0
@@ -48,26 +35,6 @@ one-short pdu few (suc k) d lt = absurd (omega arith)
 
 both-short : (xs ys : List (List ℕ)) → AreShort xs → AreShort ys → AreShort (xs ++ ys)
 both-short xs ys a b = All-append (λ (pdu : List ℕ). length pdu ≤ 65000) xs ys a b
-
-error-fits : (id : ℕ) (class : ErrorClass) (b : Bay)
-    → AreShort (plain_answer (error_text id class) b).sent
-error-fits id class b = one-short (error_text id class) (omega (arith, error_short id class))
-
-within-if : (c : Client) (id : ℕ) (b : Bay) (response : List ℕ) (answer : Answered) (t : Bool)
-    → (t ≡ true → AreShort answer.sent)
-    → AreShort (cond t answer (plain_answer (error_text id Resource) b)).sent
-within-if c id b response answer true short = short refl
-within-if c id b response answer false short = error-fits id Resource b
-
-fits-size : (size : ℕ) (pdu : List ℕ) → size ≤ 65000 → nat_le (length pdu) size ≡ true
-    → length pdu ≤ 65000
-fits-size size pdu most is = grind (arith, nat_tests)
-
-responded-short : (c : Client) (id : ℕ) (b : Bay) (pdu : List ℕ) → c.size ≤ 65000
-    → AreShort (response_answer c id b pdu).sent
-responded-short c id b pdu most =
-    within-if c id b pdu (plain_answer pdu b) (nat_le (length pdu) c.size)
-    (λ is. one-short pdu (fits-size c.size pdu most is))
 
 -- ---- the reports of a write
 
@@ -135,47 +102,25 @@ module _ (c : Client) (b : Bay) (most : c.size ≤ 65000) where
     short.1,
   )
 
-  select-with-short : (k : ℕ) (item : List ℕ) (w : Writing)
-      (x : Result asked.Operate DataAccessError)
-      → IsFit w → IsFit (select_with_asked c b k item w x)
-  select-with-short k item w (Err fault) short = short
-  select-with-short k item w (Ok o) short = decided-short k SelectWith item o.control
-      (select_with_outcome c.association k (ask_of o) c.now w.controls) w short
-
-  operate-short : (k : ℕ) (item : List ℕ) (w : Writing) (x : Result asked.Operate DataAccessError)
-      → IsFit w → IsFit (operate_asked c b k item w x)
-  operate-short k item w (Err fault) short = short
-  operate-short k item w (Ok o) short =
+  operate-short : (k : ℕ) (item : List ℕ) (w : Writing) (o : asked.Operate)
+      → IsFit w → IsFit (operate_asked c b k item w (Ok o))
+  operate-short k item w o short =
       let out = operate_outcome c.association k (ask_of o) (view_of c k b) c.now w.controls in (
         (decided-short k Operate item o.control out w short).0,
         later-short w.ending (endings c k item o b out.answer) short.1
             (endings-short c k item o b out.answer most),
       )
 
-  cancel-short : (k : ℕ) (item : List ℕ) (w : Writing) (x : Result Control DataAccessError)
-      → IsFit w → IsFit (cancel_asked c b k item w x)
-  cancel-short k item w (Err fault) short = short
-  cancel-short k item w (Ok control) short = decided-short k Cancel item control
-      (cancel_outcome c.association k c.now w.controls) w short
-
-  part-short : (k : ℕ) (item : List ℕ) (given : Datum) (w : Writing) (part : ControlPart)
-      → IsFit w → IsFit (write_part c b k item given w part)
-  part-short k item given w Select short = short
-  part-short k item given w SelectWith short = select-with-short k item w (operate_in given) short
-  part-short k item given w Operate short = operate-short k item w (operate_in given) short
-  part-short k item given w Cancel short = cancel-short k item w (cancel_in given) short
-
-  target-short : (item : List ℕ) (given : Datum) (w : Writing) (t : Option Target)
-      → IsFit w → IsFit (write_target c b item given w t)
-  target-short item given w None short = short
-  target-short item given w (Some t) short = part-short t.switch item given w t.part short
-
-  row-short : (given : Datum) (w : Writing) (place : Option ℕ) → IsFit w
-      → IsFit (write_row c b given w place)
-  row-short given w None short = short
-  row-short given w (Some place) short =
-      target-short (name_at b.rows place) given w
-      (target_of (length b.switches) (name_at b.rows place)) short
+  row-short : (given : Datum) (w : Writing) (row : Option ℕ) → IsFit w
+      → IsFit (write_row c b given w row)
+  row-short given w row short =
+      write-by c b w (λ asks asked next. IsFit next) (λ error. short)
+      (λ k item o. decided-short k SelectWith item o.control
+      (select_with_outcome c.association k (ask_of o) c.now w.controls) w short)
+      (λ k item o. operate-short k item w o short)
+      (λ k item control. decided-short k Cancel item control
+      (cancel_outcome c.association k c.now w.controls) w short)
+      given row
 
   all-short : (ns : List Naming) (values : List Datum) (w : Writing) → IsFit w
       → IsFit (write_all c b ns values w)
@@ -186,95 +131,22 @@ module _ (c : Client) (b : Bay) (most : c.size ≤ 65000) where
 
 -- ---- all answers
 
-attributes-short : (c : Client) (id : ℕ) (b : Bay) (place : Option ℕ) → c.size ≤ 65000
-    → AreShort (attributes_at c id b place).sent
-attributes-short c id b None most = error-fits id NoSuchObject b
-attributes-short c id b (Some place) most = responded-short c id b _ most
+-- what is sent is short, and so are the reports of an end
+abbrev pub IsBrief : Answered → Type 0
+IsBrief x = AreShort x.sent × IsShort x.ending
 
-read-short : (c : Client) (id : ℕ) (b : Bay) (ns : List Naming) → c.size ≤ 65000
-    → AreShort (read_asked c id b ns).sent
-read-short c id b ns most =
-    let text = read_text id (read_all c b ns (nothing_read b)).results in
-    within-if c id b text _ (nat_le (length text) c.size)
-    (λ is. one-short text (fits-size c.size text most is))
-
-write-short : (c : Client) (id : ℕ) (b : Bay) (ns : List Naming) (values : List Datum)
-    → c.size ≤ 65000 → AreShort (write_asked c id b ns values).sent
-write-short c id b ns values most =
-    let w = write_all c b ns values (nothing_written b) in
-    let text = write_text id w.results in
-    within-if c id b text _ (nat_le (length text) c.size)
-    (λ is. both-short w.reports (text ∷ [])
-    (all-short c b most ns values (nothing_written b) (none-long, tt)).0
-    (one-short text (fits-size c.size text most is)))
-
-served-short : (c : Client) (id : ℕ) (b : Bay) (x : Asking) → c.size ≤ 65000
-    → AreShort (service_answer c id b x).sent
-served-short c id b identify most = responded-short c id b _ most
-served-short c id b (names class place after) most = responded-short c id b _ most
-served-short c id b (attributes name) most = attributes-short c id b (row_named b name) most
-served-short c id b (read ns) most = read-short c id b ns most
-served-short c id b (write ns values) most = write-short c id b ns values most
-
-rejected-fits : (id : Option ℕ) (reason : RejectReason) → AreShort (reject_text id reason ∷ [])
-rejected-fits id reason = one-short (reject_text id reason) (omega (arith, reject_short id reason))
+pub answer-brief : (c : Client) (b : Bay) (m : Result Message MmsFault) → c.size ≤ 65000
+    → IsBrief (answer_of c b m)
+answer-brief c b m most =
+    answer-by c b (λ entries x. IsBrief x) (λ pdu few. (one-short pdu (few most), tt))
+    (λ id ns is. (one-short _ (fits-size c.size _ most is), tt))
+    (λ id ns values is. let w = write_all c b ns values (nothing_written b) in
+    let all = all-short c b most ns values (nothing_written b) (none-long, tt) in (
+      both-short w.reports (write_text id w.results ∷ []) all.0
+          (one-short _ (fits-size c.size (write_text id w.results) most is)),
+      all.1,
+    )) m
 
 pub answer-short : (c : Client) (b : Bay) (x : Result Message MmsFault) → c.size ≤ 65000
     → AreShort (answer_of c b x).sent
-answer-short c b (Ok (initiate proposal)) most = rejected-fits None InvalidPdu
-answer-short c b (Ok conclude) most =
-    one-short concluded_text (omega (arith, length-element (context 12) []))
-answer-short c b (Ok (confirmed id x)) most = served-short c id b x most
-answer-short c b (Err (BadPdu known)) most = rejected-fits known InvalidPdu
-answer-short c b (Err (UnknownService id)) most = rejected-fits (Some id) UnrecognizedService
-answer-short c b (Err (TooMany id)) most = error-fits id Resource b
-answer-short c b (Err OutOfMemory) most = rejected-fits None InvalidPdu
-
--- ---- the ends that all answers tell of
-
-ending-within : (c : Client) (id : ℕ) (b : Bay) (response : List ℕ) (answer : Answered) (t : Bool)
-    → IsShort answer.ending → IsShort
-    (cond t answer (plain_answer (error_text id Resource) b)).ending
-ending-within c id b response answer true short = short
-ending-within c id b response answer false short = tt
-
-responded-end : (c : Client) (id : ℕ) (b : Bay) (pdu : List ℕ)
-    → IsShort (response_answer c id b pdu).ending
-responded-end c id b pdu =
-    ending-within c id b pdu (plain_answer pdu b) (nat_le (length pdu) c.size) tt
-
-attributes-end : (c : Client) (id : ℕ) (b : Bay) (place : Option ℕ)
-    → IsShort (attributes_at c id b place).ending
-attributes-end c id b None = tt
-attributes-end c id b (Some place) = responded-end c id b _
-
-read-end : (c : Client) (id : ℕ) (b : Bay) (ns : List Naming)
-    → IsShort (read_asked c id b ns).ending
-read-end c id b ns =
-    let text = read_text id (read_all c b ns (nothing_read b)).results in
-    ending-within c id b text _ (nat_le (length text) c.size) tt
-
-write-end : (c : Client) (id : ℕ) (b : Bay) (ns : List Naming) (values : List Datum)
-    → c.size ≤ 65000 → IsShort (write_asked c id b ns values).ending
-write-end c id b ns values most =
-    let text = write_text id (write_all c b ns values (nothing_written b)).results in
-    ending-within c id b text _ (nat_le (length text) c.size)
-    (all-short c b most ns values (nothing_written b) (none-long, tt)).1
-
-served-end : (c : Client) (id : ℕ) (b : Bay) (x : Asking) → c.size ≤ 65000
-    → IsShort (service_answer c id b x).ending
-served-end c id b identify most = responded-end c id b _
-served-end c id b (names class place after) most = responded-end c id b _
-served-end c id b (attributes name) most = attributes-end c id b (row_named b name)
-served-end c id b (read ns) most = read-end c id b ns
-served-end c id b (write ns values) most = write-end c id b ns values most
-
-pub answer-end : (c : Client) (b : Bay) (x : Result Message MmsFault) → c.size ≤ 65000
-    → IsShort (answer_of c b x).ending
-answer-end c b (Ok (initiate proposal)) most = tt
-answer-end c b (Ok conclude) most = tt
-answer-end c b (Ok (confirmed id x)) most = served-end c id b x most
-answer-end c b (Err (BadPdu known)) most = tt
-answer-end c b (Err (UnknownService id)) most = tt
-answer-end c b (Err (TooMany id)) most = tt
-answer-end c b (Err OutOfMemory) most = tt
+answer-short c b x most = (answer-brief c b x most).0

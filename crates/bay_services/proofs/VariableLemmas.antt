@@ -1,10 +1,10 @@
 -- What the result of a variable that is read or written tells is what was accepted of it.
-use Rattle.std.proofs.Common.{◌≡◌, ◌<◌, ◌≤◌, ℕ, Bool, true, cond, List, [], ◌∷◌, ◌++◌, length, codes, Option, Some, None, Result, Ok, Err, refl, ap, ap₂, sym, ◌∙◌, arith, append-nil, append_assoc, length-append}
+use Rattle.std.proofs.Common.{◌≡◌, ◌<◌, ℕ, Bool, true, cond, List, [], ◌∷◌, ◌++◌, length, codes, Option, Some, None, Result, Ok, Err, refl, ap, ap₂, sym, ◌∙◌, arith, append-nil, append_assoc, length-append}
 use Rattle.std.specs.Prelude.{pos, is_ok}
 use Rattle.std.specs.Str.{bytes_eq}
 use Rattle.bay_ber.specs.Spelling.{Spells}
 use Rattle.bay_ber.specs.Values.{Part, SpellAll, value}
-use Rattle.bay_ber.specs.Writing.{element, integer_octets, length_octets}
+use Rattle.bay_ber.specs.Writing.{element, integer_octets}
 use Rattle.bay_ber.specs.declared.tag.Tag.{Tag}
 use Rattle.bay_ber.proofs.WriteLemmas.{element-spells}
 use Rattle.bay_nodes.specs.declared.switch.Switch.{Switch}
@@ -15,14 +15,10 @@ use Rattle.bay_tree.specs.declared.row.Row.{Row}
 use Rattle.bay_tree.proofs.ArenaLemmas.{name_at-same, place_of-same}
 use Rattle.bay_control.specs.Acts as act
 use Rattle.bay_control.specs.Acts.{Act, Entry}
-use Rattle.bay_control.specs.Decisions.{Outcome, select_outcome}
-use Rattle.bay_control.specs.Happenings as call
+use Rattle.bay_control.specs.Decisions.{Outcome, State, select_outcome}
 use Rattle.bay_control.specs.Happenings.{Call, act_of, entries_of, outcome_of}
-use Rattle.bay_control.specs.Requests.{asked_choice}
 use Rattle.bay_control.specs.declared.cause.AddCause.{AddCause}
 use Rattle.bay_mms.specs.Code.{access_code_of}
-use Rattle.bay_mms.specs.Controls as asked
-use Rattle.bay_mms.specs.Controls.{Control, operate_in, cancel_in}
 use Rattle.bay_mms.specs.Data.{Datum, datum_text}
 use Rattle.bay_mms.specs.Laws.{datum_tag, datum_content}
 use Rattle.bay_mms.specs.Nodes.{Node, data_at, node_at, node_datum, value as leaf-node, structure as rows-node}
@@ -32,18 +28,17 @@ use Rattle.bay_mms.specs.Tags.{context}
 use Rattle.bay_mms.specs.declared.fault.DataAccessError.{DataAccessError}
 use Rattle.bay_mms.specs.declared.fault.DataAccessError.TheVariants.{ObjectAccessDenied, ObjectNonExistent}
 use Rattle.bay_mms.proofs.LawLemmas.{datum-spells}
-use Rattle.bay_services.specs.Accepted.{AreNamedAlike, act_of_read, act_of_write, cancel_act, is_granted, is_some_text, is_success, operate_act, read_accepted, read_act, select_with_act, write_accepted, write_act}
+use Rattle.bay_services.specs.Accepted.{AreNamedAlike, act_of_read, act_of_write, is_granted, is_some_text, is_success, read_accepted, write_accepted}
 use Rattle.bay_services.specs.Bay.{Bay, seen_rows}
-use Rattle.bay_services.specs.Controls.{ask_of, object_of, view_of}
-use Rattle.bay_services.specs.Entries.{call_of_read, call_of_write, cancel_call, operate_call, read_call, read_entries, entries_of_call, select_with_call, target_at, write_call, write_entries}
-use Rattle.bay_services.specs.Reads.{Reading, read_all, read_one, read_part, read_row, read_target, selected_text, value_read}
+use Rattle.bay_services.specs.Controls.{object_of}
+use Rattle.bay_services.specs.Entries.{call_of_read, call_of_write, read_entries, entries_of_call, target_at, write_entries}
+use Rattle.bay_services.specs.Reads.{Reading, read_all, read_one, read_row, selected_text, value_read}
 use Rattle.bay_services.specs.Rows.{row_named}
 use Rattle.bay_services.specs.Targets.{target_of}
-use Rattle.bay_services.specs.Writes.{Writing, cancel_asked, decision_result, operate_asked, select_with_asked, write_all, write_failed, write_one, write_part, write_row, write_target}
+use Rattle.bay_services.specs.Writes.{Writing, cancel_asked, decision_result, operate_asked, select_with_asked, write_all, write_failed, write_one, write_row}
 use Rattle.bay_services.specs.declared.client.Client.{Client}
-use Rattle.bay_services.specs.declared.target.ControlPart.{ControlPart}
-use Rattle.bay_services.specs.declared.target.ControlPart.TheVariants.{Select, SelectWith, Operate, Cancel}
-use Rattle.bay_services.specs.declared.target.Target.{Target}
+use Rattle.bay_services.proofs.ReplyLemmas.{element-more}
+use Rattle.bay_services.proofs.WalkLemmas.{read-by, write-by}
 
 -- ---- the names of variables
 
@@ -87,15 +82,10 @@ node-small : (n : Node) → (datum_tag (node_datum n)).number < 31
 node-small (leaf-node l) = leaf-small l
 node-small (rows-node parts) = omega arith
 
--- a content is no longer than what it stands in
-pub within-element : (tag : Tag) (content : List ℕ) → length content ≤ length (element tag content)
-unfolding element
-within-element tag content = omega (arith, length-append (length_octets (length content)) content)
-
 pub spells-element : (tag : Tag) (content : List ℕ) → tag.number < 31
     → length (element tag content) < 4294967296 → Spells (element tag content) tag content
 spells-element tag content small short =
-    element-spells tag content small (omega (arith, within-element tag content))
+    element-spells tag content small (omega (arith, element-more tag content))
 
 pub spell-one : (tag : Tag) (content : List ℕ) → tag.number < 31
     → length (element tag content) < 4294967296
@@ -119,13 +109,29 @@ failure-spelled error short =
 -- ---- a variable that is read
 
 -- The result of one variable more, which tells what is seen of it.
-record OneRead (c : Client) (asks : Option Act) (asked : Option Call) (r next : Reading)
-    : Type 0 where
+record OneTold (c : Client) (tells : Part → Bool) (asks : Option Act) (asked : Option Call)
+    (controls : State) (before after : List ℕ) : Type 0 where
   part : Part
   front : List ℕ
-  is : next.results ≡ r.results ++ front
+  is : after ≡ before ++ front
   spelled : length front < 4294967296 → Spells front part.tag part.content
-  told : entries_of c.now asks (is_granted part) ≡ entries_of_call c r.controls asked
+  told : entries_of c.now asks (tells part) ≡ entries_of_call c controls asked
+
+-- a variable that asks for nothing is answered with an error
+failure-told : (c : Client) (tells : Part → Bool) (error : DataAccessError) (controls : State)
+    (before : List ℕ)
+    → OneTold c tells None None controls before (before ++ failure_result error)
+failure-told c tells error controls before = record {
+  part = failure-part error;
+  front = failure_result error;
+  is = refl;
+  spelled = failure-spelled error;
+  told = refl;
+}
+
+abbrev OneRead : Client → Option Act → Option Call → Reading → Reading → Type 0
+OneRead c asks asked r next =
+    OneTold c is_granted asks asked r.controls r.results next.results
 
 data-read : (c : Client) (b : Bay) (place : ℕ) (r : Reading)
     → OneRead c None None r (value_read b place r)
@@ -148,11 +154,13 @@ granted-by : (b : Bay) (item : List ℕ) (answer : Result (Unit {0}) AddCause)
 granted-by b item (Ok done) = some-text b.domain item
 granted-by b item (Err why) = refl
 
-read-part-is : (c : Client) (b : Bay) (place : ℕ) (r : Reading) (k : ℕ) (part : ControlPart)
-    → OneRead c (read_act c.association k part) (read_call c k part) r
-    (read_part c b place r k part)
-read-part-is c b place r k Select =
-    let o : Outcome = select_outcome c.association k c.now r.controls in
+read-row-is : (c : Client) (b : Bay) (r : Reading) (row : Option ℕ)
+    → OneRead c (act_of_read c.association (target_at b row))
+    (call_of_read c (target_at b row)) r (read_row c b r row)
+read-row-is c b r row =
+    read-by c b r (λ asks asked next. OneRead c asks asked r next) (λ place. data-read c b place r)
+    (failure-told c is_granted ObjectNonExistent r.controls r.results)
+    (λ place k. let o : Outcome = select_outcome c.association k c.now r.controls in
     let text : List ℕ = selected_text (object_of b (name_at b.rows place)) o.answer in
     record {
       part = value (context 10) text;
@@ -161,63 +169,45 @@ read-part-is c b place r k Select =
       spelled = spells-element (context 10) text (omega arith);
       told = ap (λ (granted : Bool). entries_of c.now (Some (act.Select c.association k)) granted)
           (granted-by b (name_at b.rows place) o.answer);
-    }
-read-part-is c b place r k SelectWith = data-read c b place r
-read-part-is c b place r k Operate = data-read c b place r
-read-part-is c b place r k Cancel = data-read c b place r
+    }) row
 
-read-target-is : (c : Client) (b : Bay) (place : ℕ) (r : Reading) (target : Option Target)
-    → OneRead c (act_of_read c.association target) (call_of_read c target) r
-    (read_target c b place r target)
-read-target-is c b place r None = data-read c b place r
-read-target-is c b place r (Some t) = read-part-is c b place r t.switch t.part
+-- ---- all variables
 
-read-row-is : (c : Client) (b : Bay) (r : Reading) (row : Option ℕ)
-    → OneRead c (act_of_read c.association (target_at b row))
-    (call_of_read c (target_at b row)) r (read_row c b r row)
-read-row-is c b r None = record {
-  part = failure-part ObjectNonExistent;
-  front = failure_result ObjectNonExistent;
-  is = refl;
-  spelled = failure-spelled ObjectNonExistent;
-  told = refl;
-}
-read-row-is c b r (Some place) = read-target-is c b place r (target_at b (Some place))
-
--- ---- all variables that are read
-
-pub record AllRead (c : Client) (n b : Bay) (ns : List Naming) (r : Reading) : Type 0 where
+-- The results of some variables, which tell what is seen of them.
+pub record AllTold (accepted : List Part → List Entry) (entries : List Entry)
+    (before after : List ℕ) : Type 0 where
   pub parts : List Part
   pub more : List ℕ
-  pub is : (read_all c b ns r).results ≡ r.results ++ more
+  pub is : after ≡ before ++ more
   pub spelled : length more < 4294967296 → SpellAll more parts
-  pub told : read_accepted c.now c.association n ns parts ≡ read_entries c b ns r
+  pub told : accepted parts ≡ entries
 
-pub all-read : (c : Client) (n b : Bay) (ns : List Naming) (r : Reading) → AreNamedAlike n b
-    → AllRead c n b ns r
-all-read c n b [] r alike =
+none-told : (accepted : List Part → List Entry) (before : List ℕ) → accepted [] ≡ []
+    → AllTold accepted [] before before
+none-told accepted before none =
     record {
       parts = [];
       more = [];
-      is = sym (append-nil r.results);
+      is = sym (append-nil before);
       spelled = λ short. refl;
-      told = refl;
+      told = none;
     }
-all-read c n b (name ∷ ns) r alike =
-    let next : Reading = read_one c b name r in
-    let target : Option Target = target_at b (row_named b name) in
-    let one : OneRead c (act_of_read c.association target) (call_of_read c target) r next =
-    read-row-is c b r (row_named b name) in
-    let rest : AllRead c n b ns next = all-read c n b ns next alike in
-    let here : entries_of c.now (act_of_read c.association (target_at n (row_named n name)))
-    (is_granted one.part) ≡ entries_of_call c r.controls (call_of_read c target) =
-    ap (λ (t : Option Target). entries_of c.now (act_of_read c.association t) (is_granted one.part))
-    (sym (named-target n b name alike)) ∙ one.told in
+
+one-more : (c : Client) (tells : Part → Bool) (asks named : Option Act) (asked : Option Call)
+    (controls : State) (before next after : List ℕ) (whole accepted : List Part → List Entry)
+    (entries : List Entry)
+    → ((part : Part) (parts : List Part)
+    → whole (part ∷ parts) ≡ entries_of c.now named (tells part) ++ accepted parts)
+    → named ≡ asks → OneTold c tells asks asked controls before next
+    → AllTold accepted entries next after
+    → AllTold whole (entries_of_call c controls asked ++ entries) before after
+one-more c tells asks named asked controls before next after whole accepted entries first same one
+    rest =
     record {
       parts = one.part ∷ rest.parts;
       more = one.front ++ rest.more;
       is = rest.is ∙ ap (λ (xs : List ℕ). xs ++ rest.more) one.is
-          ∙ append_assoc r.results one.front rest.more;
+          ∙ append_assoc before one.front rest.more;
       spelled = λ short.
           let size = length-append one.front rest.more in (
             one.front,
@@ -226,28 +216,34 @@ all-read c n b (name ∷ ns) r alike =
             one.spelled (omega (arith, size, short)),
             rest.spelled (omega (arith, size, short)),
           );
-      told = ap₂ (λ (xs ys : List Entry). xs ++ ys) here rest.told;
+      told = first one.part rest.parts
+          ∙ ap₂ (λ (xs ys : List Entry). xs ++ ys)
+          (ap (λ (a : Option Act). entries_of c.now a (tells one.part)) same ∙ one.told) rest.told;
     }
+
+abbrev pub AllRead : Client → Bay → Bay → List Naming → Reading → Type 0
+AllRead c n b ns r =
+    AllTold (read_accepted c.now c.association n ns) (read_entries c b ns r) r.results
+    (read_all c b ns r).results
+
+pub all-read : (c : Client) (n b : Bay) (ns : List Naming) (r : Reading) → AreNamedAlike n b
+    → AllRead c n b ns r
+all-read c n b [] r alike = none-told _ r.results refl
+all-read c n b (name ∷ ns) r alike =
+    one-more c is_granted _ _ _ _ _ _ _ _ _ _ (λ part parts. refl)
+    (ap (act_of_read c.association) (sym (named-target n b name alike)))
+    (read-row-is c b r (row_named b name))
+    (all-read c n b ns (read_one c b name r) alike)
 
 -- ---- a variable that is written
 
-record OneWritten (c : Client) (asks : Option Act) (asked : Option Call) (w next : Writing)
-    : Type 0 where
-  part : Part
-  front : List ℕ
-  is : next.results ≡ w.results ++ front
-  spelled : length front < 4294967296 → Spells front part.tag part.content
-  told : entries_of c.now asks (is_success part) ≡ entries_of_call c w.controls asked
+abbrev OneWritten : Client → Option Act → Option Call → Writing → Writing → Type 0
+OneWritten c asks asked w next =
+    OneTold c is_success asks asked w.controls w.results next.results
 
 nothing-done : (c : Client) (error : DataAccessError) (w : Writing)
     → OneWritten c None None w (write_failed error w)
-nothing-done c error w = record {
-  part = failure-part error;
-  front = failure_result error;
-  is = refl;
-  spelled = failure-spelled error;
-  told = refl;
-}
+nothing-done c error w = failure-told c is_success error w.controls w.results
 
 decision-part : Result (Unit {0}) AddCause → Part
 decision-part (Ok done) = value (context 1) []
@@ -281,107 +277,30 @@ decided-is c asks asked w next by is =
           (decision-success answer);
     }
 
-select-with-is : (c : Client) (b : Bay) (k : ℕ) (item : List ℕ) (w : Writing)
-    (o : Result asked.Operate DataAccessError)
-    → OneWritten c (select_with_act c.association k o) (select_with_call c k o) w
-    (select_with_asked c b k item w o)
-select-with-is c b k item w (Ok o) =
-    decided-is c (act.SelectWith c.association k (asked_choice (ask_of o)))
-    (call.SelectWith c.association k (ask_of o)) w _ refl refl
-select-with-is c b k item w (Err error) = nothing-done c error w
-
-operate-is : (c : Client) (b : Bay) (k : ℕ) (item : List ℕ) (w : Writing)
-    (o : Result asked.Operate DataAccessError)
-    → OneWritten c (operate_act c.association k o) (operate_call c k b o) w
-    (operate_asked c b k item w o)
-operate-is c b k item w (Ok o) =
-    decided-is c (act.Operate c.association k (asked_choice (ask_of o)))
-    (call.Operate c.association k (ask_of o) (view_of c k b)) w _ refl refl
-operate-is c b k item w (Err error) = nothing-done c error w
-
-cancel-is : (c : Client) (b : Bay) (k : ℕ) (item : List ℕ) (w : Writing)
-    (o : Result Control DataAccessError)
-    → OneWritten c (cancel_act c.association k o) (cancel_call c k o) w
-    (cancel_asked c b k item w o)
-cancel-is c b k item w (Ok control) =
-    decided-is c (act.Cancel c.association k) (call.Cancel c.association k) w _ refl refl
-cancel-is c b k item w (Err error) = nothing-done c error w
-
-write-part-is : (c : Client) (b : Bay) (k : ℕ) (item : List ℕ) (given : Datum) (w : Writing)
-    (part : ControlPart)
-    → OneWritten c (write_act c.association given k part) (write_call c b given k part) w
-    (write_part c b k item given w part)
-write-part-is c b k item given w Select = nothing-done c ObjectAccessDenied w
-write-part-is c b k item given w SelectWith = select-with-is c b k item w (operate_in given)
-write-part-is c b k item given w Operate = operate-is c b k item w (operate_in given)
-write-part-is c b k item given w Cancel = cancel-is c b k item w (cancel_in given)
-
-write-target-is : (c : Client) (b : Bay) (item : List ℕ) (given : Datum) (w : Writing)
-    (target : Option Target)
-    → OneWritten c (act_of_write c.association given target) (call_of_write c b given target) w
-    (write_target c b item given w target)
-write-target-is c b item given w None = nothing-done c ObjectAccessDenied w
-write-target-is c b item given w (Some t) = write-part-is c b t.switch item given w t.part
-
 write-row-is : (c : Client) (b : Bay) (given : Datum) (w : Writing) (row : Option ℕ)
     → OneWritten c (act_of_write c.association given (target_at b row))
     (call_of_write c b given (target_at b row)) w (write_row c b given w row)
-write-row-is c b given w None = nothing-done c ObjectNonExistent w
-write-row-is c b given w (Some place) =
-    write-target-is c b (name_at b.rows place) given w (target_at b (Some place))
+write-row-is c b given w row =
+    write-by c b w (λ asks asked next. OneWritten c asks asked w next)
+    (λ error. nothing-done c error w)
+    (λ k item o. decided-is c _ _ w (select_with_asked c b k item w (Ok o)) refl refl)
+    (λ k item o. decided-is c _ _ w (operate_asked c b k item w (Ok o)) refl refl)
+    (λ k item control. decided-is c _ _ w (cancel_asked c b k item w (Ok control)) refl refl)
+    given row
 
 -- ---- all variables that are written
 
-pub record AllWritten (c : Client) (n b : Bay) (ns : List Naming) (values : List Datum)
-    (w : Writing)
-    : Type 0 where
-  pub parts : List Part
-  pub more : List ℕ
-  pub is : (write_all c b ns values w).results ≡ w.results ++ more
-  pub spelled : length more < 4294967296 → SpellAll more parts
-  pub told : write_accepted c.now c.association n ns values parts ≡ write_entries c b ns values w
+abbrev pub AllWritten : Client → Bay → Bay → List Naming → List Datum → Writing → Type 0
+AllWritten c n b ns values w =
+    AllTold (write_accepted c.now c.association n ns values) (write_entries c b ns values w)
+    w.results (write_all c b ns values w).results
 
 pub all-written : (c : Client) (n b : Bay) (ns : List Naming) (values : List Datum) (w : Writing)
     → AreNamedAlike n b → AllWritten c n b ns values w
-all-written c n b [] values w alike =
-    record {
-      parts = [];
-      more = [];
-      is = sym (append-nil w.results);
-      spelled = λ short. refl;
-      told = refl;
-    }
-all-written c n b (name ∷ ns) [] w alike =
-    record {
-      parts = [];
-      more = [];
-      is = sym (append-nil w.results);
-      spelled = λ short. refl;
-      told = refl;
-    }
+all-written c n b [] values w alike = none-told _ w.results refl
+all-written c n b (name ∷ ns) [] w alike = none-told _ w.results refl
 all-written c n b (name ∷ ns) (given ∷ values) w alike =
-    let next : Writing = write_one c b name given w in
-    let target : Option Target = target_at b (row_named b name) in
-    let one : OneWritten c (act_of_write c.association given target)
-    (call_of_write c b given target) w next =
-    write-row-is c b given w (row_named b name) in
-    let rest : AllWritten c n b ns values next = all-written c n b ns values next alike in
-    let here : entries_of c.now (act_of_write c.association given (target_at n (row_named n name)))
-    (is_success one.part) ≡ entries_of_call c w.controls (call_of_write c b given target) =
-    ap (λ (t : Option Target). entries_of c.now (act_of_write c.association given t)
-    (is_success one.part)) (sym (named-target n b name alike)) ∙ one.told in
-    record {
-      parts = one.part ∷ rest.parts;
-      more = one.front ++ rest.more;
-      is = rest.is ∙ ap (λ (xs : List ℕ). xs ++ rest.more) one.is
-          ∙ append_assoc w.results one.front rest.more;
-      spelled = λ short.
-          let size = length-append one.front rest.more in (
-            one.front,
-            rest.more,
-            refl,
-            one.spelled (omega (arith, size, short)),
-            rest.spelled (omega (arith, size, short)),
-          );
-      told = ap₂ (λ (xs ys : List Entry). xs ++ ys) here rest.told;
-    }
+    one-more c is_success _ _ _ _ _ _ _ _ _ _ (λ part parts. refl)
+    (ap (act_of_write c.association given) (sym (named-target n b name alike)))
+    (write-row-is c b given w (row_named b name))
+    (all-written c n b ns values (write_one c b name given w) alike)
