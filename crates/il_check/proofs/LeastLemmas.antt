@@ -2,7 +2,8 @@
 use Rattle.std.proofs.Common.{◌≡◌, ℕ, zero, suc, ◌<◌, ◌≤◌, ◌⊎◌, inl, inr, Bool, true, false, cond, ◌&&◌, ◌||◌, eqb, ltb, List, [], ◌∷◌, Some, refl, sym, ◌∙◌, subst, arith}
 use Rattle.std.proofs.lemmas.Option.{same_Some}
 use Rattle.std.specs.Prelude.{Contains, unwrap_or}
-use Rattle.std.proofs.lemmas.Bool.{cases_eq, cases_lt, eq-eqb, le-ltb, lt-ltb, ltb-false, ne_eqb}
+use Rattle.std.proofs.lemmas.Bool.Decides.{nat_tests}
+use Rattle.std.proofs.lemmas.Bool.{cases_lt}
 use Rattle.il_check.specs.Code.{code_of, line_of}
 use Rattle.il_check.specs.Faults.{IsLeast, is_before, least_fault, least_of, first_of}
 use Rattle.il_check.specs.declared.fault.CheckFault.{CheckFault}
@@ -14,62 +15,21 @@ number f = unwrap_or (code_of f) 0
 abbrev AtMost : CheckFault → CheckFault → Type 0
 AtMost f g = (line_of f < line_of g) ⊎ ((line_of f ≡ line_of g) × (number f ≤ number g))
 
-and-false : (b : Bool) → b && false ≡ false
-and-false true = refl
-and-false false = refl
-
 not-below : (a b c d : ℕ) → (a < c) ⊎ ((a ≡ c) × (b ≤ d)) → ltb c a || (eqb c a && ltb d b) ≡ false
-not-below a b c d (inl lt) = rw (le-ltb c a (omega arith), ne_eqb c a (λ e. omega arith)) refl
-not-below a b c d (inr e) = let same =
-    e.0 in rw (le-ltb c a (omega arith), le-ltb d b e.1) (and-false (eqb c a))
+not-below a b c d (inl lt) = grind (arith, nat_tests)
+not-below a b c d (inr e) = let same = e.0 in let le = e.1 in grind (arith, nat_tests)
 
 was-below : (a b c d : ℕ) → ltb c a || (eqb c a && ltb d b) ≡ false → (a < c) ⊎ ((a ≡ c) × (b ≤ d))
 was-below a b c d h = elim (cases_lt a c) [
   | inl lt ↦ inl lt
-  | inr ge ↦ elim (cases_eq a c) [
-    | inl same ↦ inr (
-      same,
-      ltb-false d b
-          (second (ltb c a) (eqb c a) (ltb d b) (eq-eqb c a (sym same)) h),
-    )
-    | inr ne ↦ absurd (first (ltb c a) _ (lt-ltb c a (omega arith)) h)
-  ]
+  | inr ge ↦ inr (grind (arith, nat_tests), grind (arith, nat_tests))
 ]
-  where
-    first : (x y : Bool) → x ≡ true → x || y ≡ false → ⊥
-    first true y e f = cc
-    first false y e f = cc
-
-    second : (x y z : Bool) → y ≡ true → x || (y && z) ≡ false → z ≡ false
-    second true y z e f = absurd cc
-    second false true z e f = f
-    second false false z e f = absurd cc
 
 below : (a b c d : ℕ) → ltb a c || (eqb a c && ltb b d) ≡ true → (a < c) ⊎ ((a ≡ c) × (b ≤ d))
 below a b c d h = elim (cases_lt a c) [
   | inl lt ↦ inl lt
-  | inr ge ↦ elim (cases_eq a c) [
-    | inl same ↦ inr (
-      same,
-      elim (cases_lt d b) [
-        | inl lt ↦ absurd (neither (ltb a c) (eqb a c) (ltb b d) (le-ltb a c ge)
-            (le-ltb b d (omega arith)) h)
-        | inr le ↦ le
-      ],
-    )
-    | inr ne ↦ absurd (no-way (ltb a c) (eqb a c) (ltb b d) (le-ltb a c ge) (ne_eqb a c ne) h)
-  ]
+  | inr ge ↦ inr (grind (arith, nat_tests), grind (arith, nat_tests))
 ]
-  where
-    neither : (x y z : Bool) → x ≡ false → z ≡ false → x || (y && z) ≡ true → ⊥
-    neither true y z e f h = cc
-    neither false true z e f h = cc
-    neither false false z e f h = cc
-
-    no-way : (x y z : Bool) → x ≡ false → y ≡ false → x || (y && z) ≡ true → ⊥
-    no-way true y z e f h = cc
-    no-way false true z e f h = cc
-    no-way false false z e f h = cc
 
 none_before : (f g : CheckFault) → AtMost f g → is_before g f ≡ false
 none_before f g h = not-below (line_of f) (number f) (line_of g) (number g) h
