@@ -21,7 +21,7 @@ use Rattle.il_image.specs.declared.opcode.TimerUse.{TimerUse}
 use Rattle.bay_base.specs.Types.{same_type}
 use Rattle.il_image.specs.Arithmetic.{comparison_holds, computation_of, logic_of}
 use Rattle.il_image.specs.Values.{number_of, type_of}
-use Rattle.il_image.specs.Machine.{State, Trap, Turn, Goes, Halts, Traps, FullStack, WrongKind, MissingSlot, MissingTimer, ZeroDivisor, act, as_number, as_truth, divides, is_comparable, pushes, stores, value_of_width, with_slot, most_cells}
+use Rattle.il_image.specs.Machine.{State, Trap, Turn, Goes, Halts, Traps, FullStack, WrongKind, MissingSlot, MissingTimer, ZeroDivisor, act, as_number, as_truth, changes, divides, is_comparable, pushes, stores, value_of_width, with_slot, most_cells}
 use Rattle.il_image.specs.Machine as machine
 use Rattle.std.specs.Prelude.{ℤ, pos}
 use Rattle.il_image.specs.Timers.{after_call}
@@ -302,59 +302,60 @@ module _ (now next place : ℕ) (timers : List TimerState) (ts : List KnownTimer
       (refl, covers-along (r ∷ rs) us (Wide z ∷ cells) slots e (long-wide z r h.0, h.1) k)
   comes-widen w rs us e cells slots h k = tt
 
+  -- a timer changes, and what is known of it
+  comes-changed : (n : ℕ) (rs us : List Range) (change : TimerState → TimerState)
+      (known : KnownTimer → KnownTimer)
+      → ((t : TimerState) (u : KnownTimer) → IsTimerIn now t u → IsTimerIn now (change t) (known u))
+      → timer_of n ts (λ u. with_timer rs n (known u) (plain_of rs us)) ≡ Some p
+      → (before cells slots : List Value) → AreIn cells rs → AreIn slots us
+      → NextIs (machine.with_timer n (state_of place before slots timers)
+      (λ t. changes n (change t) next cells (state_of place before slots timers))) now next p
+  comes-changed n rs us change known fits_in e before cells slots h k =
+      let g = has-timer n ts (λ u. with_timer rs n (known u) (plain_of rs us)) p e in
+      next-timer n (state_of place before slots timers) _ now next p
+      (λ t at. (
+        refl,
+        timer-done rs us n (change t) (known g.known) cells slots g.gives h k
+            (fits_in t g.known (timers-get n t g.known at g.at)),
+      ))
+
   comes-input : (n : ℕ) (rs us : List Range)
       → effect (Timer SetInput n) (plain_of rs us) ≡ Some p
       → (cells slots : List Value) → AreIn cells rs → AreIn slots us
       → Comes (Timer SetInput n) cells slots
   unfolding act
-  comes-input n rs us e [] slots h k =
-      next-timer n (state_of place [] slots timers) _ now next p (λ t at. tt)
   comes-input n [] us e (v ∷ cells) slots h k = absurd h
   comes-input n (r ∷ rs) us e (Truth b ∷ cells) slots h k =
-      let g = has-timer n ts (λ u. with_timer rs n (with_input r u) (plain_of rs us)) p e in
-      next-timer n (state_of place (Truth b ∷ cells) slots timers) _ now next p
-      (λ t at. let was = timers-get n t g.known at g.at in (
-        refl,
-        timer-done rs us n (record t { input = b }) (with_input r g.known) cells slots g.gives
-            h.1 k
-            (record {
-              of_kind = was.of_kind;
-              in_input = h.0;
-              in_preset = was.in_preset;
-              in_output = was.in_output;
-              in_elapsed = was.in_elapsed;
-              young = was.young;
-            }),
-      ))
-  comes-input n rs us e (v ∷ cells) slots h k =
-      next-timer n (state_of place (v ∷ cells) slots timers) _ now next p (λ t at. tt)
+      comes-changed n rs us (λ t. record t { input = b }) (with_input r)
+      (λ t u was. record {
+        of_kind = was.of_kind;
+        in_input = h.0;
+        in_preset = was.in_preset;
+        in_output = was.in_output;
+        in_elapsed = was.in_elapsed;
+        young = was.young;
+      }) e (Truth b ∷ cells) cells slots h.1 k
+  comes-input n rs us e cells slots h k =
+      next-timer n (state_of place cells slots timers) _ now next p (λ t at. tt)
 
   comes-preset : (n : ℕ) (rs us : List Range)
       → effect (Timer SetPreset n) (plain_of rs us) ≡ Some p
       → (cells slots : List Value) → AreIn cells rs → AreIn slots us
       → Comes (Timer SetPreset n) cells slots
   unfolding act
-  comes-preset n rs us e [] slots h k =
-      next-timer n (state_of place [] slots timers) _ now next p (λ t at. tt)
   comes-preset n [] us e (v ∷ cells) slots h k = absurd h
   comes-preset n (r ∷ rs) us e (Span d ∷ cells) slots h k =
-      let g = has-timer n ts (λ u. with_timer rs n (with_preset r u) (plain_of rs us)) p e in
-      next-timer n (state_of place (Span d ∷ cells) slots timers) _ now next p
-      (λ t at. let was = timers-get n t g.known at g.at in (
-        refl,
-        timer-done rs us n (record t { preset = d }) (with_preset r g.known) cells slots g.gives
-            h.1 k
-            (record {
-              of_kind = was.of_kind;
-              in_input = was.in_input;
-              in_preset = h.0;
-              in_output = was.in_output;
-              in_elapsed = was.in_elapsed;
-              young = was.young;
-            }),
-      ))
-  comes-preset n rs us e (v ∷ cells) slots h k =
-      next-timer n (state_of place (v ∷ cells) slots timers) _ now next p (λ t at. tt)
+      comes-changed n rs us (λ t. record t { preset = d }) (with_preset r)
+      (λ t u was. record {
+        of_kind = was.of_kind;
+        in_input = was.in_input;
+        in_preset = h.0;
+        in_output = was.in_output;
+        in_elapsed = was.in_elapsed;
+        young = was.young;
+      }) e (Span d ∷ cells) cells slots h.1 k
+  comes-preset n rs us e cells slots h k =
+      next-timer n (state_of place cells slots timers) _ now next p (λ t at. tt)
 
   -- what is known of a timer is pushed
   comes-read : (n : ℕ) (rs us : List Range) (read : KnownTimer → Range) (f : TimerState → Value)
@@ -379,13 +380,8 @@ module _ (now next place : ℕ) (timers : List TimerState) (ts : List KnownTimer
   comes-timer SetInput n rs us e cells slots h k = comes-input n rs us e cells slots h k
   comes-timer SetPreset n rs us e cells slots h k = comes-preset n rs us e cells slots h k
   comes-timer Run n rs us e cells slots h k =
-      let g = has-timer n ts (λ u. with_timer rs n (called u) (plain_of rs us)) p e in
-      next-timer n (state_of place cells slots timers) _ now next p
-      (λ t at. (
-        refl,
-        timer-done rs us n (after_call t now) (called g.known) cells slots g.gives h k
-            (timer-called t g.known now (timers-get n t g.known at g.at)),
-      ))
+      comes-changed n rs us (λ t. after_call t now) called (λ t u is. timer-called t u now is) e cells
+      cells slots h k
   comes-timer LoadOutput n rs us e cells slots h k =
       comes-read n rs us (λ u. u.output) (λ t. Truth t.output) (λ t u is. is.in_output) e cells
       slots

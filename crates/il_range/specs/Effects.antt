@@ -138,26 +138,10 @@ called u =
     }
 
 abbrev pub with_input : Range → KnownTimer → KnownTimer
-with_input input u =
-    record {
-      kind = u.kind;
-      input = input;
-      preset = u.preset;
-      output = u.output;
-      elapsed = u.elapsed;
-      below = u.below;
-    }
+with_input input u = record u { input = input }
 
 abbrev pub with_preset : Range → KnownTimer → KnownTimer
-with_preset preset u =
-    record {
-      kind = u.kind;
-      input = u.input;
-      preset = preset;
-      output = u.output;
-      elapsed = u.elapsed;
-      below = u.below;
-    }
+with_preset preset u = record u { preset = preset }
 
 -- ---- truths
 
