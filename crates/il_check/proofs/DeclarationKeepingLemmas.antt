@@ -1,5 +1,5 @@
 -- What is left of right declarations says what they say: their values, names and labels.
-use Rattle.std.proofs.Common.{◌≡◌, ℕ, zero, suc, ◌+◌, ◌-◌, pos, Bool, true, false, ◌&&◌, is_some, is_none, List, [], ◌∷◌, ◌++◌, length, slice_get, Option, None, Some, refl, ap, sym, subst}
+use Rattle.std.proofs.Common.{◌≡◌, ℕ, zero, suc, ◌+◌, pos, true, false, ◌&&◌, is_some, is_none, List, [], ◌∷◌, ◌++◌, length, slice_get, Option, None, Some, refl, ap, sym, subst}
 use Rattle.std.proofs.lemmas.Option.{same_Some, cond_some}
 use Rattle.std.proofs.lemmas.Bool.{not-false}
 use Rattle.std.specs.List.{cons_option}
@@ -21,16 +21,13 @@ use Rattle.il_image.specs.declared.value.Value.TheVariants as value
 use Rattle.il_image.proofs.KindLemmas.{same-is}
 use Rattle.il_image.proofs.ValueLemmas.{value_is}
 use Rattle.il_check.specs.Declaring.{labels_from, point_of, of_type, literal_value, initial_in, is_typed, is_external, external_at, external_in, variable_at, variable_in, timer_in, externals_of, variables_of, timers_of, declarations_faults}
-use Rattle.il_check.specs.Given.{typed_value, given_of}
+use Rattle.il_check.specs.Given.{typed_value}
 use Rattle.il_check.specs.Keeping.{label_names, IsValueOf, BeginsWith, AreDeclared, IsDeclaredAs}
-use Rattle.il_check.specs.Program.{Entry, block, label}
-use Rattle.il_check.specs.declared.given.Given.TheVariants.{Number}
 use Rattle.il_check.specs.declared.typed.External.{External}
 use Rattle.il_check.specs.declared.typed.Variable.{Variable}
 use Rattle.il_check.specs.declared.typed.Timer.{Timer}
 use Rattle.il_check.proofs.DeclaredLemmas.{number-is, initial-is}
 use Rattle.il_check.proofs.FaultlessLemmas.{both-none, if-none}
-use Rattle.il_check.proofs.GivenLemmas.{found}
 
 -- ---- values
 

@@ -25,7 +25,7 @@ use Rattle.il_check.specs.Labelling.{Becomes, IsRight}
 use Rattle.il_check.specs.Program.{Checked}
 use Rattle.il_check.specs.Rules as rules
 use Rattle.il_check.specs.Rules.{operand_in, number_in, own_type, load_type, fits, works, may_negate, is_plain, divides, gives, converted_from, allows, uses_result, is_wrong, type_after, goes_on}
-use Rattle.il_check.specs.TypedProgram.{slot_type, may_write, is_writable, IsOperand, is_divisor, IsOperation, target_of}
+use Rattle.il_check.specs.TypedProgram.{slot_type, may_write, is_writable, IsOperand, is_divisor, IsOperation}
 use Rattle.il_check.specs.Typing.{load_operation, load_in, slot_in, target_slot, store_operation, combine_operation, operation_in}
 use Rattle.il_check.specs.declared.given.Meaning.{Meaning}
 use Rattle.il_check.specs.declared.given.Meaning.TheVariants as meaning

@@ -30,7 +30,7 @@ use Rattle.il_check.specs.Given.{Names, given_of, literal_given, variable_given,
 use Rattle.il_check.specs.Keeping.{slot_name, timer_name, label_names, IsValueOf, IsOperandOf, IsTargetOf, IsOperationOf, IsArgumentOf, AreArgumentsOf, IsEntryOf, AreEntriesOf, IsItemOf, AreItemsOf, Keeps}
 use Rattle.il_check.specs.Labelling.{IsRight, IsRightEntry, AreRightEntries}
 use Rattle.il_check.specs.OwnPlaces.{MeanOwnPlaces}
-use Rattle.il_check.specs.Program.{Entry, operation, block, Entries, no_entries, entry, Item, label, transfer, plain, Checked, entry_before}
+use Rattle.il_check.specs.Program.{Entry, operation, block, Entries, no_entries, Item, transfer, plain, Checked, entry_before}
 use Rattle.il_check.specs.Rules.{operand_in, number_in, load_type, input_type, type_after, works, fits, combines_unset}
 use Rattle.il_check.specs.Typing.{load_operation, load_in, target_slot, store_operation, combine_operation, operation_in, typed_argument, one_argument, two_arguments, arguments_in, call_with, call_in, jump_in, entry_in, or_entry, item_in, block_in}
 use Rattle.il_check.specs.WellTyped.{Progress, type_behind, type_behind_all, items_faults, entry_left, entries_left, items_left, behind}
@@ -39,7 +39,7 @@ use Rattle.il_check.specs.declared.given.Meaning.{Meaning}
 use Rattle.il_check.specs.declared.given.Meaning.TheVariants as meaning
 use Rattle.il_check.specs.declared.given.Given.TheVariants.{Misused, Number}
 use Rattle.il_check.specs.declared.given.Called.TheVariants as called
-use Rattle.il_check.specs.declared.given.Resolved.TheVariants.{Load, Store, Combine, Not, Convert, Jump, Return, Call}
+use Rattle.il_check.specs.declared.given.Resolved.TheVariants.{Load, Store, Call}
 use Rattle.il_check.specs.declared.typed.External.{External}
 use Rattle.il_check.specs.declared.typed.Variable.{Variable}
 use Rattle.il_check.specs.declared.typed.Timer.{Timer}

@@ -1,5 +1,5 @@
 -- Instructions that are right leave jumps, returns and calls that are well typed.
-use Rattle.std.proofs.Common.{◌≡◌, ℕ, ◌<◌, Bool, true, false, cond, is_some, List, length, Option, None, Some, option_map, refl, ap, sym, subst}
+use Rattle.std.proofs.Common.{◌≡◌, ℕ, ◌<◌, true, false, cond, is_some, List, length, Option, None, Some, option_map, refl, ap, sym, subst}
 use Rattle.std.proofs.lemmas.Option.{same_Some}
 use Rattle.std.proofs.lemmas.Bool.{and_parts, not-false}
 use Rattle.bay_base.specs.declared.types.ElementaryType.{ElementaryType}
@@ -13,7 +13,6 @@ use Rattle.il_check.specs.Rules as rules
 use Rattle.il_check.specs.Rules.{operand_in, fits, works, is_conditional, input_type, argument_fits, arguments_fit, is_wrong, is_unset}
 use Rattle.il_check.specs.TypedProgram.{IsArgument, AreArguments, Decides, has_label, IsTransfer, target_of, coming_behind_condition, coming_behind_transfer}
 use Rattle.il_check.specs.Typing.{operation_in, typed_argument, one_argument, two_arguments, arguments_in, call_with, transfer_in}
-use Rattle.il_check.specs.declared.given.Given.TheVariants.{Missing, Misused}
 use Rattle.il_check.specs.declared.given.Called.TheVariants as called
 use Rattle.il_check.specs.declared.given.GivenArgument.{GivenArgument}
 use Rattle.il_check.specs.declared.given.GivenArguments.{GivenArguments}

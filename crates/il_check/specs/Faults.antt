@@ -1,6 +1,6 @@
 -- The fault that is answered, of all that a program has: the least by its line, and of one line by
 -- its number.
-use Rattle.std.specs.Prelude.{ℕ, ◌≡◌, Bool, false, ◌&&◌, ◌||◌, nat_lt, ◌==◌, List, [], ◌∷◌, Contains, Option, None, Some, unwrap_or, if◌then◌else◌}
+use Rattle.std.specs.Prelude.{◌≡◌, Bool, false, ◌&&◌, ◌||◌, nat_lt, ◌==◌, List, [], ◌∷◌, Contains, Option, None, Some, unwrap_or, if◌then◌else◌}
 use Rattle.il_check.specs.Code.{code_of, line_of}
 use Rattle.il_check.specs.declared.fault.CheckFault.{CheckFault}
 

@@ -1,5 +1,5 @@
 -- What a scan starts from, what it leaves by the types alone, and a machine before its first scan.
-use Rattle.std.proofs.Common.{◌≡◌, ◌+◌, length, ℕ, Bool, true, false, cond, List, [], ◌∷◌, ◌++◌, refl, sym, ap, subst, ◌∙◌, map, drop, Option, Some, None, arith}
+use Rattle.std.proofs.Common.{◌≡◌, ◌+◌, length, ℕ, Bool, true, false, cond, List, [], ◌∷◌, ◌++◌, refl, sym, ap, subst, ◌∙◌, map, drop, Option, arith}
 use Rattle.bay_base.specs.declared.types.ElementaryType.{ElementaryType}
 use Rattle.bay_base.specs.declared.types.ElementaryType.TheVariants as elementary
 use Rattle.bay_base.specs.declared.types.TimerKind.{TimerKind}
@@ -21,7 +21,7 @@ use Rattle.std.proofs.lemmas.List.{length-append, length-map}
 use Rattle.il_range.specs.Laws.{DelaysContinue, with_memory}
 use Rattle.il_range.specs.Ranges.{AreIn, AreTimersIn, AreYoung, IsIn, IsTruth, IsYoung, kind_of}
 use Rattle.il_range.specs.declared.timer.KnownTimer.{KnownTimer}
-use Rattle.il_range.specs.Starts.{first_limit, given_behind, known_of_kind, known_of_kinds, start_of_points, start_ranges}
+use Rattle.il_range.specs.Starts.{first_limit, given_behind, known_of_kinds, start_of_points, start_ranges}
 use Rattle.il_range.proofs.KeepLemmas.{run-keeps}
 
 -- ---- the start of a scan
