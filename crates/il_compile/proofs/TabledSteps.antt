@@ -254,6 +254,13 @@ module _ (c : Checked) where
     pub straight : (d : ℕ) → LeadsTo i 0 d → d ≡ 0
     pub keeps : Keeps i
 
+  -- an instruction that goes on behind itself alone
+  one-step : {i : Instr} → {ks js : List CellKind} → effect slots timers i ks ≡ Some js
+      → length ks ≤ most_cells → LeadsTo i 0 0 → ((d : ℕ) → LeadsTo i 0 d → d ≡ 0) → Keeps i
+      → Steps i ks js
+  one-step effect room goes straight keeps =
+      record { effect = effect; room = room; goes = goes; straight = straight; keeps = keeps }
+
   abbrev pub Flow : List Instr → List CellKind → List CellKind → Type 0
   Flow [] ks js = ks ≡ js
   Flow (i ∷ is) ks ls = (js : List CellKind) × Steps i ks js × Flow is js ls
@@ -266,31 +273,20 @@ module _ (c : Checked) where
   pub pushed : (v : Value) (ks : List CellKind) → length ks ≤ most_cells
       → Steps (Push v) ks (kind_of v ∷ ks)
   pushed v ks room =
-      record { effect = refl; room = room; goes = refl; straight = λ d e. e; keeps = tt }
+      one-step refl room refl (λ d e. e) tt
 
   pub dropped : (top : CellKind) (ks : List CellKind) → length ks < most_cells
       → Steps Drop (top ∷ ks) ks
   dropped top ks room =
-      record {
-        effect = below-top Any top ks (within-any top);
-        room = omega arith;
-        goes = refl;
-        straight = λ d e. e;
-        keeps = tt;
-      }
+      one-step (below-top Any top ks (within-any top)) (omega arith) refl (λ d e. e) tt
 
   pub inverted : (top : CellKind) (ks : List CellKind)
       → is_within top (Plain elementary.Bool) ≡ true → length ks < most_cells
       → Steps Not (top ∷ ks) (Plain elementary.Bool ∷ ks)
-  inverted top ks h room = record {
-    effect =
-        ap (λ (o : Option (List CellKind)). o >>= (λ rest. Some (Plain elementary.Bool ∷ rest)))
-        (below-top (Plain elementary.Bool) top ks h);
-    room = omega arith;
-    goes = refl;
-    straight = λ d e. e;
-    keeps = tt;
-  }
+  inverted top ks h room =
+      one-step (ap (λ (o : Option (List CellKind)). o
+      >>= (λ rest. Some (Plain elementary.Bool ∷ rest)))
+      (below-top (Plain elementary.Bool) top ks h)) (omega arith) refl (λ d e. e) tt
 
   -- ---- slots and timers
 
@@ -350,39 +346,23 @@ module _ (c : Checked) where
     top = Plain kind;
     fits = same-self kind;
     divides = λ d n. absurd cc;
-    step = record {
-      effect =
-          ap (λ (o : Option ElementaryType). o >>= (λ t. Some (Plain t ∷ ks)))
-          (typed-slot s kind ok);
-      room = room;
-      goes = refl;
-      straight = λ d e. e;
-      keeps = tt;
-    };
+    step =
+        one-step (ap (λ (o : Option ElementaryType). o >>= (λ t. Some (Plain t ∷ ks)))
+        (typed-slot s kind ok)) room refl (λ d e. e) tt;
   }
   fetched (operand.Output n Q) kind ks ok room = record {
     top = Plain elementary.Bool;
     fits = subst (λ k. is_within (Plain elementary.Bool) (Plain k) ≡ true) ok.1 refl;
     divides = λ d n. absurd cc;
-    step = record {
-      effect = timer-there n (Some (Plain elementary.Bool ∷ ks)) ok.0;
-      room = room;
-      goes = refl;
-      straight = λ d e. e;
-      keeps = tt;
-    };
+    step =
+        one-step (timer-there n (Some (Plain elementary.Bool ∷ ks)) ok.0) room refl (λ d e. e) tt;
   }
   fetched (operand.Output n Et) kind ks ok room = record {
     top = Plain elementary.Time;
     fits = subst (λ k. is_within (Plain elementary.Time) (Plain k) ≡ true) ok.1 refl;
     divides = λ d n. absurd cc;
-    step = record {
-      effect = timer-there n (Some (Plain elementary.Time ∷ ks)) ok.0;
-      room = room;
-      goes = refl;
-      straight = λ d e. e;
-      keeps = tt;
-    };
+    step =
+        one-step (timer-there n (Some (Plain elementary.Time ∷ ks)) ok.0) room refl (λ d e. e) tt;
   }
 
   -- ---- operators
@@ -408,15 +388,10 @@ module _ (c : Checked) where
       record {
         top = Plain elementary.Bool;
         fits = subst (λ k. is_within (Plain elementary.Bool) (Plain k) ≡ true) (sym e) refl;
-        step = record {
-          effect =
-              two-tops (Plain elementary.Bool) (Plain elementary.Bool) (Plain elementary.Bool) v a
-              rest h' g';
-          room = omega arith;
-          goes = refl;
-          straight = λ n l. l;
-          keeps = tt;
-        };
+        step =
+            one-step (two-tops (Plain elementary.Bool) (Plain elementary.Bool)
+            (Plain elementary.Bool)
+            v a rest h' g') (omega arith) refl (λ d e. e) tt;
       }
   joined (computes o) kind v a rest t h g d room =
       let w = width_of kind in
@@ -429,27 +404,17 @@ module _ (c : Checked) where
         top = Plain (type_of_width w);
         fits = subst (λ k. is_within (Plain (type_of_width w)) (Plain k) ≡ true) e
             (same-self (type_of_width w));
-        step = record {
-          effect =
-              two-tops (second_kind o w) (Plain (type_of_width w)) (Plain (type_of_width w)) v a
-              rest
-              (second-within o w v h' d) g';
-          room = omega arith;
-          goes = refl;
-          straight = λ n l. l;
-          keeps = tt;
-        };
+        step =
+            one-step (two-tops (second_kind o w) (Plain (type_of_width w)) (Plain (type_of_width w))
+            v
+            a rest (second-within o w v h' d) g') (omega arith) refl (λ d e. e) tt;
       }
   joined (compares x) kind v a rest t h g d room = record {
     top = Plain elementary.Bool;
     fits = refl;
-    step = record {
-      effect = two-shown x kind v a rest h g (compared x kind t);
-      room = omega arith;
-      goes = refl;
-      straight = λ n l. l;
-      keeps = tt;
-    };
+    step =
+        one-step (two-shown x kind v a rest h g (compared x kind t)) (omega arith) refl (λ d e. e)
+        tt;
   }
 
   -- what an instruction leaves in place of a cell
@@ -467,26 +432,16 @@ module _ (c : Checked) where
       record {
         top = w.wider;
         fits = w.fits;
-        step = record {
-          effect = w.effect;
-          room = omega arith;
-          goes = refl;
-          straight = λ n l. l;
-          keeps = tt;
-        };
+        step =
+            one-step w.effect (omega arith) refl (λ d e. e) tt;
       }
   converted DintToLint v rest h room =
       let w = widened width.Dint width.Lint v rest h in
       record {
         top = w.wider;
         fits = w.fits;
-        step = record {
-          effect = w.effect;
-          room = omega arith;
-          goes = refl;
-          straight = λ n l. l;
-          keeps = tt;
-        };
+        step =
+            one-step w.effect (omega arith) refl (λ d e. e) tt;
       }
 
   -- ---- writing
@@ -495,15 +450,9 @@ module _ (c : Checked) where
       → slice_get slots n ≡ Some kind → slice_get writable n ≡ Some true
       → is_within top (Plain kind) ≡ true → length rest < most_cells
       → Steps (Slot Store n) (top ∷ rest) (top ∷ rest)
-  stored n kind top rest s w h room = record {
-    effect =
-        ap (λ (o : Option ElementaryType). o >>= (λ t. looks_at (Plain t) (top ∷ rest))) s
-        ∙ looked (Plain kind) top rest h;
-    room = omega arith;
-    goes = refl;
-    straight = λ d e. e;
-    keeps = w;
-  }
+  stored n kind top rest s w h room =
+      one-step (ap (λ (o : Option ElementaryType). o >>= (λ t. looks_at (Plain t) (top ∷ rest))) s
+      ∙ looked (Plain kind) top rest h) (omega arith) refl (λ d e. e) w
 
   truth-looked : (n : ℕ) (top : CellKind) (rest : List CellKind)
       → slice_get slots n ≡ Some elementary.Bool → is_within top (Plain elementary.Bool) ≡ true
@@ -519,60 +468,30 @@ module _ (c : Checked) where
       → is_within top (Plain elementary.Bool) ≡ true → length rest < most_cells
       → Steps (Slot SetIf n) (top ∷ rest) (top ∷ rest)
   set_if n top rest s w h room =
-      record {
-        effect = truth-looked n top rest s h;
-        room = omega arith;
-        goes = refl;
-        straight = λ d e. e;
-        keeps = w;
-      }
+      one-step (truth-looked n top rest s h) (omega arith) refl (λ d e. e) w
 
   pub reset-if : (n : ℕ) (top : CellKind) (rest : List CellKind)
       → slice_get slots n ≡ Some elementary.Bool → slice_get writable n ≡ Some true
       → is_within top (Plain elementary.Bool) ≡ true → length rest < most_cells
       → Steps (Slot ResetIf n) (top ∷ rest) (top ∷ rest)
   reset-if n top rest s w h room =
-      record {
-        effect = truth-looked n top rest s h;
-        room = omega arith;
-        goes = refl;
-        straight = λ d e. e;
-        keeps = w;
-      }
+      one-step (truth-looked n top rest s h) (omega arith) refl (λ d e. e) w
 
   pub input-set : (n : ℕ) (top : CellKind) (rest : List CellKind) → n < length c.timers
       → is_within top (Plain elementary.Bool) ≡ true → length rest < most_cells
       → Steps (Timer SetInput n) (top ∷ rest) rest
-  input-set n top rest lt h room = record {
-    effect =
-        timer-there n (below (Plain elementary.Bool) (top ∷ rest)) lt
-        ∙ below-top (Plain elementary.Bool) top rest h;
-    room = omega arith;
-    goes = refl;
-    straight = λ d e. e;
-    keeps = tt;
-  }
+  input-set n top rest lt h room =
+      one-step (timer-there n (below (Plain elementary.Bool) (top ∷ rest)) lt
+      ∙ below-top (Plain elementary.Bool) top rest h) (omega arith) refl (λ d e. e) tt
 
   pub preset-set : (n : ℕ) (top : CellKind) (rest : List CellKind) → n < length c.timers
       → is_within top (Plain elementary.Time) ≡ true → length rest < most_cells
       → Steps (Timer SetPreset n) (top ∷ rest) rest
-  preset-set n top rest lt h room = record {
-    effect =
-        timer-there n (below (Plain elementary.Time) (top ∷ rest)) lt
-        ∙ below-top (Plain elementary.Time) top rest h;
-    room = omega arith;
-    goes = refl;
-    straight = λ d e. e;
-    keeps = tt;
-  }
+  preset-set n top rest lt h room =
+      one-step (timer-there n (below (Plain elementary.Time) (top ∷ rest)) lt
+      ∙ below-top (Plain elementary.Time) top rest h) (omega arith) refl (λ d e. e) tt
 
   pub ran : (n : ℕ) (ks : List CellKind) → n < length c.timers → length ks ≤ most_cells
       → Steps (Timer Run n) ks ks
   ran n ks lt room =
-      record {
-        effect = timer-there n (Some ks) lt;
-        room = room;
-        goes = refl;
-        straight = λ d e. e;
-        keeps = tt;
-      }
+      one-step (timer-there n (Some ks) lt) room refl (λ d e. e) tt
