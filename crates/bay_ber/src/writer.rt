@@ -30,7 +30,6 @@ pub fn octets_needed(length: usize) -> usize
 }
 
 // Appends octets, for which there is room.
-#[inline(always)]
 fn extend(octets: &mut Vec<u8>, more: &[u8])
     requires { length octets.old.items + length more.now ≤ vec_capacity octets.old }
     ensures items { octets.new.items ≡ octets.old.items ++ more.now }
@@ -52,7 +51,9 @@ fn overwrite(octets: &mut Vec<u8>, place: usize, more: &[u8])
     octets[place..place + more.len()].copy_from_slice(more);
 }
 
-// Puts octets, for which there is room, in front of those from a place on.
+// Puts octets, for which there is room, in front of those from a place on. Apart, so that `close`
+// saves no registers where a length takes one octet.
+#[inline(never)]
 fn insert(octets: &mut Vec<u8>, place: usize, more: &[u8])
     requires place { place ≤ length octets.old.items }
     requires room { length octets.old.items + length more.now ≤ vec_capacity octets.old }
@@ -229,7 +230,6 @@ impl Writer {
     }
 
     /// Appends octets.
-    #[inline(always)]
     pub fn append(&mut self, octets: &[u8])
         ensures { self.new ≡ sheet_with self.old octets.now }
     {
