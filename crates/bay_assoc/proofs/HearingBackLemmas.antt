@@ -41,7 +41,7 @@ long-back : (octets : List ℕ) (x : ℕ × List ℕ) → long_size octets ≡ S
 long-back (high ∷ low ∷ octets) x e =
     let made : ℕ × List ℕ = (high * 256 + low, octets) in
     let same : made ≡ x = same_Some made x e in
-    subst (λ (y : ℕ × List ℕ). Sized (255 ∷ high ∷ low ∷ octets) y.1 y.0) same
+    subst (λ (y : ℕ × List ℕ). Sized (255 ∷ high ∷ low ∷ octets) y.1 y.0) {x = made} same
     (record { size = 255 ∷ high ∷ low ∷ []; is = refl; sized = (refl, refl) })
 long-back octets x e = absurd cc
 
@@ -58,7 +58,7 @@ size-case first octets x false low is e =
     let made : ℕ × List ℕ = (first, octets) in
     let same : made ≡ x = same_Some made x e in
     let less : first < 255 = below first low is in
-    subst (λ (y : ℕ × List ℕ). Sized (first ∷ octets) y.1 y.0) same
+    subst (λ (y : ℕ × List ℕ). Sized (first ∷ octets) y.1 y.0) {x = made} same
     (record { size = first ∷ []; is = refl; sized = (less, refl) })
 
 size-back : (octets : List ℕ) (x : ℕ × List ℕ) → IsBytes octets → size_at octets ≡ Some x
@@ -85,7 +85,7 @@ counted-back octets x b e =
     let enough = ltb-false (length behind) n g.0 in
     let z = size-back octets s.0 b s.1 in
     let long : length (take n behind) ≡ n = omega (arith, length-take n behind, enough) in
-    subst (λ (y : List ℕ × List ℕ). Counted octets y.0 y.1) (same_Some made x g.1) (record {
+    subst (λ (y : List ℕ × List ℕ). Counted octets y.0 y.1) {x = made} (same_Some made x g.1) (record {
       size = z.size;
       is = z.is ∙ ap (λ (l : List ℕ). z.size ++ l) (sym (take-append-drop n behind));
       sized = subst (IsSize z.size) (sym long) z.sized;
@@ -110,7 +110,7 @@ unit-back (identifier ∷ octets) x b e =
     let k = counted-back octets c.0 later c.1 in
     let both_bytes : IsBytes (c.0.0 ++ c.0.1) =
     bytes-behind k.size (c.0.0 ++ c.0.1) (subst IsBytes k.is later) in
-    subst (λ (y : Unit × List ℕ). Read (identifier ∷ octets) y.0 y.1) same (record {
+    subst (λ (y : Unit × List ℕ). Read (identifier ∷ octets) y.0 y.1) {x = made} same (record {
       size = k.size;
       is = ap (λ (l : List ℕ). identifier ∷ l) k.is;
       sized = k.sized;

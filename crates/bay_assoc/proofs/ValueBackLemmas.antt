@@ -205,7 +205,7 @@ context-with-back octets id syntax transfers c s b e =
     let is_name = under-is oid_tag syntax name.0 name.1 in
     let is_list = under-bytes sequence transfers list.0 b list.1 in
     let offers = offers-back list.0 ber.0 is_list.1 ber.1 in
-    subst (IsContext octets) same (record {
+    subst (IsContext octets) {x = made} same (record {
       number = number.0;
       name = name.0;
       list = list.0;
@@ -308,9 +308,9 @@ parts-back selector list user c b d e =
       carried = listed.0;
       is_list = is_list.0;
       is_user = listed.1;
-      offer = subst (λ (x : Connect). IsOffer octets.0 x.contexts) same offer;
-      listed = subst (λ (x : Connect). IsListed listed.0 x.user) same listed.2;
-      bytes = subst (λ (x : Connect). IsBytes x.user.value) same listed.3;
+      offer = subst (λ (x : Connect). IsOffer octets.0 x.contexts) {x = made} same offer;
+      listed = subst (λ (x : Connect). IsListed listed.0 x.user) {x = made} same listed.2;
+      bytes = subst (λ (x : Connect). IsBytes x.user.value) {x = made} same listed.3;
     }
 
 -- The known fields are the selectors, the contexts and the user data.

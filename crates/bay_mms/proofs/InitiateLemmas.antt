@@ -308,7 +308,7 @@ proposed first second third fourth fifth p b e =
     let n = proposed-back (context 3) fourth nesting.0 nesting.1 in
     let u = under-bytes (constructed 4) fifth octets.0 b octets.1 in
     subst (Proposed (given first ++ (second ∷ third ∷ (given fourth ++ (fifth ∷ [])))))
-    (same_Some made p parameters.2) (record {
+    {x = made} (same_Some made p parameters.2) (record {
       size = s.0;
       calling = c.0;
       called = d.0;
