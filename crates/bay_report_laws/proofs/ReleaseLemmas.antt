@@ -24,7 +24,7 @@ use Rattle.bay_replay.specs.Scenario.{ScenarioParts}
 use Rattle.bay_replay.specs.History.{AllFresh, EachPast, device_after}
 use Rattle.bay_report_laws.specs.Printed.{PrintedCommand, PrintedSwitch, ended, printed_command}
 use Rattle.bay_report_laws.specs.ReadBack.{HaveIds, switches_told}
-use Rattle.bay_report_laws.specs.Released.{AreReleased, CommandsAreReleased, IsPrintedFor, IsReleasedBy}
+use Rattle.bay_report_laws.specs.Released.{AreReleased, CommandsAreReleased, IsPrintedFor, IsReleasedBy, lets}
 use Rattle.bay_replay.specs.Runs.{IsRun}
 use Rattle.bay_replay.proofs.HistoryLemmas.{past-fixed}
 use Rattle.bay_replay.proofs.KeptLemmas.{scan_told, step-on-time}
