@@ -75,7 +75,7 @@ impl Origin {
     }
 }
 
-/// What a select with value is granted for: a position and the originator.
+/// What a select with value is granted for: an operation and the originator.
 #[derive(Clone, Copy, Debug)]
 pub struct Choice {
     /// What the switch is told to do (ctlVal).

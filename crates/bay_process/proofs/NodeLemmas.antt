@@ -1,5 +1,5 @@
 -- The rows that a bay has for its switches and meters, and the handles of their names.
-use Rattle.std.proofs.Common.{◌≡◌, ◌≢◌, ℕ, Bool, true, false, cond, zero, suc, ◌<◌, List, [], ◌∷◌, ◌++◌, length, find, slice_get, slice_index_or, Option, Some, None, option_map, option_and_then, Contains, refl, ap, sym, ◌∙◌, subst, arith, All, Err}
+use Rattle.std.proofs.Common.{◌≡◌, ◌≢◌, ℕ, false, cond, zero, suc, ◌<◌, List, [], ◌∷◌, ◌++◌, length, find, slice_get, slice_index_or, Option, Some, None, option_map, option_and_then, Contains, refl, ap, sym, ◌∙◌, subst, arith, All, Err}
 use Rattle.std.proofs.lemmas.Bool.{false_from_ne_true}
 use Rattle.std.specs.Option.{ok_or}
 use Rattle.std.specs.Str.{bytes_eq}

@@ -1,5 +1,5 @@
 -- A row is a control's where its name is the control's.
-use Rattle.std.proofs.Common.{◌≡◌, ℕ, ◌+◌, ◌<◌, zero, suc, Bool, true, false, nat_eq, List, [], Option, Some, None, IfSome, refl, ap, sym, subst, ◌∙◌, arith}
+use Rattle.std.proofs.Common.{◌≡◌, ℕ, ◌+◌, ◌<◌, zero, suc, Bool, true, false, nat_eq, List, [], Option, Some, None, refl, ap, sym, ◌∙◌, arith}
 use Rattle.std.proofs.Math.ListN.{get_or-map}
 use Rattle.std.specs.Str.{bytes_eq}
 use Rattle.std.proofs.lemmas.Bool.Decides.{nat_tests}
@@ -17,7 +17,6 @@ use Rattle.bay_services.specs.Places.{IsFound, is_place, part_by}
 use Rattle.bay_services.specs.Targets.{control_name, or_later, part_at, target_from, target_of}
 use Rattle.bay_services.specs.declared.target.ControlPart.{ControlPart}
 use Rattle.bay_services.specs.declared.target.ControlPart.TheVariants.{Select, SelectWith, Operate, Cancel}
-use Rattle.bay_services.specs.declared.target.Target.{Target}
 
 -- a row that is the first of its name
 abbrev pub IsFirst : List Row → ℕ → Type 0
