@@ -84,14 +84,7 @@ module _ (now : ℕ) (slots : List Value) (timers : List TimerState) where
   unfolding act
   wider IntToDint (Short z) x cells e p next = let same : Long z ≡ x = cc in rw same refl
   wider DintToLint (Long z) x cells e p next = let same : Wide z ≡ x = cc in rw same refl
-  wider IntToDint (Truth b) x cells e p next = absurd cc
-  wider IntToDint (Long z) x cells e p next = absurd cc
-  wider IntToDint (Wide z) x cells e p next = absurd cc
-  wider IntToDint (Span n) x cells e p next = absurd cc
-  wider DintToLint (Truth b) x cells e p next = absurd cc
-  wider DintToLint (Short z) x cells e p next = absurd cc
-  wider DintToLint (Wide z) x cells e p next = absurd cc
-  wider DintToLint (Span n) x cells e p next = absurd cc
+  wider w v x cells e p next = absurd cc
 
   computed-by : (o : Operation) (w : Width) (a b : ℤ) (c : Value) (cells : List Value) (p next : ℕ)
       (s : State) (zero : Bool) → zero ≡ (divides o && int_eq b (pos 0))
@@ -110,14 +103,7 @@ module _ (now : ℕ) (slots : List Value) (timers : List TimerState) where
   unfolding act
   joined (connects x) (Truth a) (Truth b) c cells e p next =
       let same : Truth (logic_of x a b) ≡ c = cc in rw same refl
-  joined (connects x) (Truth a) (Short b) c cells e p next = absurd cc
-  joined (connects x) (Truth a) (Long b) c cells e p next = absurd cc
-  joined (connects x) (Truth a) (Wide b) c cells e p next = absurd cc
-  joined (connects x) (Truth a) (Span b) c cells e p next = absurd cc
-  joined (connects x) (Short a) b c cells e p next = absurd cc
-  joined (connects x) (Long a) b c cells e p next = absurd cc
-  joined (connects x) (Wide a) b c cells e p next = absurd cc
-  joined (connects x) (Span a) b c cells e p next = absurd cc
+  joined (connects x) a b c cells e p next = absurd cc
   joined (computes o) (Short a) (Short b) c cells e p next =
       computed-by o width.Int a b c cells p next
       (at p (core (Short b ∷ Short a ∷ cells) slots timers)) (divides o && int_eq b (pos 0)) refl e
@@ -127,20 +113,7 @@ module _ (now : ℕ) (slots : List Value) (timers : List TimerState) where
   joined (computes o) (Wide a) (Wide b) c cells e p next =
       computed-by o width.Lint a b c cells p next
       (at p (core (Wide b ∷ Wide a ∷ cells) slots timers)) (divides o && int_eq b (pos 0)) refl e
-  joined (computes o) (Short a) (Truth b) c cells e p next = absurd cc
-  joined (computes o) (Short a) (Long b) c cells e p next = absurd cc
-  joined (computes o) (Short a) (Wide b) c cells e p next = absurd cc
-  joined (computes o) (Short a) (Span b) c cells e p next = absurd cc
-  joined (computes o) (Long a) (Truth b) c cells e p next = absurd cc
-  joined (computes o) (Long a) (Short b) c cells e p next = absurd cc
-  joined (computes o) (Long a) (Wide b) c cells e p next = absurd cc
-  joined (computes o) (Long a) (Span b) c cells e p next = absurd cc
-  joined (computes o) (Wide a) (Truth b) c cells e p next = absurd cc
-  joined (computes o) (Wide a) (Short b) c cells e p next = absurd cc
-  joined (computes o) (Wide a) (Long b) c cells e p next = absurd cc
-  joined (computes o) (Wide a) (Span b) c cells e p next = absurd cc
-  joined (computes o) (Truth a) b c cells e p next = absurd cc
-  joined (computes o) (Span a) b c cells e p next = absurd cc
+  joined (computes o) a b c cells e p next = absurd cc
   joined (compares x) a b c cells e p next = compared-by (is_comparable x a b) e
     where
       compared-by : (fits : Bool)
@@ -190,16 +163,10 @@ module _ (now : ℕ) (slots : List Value) (timers : List TimerState) where
   unfolding act
   gave n In (Truth b) t u cells is e p next = let same : record t { input = b } ≡ u =
       cc in rw (is, same) refl
-  gave n In (Short z) t u cells is e p next = absurd cc
-  gave n In (Long z) t u cells is e p next = absurd cc
-  gave n In (Wide z) t u cells is e p next = absurd cc
-  gave n In (Span z) t u cells is e p next = absurd cc
+  gave n In v t u cells is e p next = absurd cc
   gave n Pt (Span z) t u cells is e p next = let same : record t { preset = z } ≡ u =
       cc in rw (is, same) refl
-  gave n Pt (Truth b) t u cells is e p next = absurd cc
-  gave n Pt (Short z) t u cells is e p next = absurd cc
-  gave n Pt (Long z) t u cells is e p next = absurd cc
-  gave n Pt (Wide z) t u cells is e p next = absurd cc
+  gave n Pt v t u cells is e p next = absurd cc
 
   pub ran : (n : ℕ) (t : TimerState) (cells : List Value) → slice_get timers n ≡ Some t
       → Does now (Timer Run n) (core cells slots timers)

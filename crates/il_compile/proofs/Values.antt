@@ -71,17 +71,11 @@ type-self elementary.Time = refl
 -- a BOOL
 pub truth-is : (v : Value) → type_of v ≡ elementary.Bool → (b : Bool) × (v ≡ Truth b)
 truth-is (Truth b) e = (b, refl)
-truth-is (Short z) e = absurd cc
-truth-is (Long z) e = absurd cc
-truth-is (Wide z) e = absurd cc
-truth-is (Span n) e = absurd cc
+truth-is v e = absurd cc
 
 pub boolean-is : (k : ElementaryType) → rules.is_boolean k ≡ true → k ≡ elementary.Bool
 boolean-is elementary.Bool h = refl
-boolean-is elementary.Int h = absurd cc
-boolean-is elementary.Dint h = absurd cc
-boolean-is elementary.Lint h = absurd cc
-boolean-is elementary.Time h = absurd cc
+boolean-is kind h = absurd cc
 
 -- a value that something makes, of a type
 pub record Made (made : Option Value) (kind : ElementaryType) : Type 0 where
@@ -139,46 +133,19 @@ pub combined-made : (sense : Sense) (a b : Value) → type_of b ≡ type_of a
     → Made (combination_of sense a b) (sense_gives sense (type_of a))
 combined-made (connects x) (Truth a) (Truth b) e h z =
     record { value = Truth (logic_of x a b); is = refl; type = refl }
-combined-made (connects x) (Truth a) (Short b) e h z = absurd cc
-combined-made (connects x) (Truth a) (Long b) e h z = absurd cc
-combined-made (connects x) (Truth a) (Wide b) e h z = absurd cc
-combined-made (connects x) (Truth a) (Span b) e h z = absurd cc
-combined-made (connects x) (Short a) b e h z = absurd cc
-combined-made (connects x) (Long a) b e h z = absurd cc
-combined-made (connects x) (Wide a) b e h z = absurd cc
-combined-made (connects x) (Span a) b e h z = absurd cc
+combined-made (connects x) a b e h z = absurd cc
 combined-made (computes o) (Short a) (Short b) e h z =
     computed-made o width.Int a b _ elementary.Int refl z
 combined-made (computes o) (Long a) (Long b) e h z =
     computed-made o width.Dint a b _ elementary.Dint refl z
 combined-made (computes o) (Wide a) (Wide b) e h z =
     computed-made o width.Lint a b _ elementary.Lint refl z
-combined-made (computes o) (Truth a) b e h z = absurd cc
-combined-made (computes o) (Span a) b e h z = absurd cc
-combined-made (computes o) (Short a) (Truth b) e h z = absurd cc
-combined-made (computes o) (Short a) (Long b) e h z = absurd cc
-combined-made (computes o) (Short a) (Wide b) e h z = absurd cc
-combined-made (computes o) (Short a) (Span b) e h z = absurd cc
-combined-made (computes o) (Long a) (Truth b) e h z = absurd cc
-combined-made (computes o) (Long a) (Short b) e h z = absurd cc
-combined-made (computes o) (Long a) (Wide b) e h z = absurd cc
-combined-made (computes o) (Long a) (Span b) e h z = absurd cc
-combined-made (computes o) (Wide a) (Truth b) e h z = absurd cc
-combined-made (computes o) (Wide a) (Short b) e h z = absurd cc
-combined-made (computes o) (Wide a) (Long b) e h z = absurd cc
-combined-made (computes o) (Wide a) (Span b) e h z = absurd cc
+combined-made (computes o) a b e h z = absurd cc
 combined-made (compares c) a b e h z =
     compared-made c a b _ (comparable c (type_of a) (type_of b) (sym e) h)
 
 pub widened-made : (c : Conversion) (v : Value) → type_of v ≡ rules.converted_from c
     → Made (wider_value (widening_of c) v) (rules.converted_to c)
 widened-made IntToDint (Short z) e = record { value = Long z; is = refl; type = refl }
-widened-made IntToDint (Truth z) e = absurd cc
-widened-made IntToDint (Long z) e = absurd cc
-widened-made IntToDint (Wide z) e = absurd cc
-widened-made IntToDint (Span z) e = absurd cc
 widened-made DintToLint (Long z) e = record { value = Wide z; is = refl; type = refl }
-widened-made DintToLint (Truth z) e = absurd cc
-widened-made DintToLint (Short z) e = absurd cc
-widened-made DintToLint (Wide z) e = absurd cc
-widened-made DintToLint (Span z) e = absurd cc
+widened-made x v e = absurd cc
