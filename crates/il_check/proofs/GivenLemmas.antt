@@ -121,13 +121,12 @@ operand-case c kind z (Some v) x is e =
 pub operand-typed : (c : Checked) (kind : ElementaryType) (g : Given) (x : TypedOperand)
     → IsGiven c g
     → operand_in kind g ≡ Some x → IsOperand c x kind
-operand-typed c kind Missing x given e = absurd (cc)
-operand-typed c kind Misused x given e = absurd (cc)
 operand-typed c kind (Known source) x given e =
     let h = cond_some (same_type source.kind kind) source.operand x e in
     subst (λ (y : TypedOperand). IsOperand c y kind) h.1
     (subst (IsOperand c source.operand) (same-is source.kind kind h.0) given.0)
 operand-typed c kind (Number z) x given e = operand-case c kind z (number_in kind z) x refl e
+operand-typed c kind g x given e = absurd (cc)
 
 -- ---- divisors
 
@@ -296,14 +295,13 @@ loaded-some negated (Some x) e = refl
 pub load-some : (c : Checked) (negated : Bool) (g : Given) → IsGiven c g
     → allows (Load negated g) elementary.Bool ≡ true
     → is_some (operation_in (Load negated g) None) ≡ true
-load-some c negated Missing given ok = absurd (cc)
-load-some c negated Misused given ok = absurd (cc)
 load-some c negated (Known source) given ok =
     loaded-some negated _ (there-if (same_type source.kind source.kind) source.operand
     (same-self source.kind))
 load-some c negated (Number z) given ok =
     loaded-some negated _ (mapped-some (λ v. operand.Literal v) (number_in (own_type z) z)
     (own-fits z given))
+load-some c negated g given ok = absurd (cc)
 
 pub combined-some : (operator : Operator) (kind : ElementaryType) (negated : Bool)
     (o : Option TypedOperand) → is_some o ≡ true
@@ -312,8 +310,7 @@ combined-some operator kind negated None e = absurd (cc)
 combined-some operator kind negated (Some x) e = refl
 
 pub none-some : {A : Type 0} (o : Option A) → o ≡ None → is_some o ≡ true → ⊥
-none-some None e f = absurd (cc)
-none-some (Some x) e f = absurd (cc)
+none-some o e f = absurd (cc)
 
 -- ---- operations
 
@@ -379,14 +376,12 @@ store-kind : (c : Checked) (how : StoreKind) (g : Given) (kind : ElementaryType)
     (o : SimpleOperation) → IsGiven c g → fits kind g && may_negate (not (is_plain how)) kind ≡ true
     → rules.is_fixed g ≡ false
     → store_operation how (target_slot g) ≡ Some o → IsOperation c o (Some kind) (Some kind)
-store-kind c how Missing kind o given ok writes e = absurd (cc)
-store-kind c how Misused kind o given ok writes e = absurd (cc)
 store-kind c how (Known source) kind o given ok writes e =
     let both = and_parts (fits kind (Known source)) (may_negate (not (is_plain how)) kind) ok in
     store-slot c how kind source.operand source.kind o given.0
     (same-is source.kind kind (fits-same source kind (same_type source.kind kind) refl both.0))
     (given.1 (not-false source.writable writes)) both.1 e
-store-kind c how (Number z) kind o given ok writes e = absurd (cc)
+store-kind c how g kind o given ok writes e = absurd (cc)
 
 pub operation-typed : (c : Checked) (passed : ℕ) (r : Resolved) (t : Option ElementaryType)
     (o : SimpleOperation) → IsFound c r → IsRight passed r t → operation_in r t ≡ Some o
@@ -397,7 +392,6 @@ operation-typed c passed (Load negated g) t o is ok e =
 operation-typed c passed (Store how g) None o is ok e = absurd (let k = ok.set in cc)
 operation-typed c passed (Store how g) (Some kind) o is ok e =
     store-kind c how g kind o is (not-false _ ok.allowed) ok.writable e
-operation-typed c passed (Combine operator negated g nonzero) None o is ok e = absurd (cc)
 operation-typed c passed (Combine operator negated g nonzero) (Some kind) o is ok e =
     let both = and_parts (works operator negated kind) (fits kind g) (not-false _ ok.allowed) in
     combine-kind c operator negated g nonzero kind (operand_in kind g) o is.0 is.1 both.0 ok.nonzero
@@ -411,9 +405,7 @@ operation-typed c passed (Convert conversion) (Some kind) o is ok e =
     subst (λ (y : SimpleOperation). IsOperation c y (Some kind)
     (Some (rules.converted_to conversion))) (same_Some (op.Convert conversion) o e)
     (ap Some (same-is kind (converted_from conversion) (not-false _ ok.allowed)), refl)
-operation-typed c passed (Jump condition label) t o is ok e = absurd (cc)
-operation-typed c passed (Return condition) t o is ok e = absurd (cc)
-operation-typed c passed (Call what args) t o is ok e = absurd (cc)
+operation-typed c passed r t o is ok e = absurd (cc)
 
 -- where no operation is left of an instruction that is right, the result stays, or is not set
 pub left-same : (c : Checked) (passed : ℕ) (r : Resolved) (t : Option ElementaryType) → IsFound c r
@@ -440,6 +432,4 @@ operation-goes-on (Store how g) t o e = (refl, refl)
 operation-goes-on (Combine operator negated g nonzero) t o e = (refl, refl)
 operation-goes-on Not t o e = (refl, refl)
 operation-goes-on (Convert conversion) t o e = (refl, refl)
-operation-goes-on (Jump condition label) t o e = absurd (cc)
-operation-goes-on (Return condition) t o e = absurd (cc)
-operation-goes-on (Call what args) t o e = absurd (cc)
+operation-goes-on r t o e = absurd (cc)

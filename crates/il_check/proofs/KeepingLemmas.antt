@@ -137,20 +137,18 @@ module _ (c : Checked) (names : Names) (items : List text.Entry)
   variable-kept : (name : List ℕ) (m : Option Meaning) (kind : ElementaryType) (x : TypedOperand)
       → names.meaning name ≡ m → operand_in kind (variable_given m) ≡ Some x
       → IsOperandOf c (text.variable (text.named name)) x
-  variable-kept name None kind x is e = absurd (cc)
   variable-kept name (Some (meaning.Variable s k w)) kind x is e =
       subst (IsOperandOf c (text.variable (text.named name)))
       (cond_some (same_type k kind) (operand.Slot s) x e).1 (named-slot name s k w is)
-  variable-kept name (Some (meaning.Timer n)) kind x is e = absurd (cc)
+  variable-kept name m kind x is e = absurd (cc)
 
   output-kept : (timer : List ℕ) (what : Output) (m : Option Meaning) (kind : ElementaryType)
       (x : TypedOperand) → names.meaning timer ≡ m → operand_in kind (output_given m what) ≡ Some x
       → IsOperandOf c (text.variable (text.output timer what)) x
-  output-kept timer what None kind x is e = absurd (cc)
-  output-kept timer what (Some (meaning.Variable s k w)) kind x is e = absurd (cc)
   output-kept timer what (Some (meaning.Timer n)) kind x is e =
       subst (IsOperandOf c (text.variable (text.output timer what)))
       (cond_some _ (operand.Output n what) x e).1 (named-timer timer n is, refl)
+  output-kept timer what m kind x is e = absurd (cc)
 
   source-kept : (source : text.Source) (kind : ElementaryType) (x : TypedOperand)
       → operand_in kind (source_given names source) ≡ Some x → IsOperandOf c source x
@@ -162,11 +160,10 @@ module _ (c : Checked) (names : Names) (items : List text.Entry)
 
   named-target : (name : List ℕ) (m : Option Meaning) (s : Slot) → names.meaning name ≡ m
       → target_slot (variable_given m) ≡ Some s → slot_name c s ≡ Some (upper name)
-  named-target name None s is e = absurd (cc)
   named-target name (Some (meaning.Variable r k w)) s is e =
       subst (λ (y : Slot). slot_name c y ≡ Some (upper name)) (same_Some r s e)
       (named-slot name r k w is)
-  named-target name (Some (meaning.Timer n)) s is e = absurd (cc)
+  named-target name m s is e = absurd (cc)
 
   no-target : (what : Output) (m : Option Meaning) (s : Slot)
       → target_slot (output_given m what) ≡ Some s → ⊥
@@ -222,16 +219,13 @@ module _ (c : Checked) (names : Names) (items : List text.Entry)
       load-typed negated source (load_type (source_given names source)) o e
   operation-kept (text.store how place) t o e =
       store-kept how place (target_slot (place_given names place)) o refl e
-  operation-kept (text.combine operator negated source) None o e = absurd (cc)
   operation-kept (text.combine operator negated source) (Some kind) o e =
       combine-kept operator negated source kind (operand_in kind (source_given names source)) o refl
       e
   operation-kept text.invert t o e = subst (IsOperationOf c text.invert) (same_Some op.Not o e) tt
   operation-kept (text.convert conversion) t o e =
       subst (IsOperationOf c (text.convert conversion)) (same_Some (op.Convert conversion) o e) refl
-  operation-kept (text.jump condition name) t o e = absurd (cc)
-  operation-kept (text.leave condition) t o e = absurd (cc)
-  operation-kept (text.call timer args) t o e = absurd (cc)
+  operation-kept a t o e = absurd (cc)
 
   -- ---- an operation is left of an instruction that is right
 
@@ -276,9 +270,7 @@ module _ (c : Checked) (names : Names) (items : List text.Entry)
       (and_parts (works operator negated kind) (fits kind g) (not-false _ ok.allowed)).1
   operation-some text.invert passed t may ok = refl
   operation-some (text.convert conversion) passed t may ok = refl
-  operation-some (text.jump condition name) passed t may ok = absurd (cc)
-  operation-some (text.leave condition) passed t may ok = absurd (cc)
-  operation-some (text.call timer args) passed t may ok = absurd (cc)
+  operation-some a passed t may ok = absurd (cc)
 
   -- ---- parentheses
 
@@ -292,10 +284,9 @@ module _ (c : Checked) (names : Names) (items : List text.Entry)
       (inner t : Option ElementaryType) (xs : Entries) → combines_unset inner t ≡ false
       → AreEntriesOf c es xs
       → Kept (text.block line operator negated es end) (block_in operator negated xs t)
-  block-case line operator negated es end None t xs set is = absurd (cc)
-  block-case line operator negated es end (Some k) None xs set is = absurd (cc)
   block-case line operator negated es end (Some k) (Some kind) xs set is =
       record { what = block operator kind negated xs; is = refl; keeps = (refl, refl, is) }
+  block-case line operator negated es end inner t xs set is = absurd (cc)
 
   entries-kept : (room passed : ℕ) (es : text.Entries) (t : Option ElementaryType)
       → AreRightEntries names room passed es t → all_inner es ≡ true
@@ -368,11 +359,10 @@ module _ (c : Checked) (names : Names) (items : List text.Entry)
       (o p : Option TypedArgument) (xs : TypedArguments)
       → typed_argument (argument_given names a) ≡ o → typed_argument (argument_given names b) ≡ p
       → two_arguments o p ≡ Some xs → AreArgumentsOf c (a ∷ b ∷ more) xs
-  two-kept-of a b more None p xs is also e = absurd (cc)
-  two-kept-of a b more (Some x) None xs is also e = absurd (cc)
   two-kept-of a b more (Some x) (Some y) xs is also e =
       subst (AreArgumentsOf c (a ∷ b ∷ more)) (same_Some (typed.Two x y) xs e)
       (argument-kept a x is, argument-kept b y also)
+  two-kept-of a b more o p xs is also e = absurd (cc)
 
   arguments-kept : (args : List (Input × text.Source)) (xs : TypedArguments)
       → arguments_in (arguments_given names args) ≡ Some xs → AreArgumentsOf c args xs

@@ -51,11 +51,10 @@ one-typed c a (Some x) xs given is e =
 two-typed : (c : Checked) (a b : GivenArgument) (v w : Option TypedArgument) (xs : TypedArguments)
     → IsGiven c a.given → IsGiven c b.given → typed_argument a ≡ v → typed_argument b ≡ w
     → two_arguments v w ≡ Some xs → AreArguments c xs
-two-typed c a b None w xs given more is also e = absurd (cc)
-two-typed c a b (Some x) None xs given more is also e = absurd (cc)
 two-typed c a b (Some x) (Some y) xs given more is also e =
     subst (AreArguments c) (same_Some (typed.Two x y) xs e)
     (argument-typed c a x given is, argument-typed c b y more also)
+two-typed c a b v w xs given more is also e = absurd (cc)
 
 arguments-typed : (c : Checked) (args : GivenArguments) (xs : TypedArguments) → AreGiven c args
     → arguments_in args ≡ Some xs → AreArguments c xs
@@ -112,12 +111,6 @@ pub transfer-typed : (c : Checked) (below : List Item) (passed : ℕ) (r : Resol
     (t : Option ElementaryType) (x : Transfer) → IsFound c r → IsRight passed r t
     → ((n : ℕ) → rules.target_of r ≡ Some n → has_label below n ≡ true)
     → transfer_in r ≡ Some x → IsMoved c below r t x
-transfer-typed c below passed (Load negated g) t x is ok there e = absurd (cc)
-transfer-typed c below passed (Store how g) t x is ok there e = absurd (cc)
-transfer-typed c below passed (Combine operator negated g nonzero) t x is ok there e = absurd (cc)
-transfer-typed c below passed Not t x is ok there e = absurd (cc)
-transfer-typed c below passed (Convert conversion) t x is ok there e = absurd (cc)
-transfer-typed c below passed (Jump condition None) t x is ok there e = absurd (cc)
 transfer-typed c below passed (Jump condition (Some n)) t x is ok there e =
     subst (IsMoved c below (Jump condition (Some n)) t) (same_Some (go.Jump condition n) x e)
     (record {
@@ -132,10 +125,9 @@ transfer-typed c below passed (Return condition) t x is ok there e =
       target = refl;
       goes = behind-same condition t;
     })
-transfer-typed c below passed (Call called.Missing args) t x is ok there e = absurd (cc)
-transfer-typed c below passed (Call called.Misused args) t x is ok there e = absurd (cc)
 transfer-typed c below passed (Call (called.Timer n) args) t x is ok there e =
     call-case c below n args (arguments_in args) t x is.0 is.1 refl e
+transfer-typed c below passed r t x is ok there e = absurd (cc)
 
 one-some : (o : Option TypedArgument) → is_some o ≡ true → is_some (one_argument o) ≡ true
 one-some None e = absurd (cc)
@@ -143,9 +135,8 @@ one-some (Some x) e = refl
 
 two-some : (o p : Option TypedArgument) → is_some o ≡ true → is_some p ≡ true
     → is_some (two_arguments o p) ≡ true
-two-some None p e f = absurd (cc)
-two-some (Some x) None e f = absurd (cc)
 two-some (Some x) (Some y) e f = refl
+two-some o p e f = absurd (cc)
 
 argument-some : (a : GivenArgument) → argument_fits a ≡ true → is_some (typed_argument a) ≡ true
 argument-some a e =
