@@ -165,26 +165,14 @@ InRange names count = (name : List ℕ) (n : ℕ) → names.label name ≡ Some 
 
 pub target-in : (names : Names) (count : ℕ) (a : text.Action) (n : ℕ) → InRange names count
     → target_of (resolution_of names a) ≡ Some n → n < count
-target-in names count (text.load negated source) n range e = absurd (cc)
-target-in names count (text.store kind place) n range e = absurd (cc)
-target-in names count (text.combine operator negated source) n range e = absurd (cc)
-target-in names count text.invert n range e = absurd (cc)
-target-in names count (text.convert conversion) n range e = absurd (cc)
 target-in names count (text.jump condition name) n range e = range name n e
-target-in names count (text.leave condition) n range e = absurd (cc)
-target-in names count (text.call timer arguments) n range e = absurd (cc)
+target-in names count a n range e = absurd (cc)
 
 pub target-ahead : (passed : ℕ) (r : Resolved) (n : ℕ) → target_of r ≡ Some n
     → jumps_back passed r ≡ false → passed ≤ n
-target-ahead passed (Load negated given) n e h = absurd (cc)
-target-ahead passed (Store how target) n e h = absurd (cc)
-target-ahead passed (Combine operator negated given is_nonzero) n e h = absurd (cc)
-target-ahead passed Not n e h = absurd (cc)
-target-ahead passed (Convert conversion) n e h = absurd (cc)
 target-ahead passed (Jump condition label) n e h =
     ahead passed n (subst (λ (l : Option ℕ). jumps_back passed (Jump condition l) ≡ false) e h)
-target-ahead passed (Return condition) n e h = absurd (cc)
-target-ahead passed (Call called arguments) n e h = absurd (cc)
+target-ahead passed r n e h = absurd (cc)
 
 -- ---- what jumps have brought
 

@@ -395,17 +395,13 @@ external-upper : (points : List Point) (d : text.Declared) (s : Scope) (k : Decl
     (e : External) → external_in points d s k ≡ Some e → upper e.name ≡ e.name
 external-upper points d scope.External (type.Elementary kind) e h =
     upper-external d.name kind (point_of points d.name) e h
-external-upper points d scope.External (type.Timer kind) e h = absurd cc
-external-upper points d scope.Local (type.Elementary kind) e h = absurd cc
-external-upper points d scope.Local (type.Timer kind) e h = absurd cc
+external-upper points d s k e h = absurd cc
 
 variable-upper : (d : text.Declared) (s : Scope) (k : DeclaredType) (v : Variable)
     → variable_in d s k ≡ Some v → upper v.name ≡ v.name
 variable-upper d scope.Local (type.Elementary kind) v h =
     upper-variable d.name (initial_in kind d.initial) v h
-variable-upper d scope.Local (type.Timer kind) v h = absurd cc
-variable-upper d scope.External (type.Elementary kind) v h = absurd cc
-variable-upper d scope.External (type.Timer kind) v h = absurd cc
+variable-upper d s k v h = absurd cc
 
 timer-upper : (d : text.Declared) (k : DeclaredType) (t : Timer) → timer_in d k ≡ Some t
     → upper t.name ≡ t.name

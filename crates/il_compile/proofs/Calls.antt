@@ -33,15 +33,8 @@ record Takes (i : Input) (v : Value) (t : TimerState) : Type 0 where
 
 takes : (i : Input) (v : Value) (t : TimerState) → type_of v ≡ rules.input_type i → Takes i v t
 takes In (Truth b) t e = record { new = record t { input = b }; is = refl; kind = refl }
-takes In (Short z) t e = absurd cc
-takes In (Long z) t e = absurd cc
-takes In (Wide z) t e = absurd cc
-takes In (Span z) t e = absurd cc
 takes Pt (Span n) t e = record { new = record t { preset = n }; is = refl; kind = refl }
-takes Pt (Truth b) t e = absurd cc
-takes Pt (Short z) t e = absurd cc
-takes Pt (Long z) t e = absurd cc
-takes Pt (Wide z) t e = absurd cc
+takes i v t e = absurd cc
 
 module _ (c : Checked) (now : ℕ) (n : ℕ) (below : n < length c.timers) where
   -- what code leaves of a memory, with the same cells

@@ -255,20 +255,10 @@ module _ (c : Checked) where
   may-be-written n h = not-fixed c.externals c.variables n h
 
   keeps-read-only : (i : Instr) → Keeps c i → writes_read_only (slots_of (image_of c)) i ≡ false
-  keeps-read-only (Slot Load n) h = refl
   keeps-read-only (Slot Store n) h = may-be-written n h
   keeps-read-only (Slot SetIf n) h = may-be-written n h
   keeps-read-only (Slot ResetIf n) h = may-be-written n h
-  keeps-read-only Halt h = refl
-  keeps-read-only (Push v) h = refl
-  keeps-read-only Drop h = refl
-  keeps-read-only Not h = refl
-  keeps-read-only (Combine x) h = refl
-  keeps-read-only (Compute o w) h = refl
-  keeps-read-only (Compare x) h = refl
-  keeps-read-only (Widen w) h = refl
-  keeps-read-only (Jump when distance) h = refl
-  keeps-read-only (Timer timer_use n) h = refl
+  keeps-read-only i h = refl
 
   pub writes : IsTyped c → Each IsInstr (program_code c) → KeepsReadOnly (image_of c)
   writes ok are place i next p e = keeps-read-only i (keeps-at c ok are place i next p e)

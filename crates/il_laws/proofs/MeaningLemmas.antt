@@ -153,9 +153,6 @@ no-outcome operator.Div Div kind a b z s e h =
     no-quotient a h.0 (subst (λ (x : ℤ). IsQuotient a x h.0) ((is-equal b (pos 0)).0 e) h.1)
 no-outcome operator.Mod Mod kind a b z s e h =
     no-quotient a h.0 (subst (λ (x : ℤ). IsQuotient a x h.0) ((is-equal b (pos 0)).0 e) h.1)
-no-outcome operator.Add Add kind a b z s e h = absurd (cc)
-no-outcome operator.Sub Sub kind a b z s e h = absurd (cc)
-no-outcome operator.Mul Mul kind a b z s e h = absurd (cc)
 no-outcome operator o kind a b z s e h = absurd (cc)
 
 some-divisor : (o : Operation) (b : ℤ) → divides o && int_eq b (pos 0) ≡ false → DividesBy o b

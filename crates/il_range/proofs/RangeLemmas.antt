@@ -31,19 +31,11 @@ in-exactly (Span n) = (same-le (pos n), same-le (pos n))
 
 false-truth : (v : Value) → IsFalseValue v → IsTruth v
 false-truth (Truth false) h = tt
-false-truth (Truth true) h = absurd h
-false-truth (Short z) h = absurd h
-false-truth (Long z) h = absurd h
-false-truth (Wide z) h = absurd h
-false-truth (Span n) h = absurd h
+false-truth v h = absurd h
 
 true-truth : (v : Value) → IsTrueValue v → IsTruth v
 true-truth (Truth true) h = tt
-true-truth (Truth false) h = absurd h
-true-truth (Short z) h = absurd h
-true-truth (Long z) h = absurd h
-true-truth (Wide z) h = absurd h
-true-truth (Span n) h = absurd h
+true-truth v h = absurd h
 
 lower-left : (a c n : ℤ) → a ≤ℤ n → lower a c ≤ℤ n
 lower-left a c n h = grind (arith, ints)

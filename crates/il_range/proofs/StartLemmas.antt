@@ -158,14 +158,8 @@ kept-by (p ∷ points) more h = (go p.writable, kept-by points more h)
 
 truth-by : (v u : Value) → type_of u ≡ type_of v → IsTruth v → IsTruth u
 truth-by (Truth b) (Truth c) e h = tt
-truth-by (Truth b) (Short z) e h = absurd (cc)
-truth-by (Truth b) (Long z) e h = absurd (cc)
-truth-by (Truth b) (Wide z) e h = absurd (cc)
-truth-by (Truth b) (Span n) e h = absurd (cc)
-truth-by (Short z) u e h = absurd h
-truth-by (Long z) u e h = absurd h
-truth-by (Wide z) u e h = absurd h
-truth-by (Span n) u e h = absurd h
+truth-by (Truth b) u e h = absurd (cc)
+truth-by v u e h = absurd h
 
 in-by : (v u : Value) (r : Range) → IsByType r → type_of u ≡ type_of v → IsIn v r → IsIn u r
 in-by v u Any b e h = tt

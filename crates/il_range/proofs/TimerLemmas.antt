@@ -116,11 +116,7 @@ short-output true preset m Held (Some below) (Between low high) y i s =
     short-since preset m m below low high y i s
 short-output true preset m (Since start) (Some below) (Between low high) y i s =
     short-since preset m start below low high y i s
-short-output true preset m phase None p y i s = absurd (cc)
-short-output true preset m phase (Some below) Any y i s = absurd (cc)
-short-output true preset m phase (Some below) No y i s = absurd (cc)
-short-output true preset m phase (Some below) Yes y i s = absurd (cc)
-short-output true preset m phase (Some below) Either y i s = absurd (cc)
+short-output true preset m phase below p y i s = absurd (cc)
 
 -- FALSE where the delay is short, else either
 of-short : (b short : Bool) → (short ≡ true → b ≡ false)
@@ -146,11 +142,7 @@ of-output OnDelay b phase preset m (Some OnDelay) Any short h g none =
     of-short _ short (none refl)
 of-output OnDelay b phase preset m (Some OnDelay) (Between l u) short h g none =
     of-short _ short (none refl)
-of-output k b phase preset m None r short h g none = tt
-of-output OffDelay b phase preset m (Some OffDelay) No short h g none = tt
-of-output OffDelay b phase preset m (Some OffDelay) Either short h g none = tt
-of-output OffDelay b phase preset m (Some OffDelay) Any short h g none = tt
-of-output OffDelay b phase preset m (Some OffDelay) (Between l u) short h g none = tt
+of-output k b phase preset m known r short h g none = tt
 
 elapsed-up : (preset m : ℕ) (phase : TimerPhase) → elapsed_of preset phase m ≤ preset
 elapsed-up preset m Idle = omega arith
