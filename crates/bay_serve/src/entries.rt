@@ -16,6 +16,7 @@ pub struct Entries<T> {
 
 impl<T> Model for Entries<T> {
     ghost use Rattle.std.specs.Prelude.{◌≡◌, ◌≤◌, List, length, take};
+    ghost use Rattle.bay_device.specs.Outcomes.{associations};
 
     ghost Value = { List T };
 

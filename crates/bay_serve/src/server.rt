@@ -37,6 +37,7 @@ impl Model for Server {
     ghost use Rattle.bay_serve.specs.Turns.{Held};
     ghost use Rattle.std.specs.Coded.{codes};
     ghost use Rattle.std.specs.Prelude.{◌≡◌, length};
+    ghost use Rattle.bay_device.specs.Outcomes.{associations};
 
     ghost Value = { Held };
 
