@@ -4,6 +4,5 @@ use Rattle.bay_report.proofs.lines.put_switch.Goals as goal
 
 pub returns : goal.returns
 returns g c =
-    Puts-then (Puts-then (Puts-then (c.put.ensures) (Puts-as _ c.as_bytes.ensures.value
-    c.put_short.ensures)) (c.put-2.ensures)) (Puts-as _ (c.as_slice.ensures ∙ c.digits.ensures)
-    c.put-3.ensures)
+    Puts-then (Puts-then (c.put.ensures) (Puts-as _ c.as_bytes.ensures.value c.put_short.ensures))
+    (Puts-as _ (c.as_slice.ensures ∙ c.enabled.ensures) c.put-2.ensures)
