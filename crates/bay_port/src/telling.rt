@@ -6,7 +6,6 @@ ghost use Rattle.bay_port.specs.Telling.{PutsWhole, refusal_text, text_of, told_
 use bay_device::device::Device;
 use bay_lines::kept::Kept;
 use bay_nodes::switch::Operation;
-use bay_report::lines::order;
 use bay_serve::told::Turn;
 use bay_services::answer::Command;
 use itoa::Buffer;
@@ -61,6 +60,10 @@ fn put_refusal(queue: &mut Queue, moment: u64, refused: Option<u8>) -> bool
 fn put_command_line(queue: &mut Queue, moment: u64, id: &str, operation: Operation) -> bool
     ensures { PutsWhole queue.old (command_line moment id.now operation) queue.new result }
 {
+    let order: &[u8] = match operation {
+        Operation::Open => b" off\n",
+        Operation::Close => b" on\n",
+    };
     let mut moments = Buffer::new();
     put_parts(
         queue,
@@ -68,7 +71,7 @@ fn put_command_line(queue: &mut Queue, moment: u64, id: &str, operation: Operati
             moments.format(moment).as_bytes(),
             b" command ",
             id.as_bytes(),
-            order(operation),
+            order,
         ],
     )
 }

@@ -150,8 +150,8 @@ fn put_ended<W: Sink>(writer: &mut WatchedWriter<W>, moment: u64, ended: &Option
     }
 }
 
-/// Returns the end of a command's line.
-pub fn order(operation: Operation) -> &'static [u8]
+// Returns the end of a command's line.
+fn order(operation: Operation) -> &'static [u8]
     ensures { result.now ≡ order_text operation }
 {
     match operation {
