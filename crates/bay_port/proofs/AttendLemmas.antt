@@ -85,6 +85,24 @@ module _ {L : Type 0} (step : L → Call → L → Type 0) where
         }) fit);
       }
 
+  -- ---- where a part leads
+
+  led : (r : Result PortData Parting) (calls : List Call) (after : PortData)
+      → Leads r after (Ok tt)
+      → (let p : Part = record { after = r; calls = calls } in p)
+      ≡ record { after = Ok after; calls = calls }
+  led (Ok p) calls after leads =
+      ap (λ q. let p : Part = record { after = Ok q; calls = calls } in p) (sym leads)
+  led (Err why) calls after leads = absurd leads
+
+  ended : (r : Result PortData Parting) (calls : List Call) (after : PortData) (why : Parting)
+      → Leads r after (Err why)
+      → (let p : Part = record { after = r; calls = calls } in p)
+      ≡ record { after = Err why; calls = calls }
+  ended (Ok p) calls after why leads = absurd leads
+  ended (Err w) calls after why leads =
+      ap (λ v. let p : Part = record { after = Err v; calls = calls } in p) (sym leads)
+
   -- ---- one after the other
 
   record Ran (old new : L) (part : Part) (after : PortData) (answer : Result (Unit {0}) Parting)
@@ -288,37 +306,19 @@ module _ {L : Type 0} (step : L → Call → L → Type 0) where
       (first_part (script.heard, script.again) (emptied Here before)))
       old new after (Some Opened)
   welcomes-taken old new before after does =
-      by-part (first_part does.answers (emptied Here before)) refl does.talks does.leads
-    where
-      script : Script
-      script = record {
-        accepted = None;
-        taken = None;
-        heard = does.answers.0;
-        again = does.answers.1;
+      let part = first_part does.answers (emptied Here before) in
+      let is = led part.after part.calls after does.leads in
+      record {
+        script = record {
+          accepted = None;
+          taken = None;
+          heard = does.answers.0;
+          again = does.answers.1;
+        };
+        talks = rw is does.talks;
+        port = rw is refl;
+        news_is = rw is refl;
       }
-
-      by-part : (part : Part) → first_part does.answers (emptied Here before) ≡ part
-          → Talks step old part.calls new → Leads part.after after (Ok tt)
-          → Attends step (λ script. welcomed before
-          (first_part (script.heard, script.again) (emptied Here before)))
-          old new after (Some Opened)
-      by-part part is talks leads = by-after part.after part.calls is talks leads
-        where
-          by-after : (r : Result PortData Parting) (calls : List Call)
-              → first_part does.answers (emptied Here before) ≡ record { after = r; calls = calls }
-              → Talks step old calls new → Leads r after (Ok tt)
-              → Attends step
-              (λ script. welcomed before
-              (first_part (script.heard, script.again) (emptied Here before)))
-              old new after (Some Opened)
-          by-after (Ok p) calls is talks leads = record {
-            script = script;
-            talks = rw is talks;
-            port = rw is leads;
-            news_is = rw is refl;
-          }
-          by-after (Err why) calls is talks leads = absurd leads
 
   -- or it has gone
   pub welcomes-gone : (old mid new : L) (before after : PortData) (why : Parting)
@@ -327,39 +327,20 @@ module _ {L : Type 0} (step : L → Call → L → Type 0) where
       (first_part (script.heard, script.again) (emptied Here before)))
       old new (emptied Away before) None
   welcomes-gone old mid new before after why does closes =
-      by-part (first_part does.answers (emptied Here before)) refl does.talks does.leads
-    where
-      script : Script
-      script = record {
-        accepted = None;
-        taken = None;
-        heard = does.answers.0;
-        again = does.answers.1;
+      let part = first_part does.answers (emptied Here before) in
+      let is = ended part.after part.calls after why does.leads in
+      record {
+        script = record {
+          accepted = None;
+          taken = None;
+          heard = does.answers.0;
+          again = does.answers.1;
+        };
+        talks = rw is (Talks-append step old mid new part.calls (Closes 1 ∷ []) does.talks
+            (new, closes, refl));
+        port = rw is refl;
+        news_is = rw is refl;
       }
-
-      by-part : (part : Part) → first_part does.answers (emptied Here before) ≡ part
-          → Talks step old part.calls mid → Leads part.after after (Err why)
-          → Attends step (λ script. welcomed before
-          (first_part (script.heard, script.again) (emptied Here before)))
-          old new (emptied Away before) None
-      by-part part is talks leads = by-after part.after part.calls is talks leads
-        where
-          by-after : (r : Result PortData Parting) (calls : List Call)
-              → first_part does.answers (emptied Here before) ≡ record { after = r; calls = calls }
-              → Talks step old calls mid → Leads r after (Err why)
-              → Attends step
-              (λ script. welcomed before
-              (first_part (script.heard, script.again) (emptied Here before)))
-              old new (emptied Away before) None
-          by-after (Ok p) calls is talks leads = absurd leads
-          by-after (Err w) calls is talks leads = record {
-            script = script;
-            talks =
-                rw is (Talks-append step old mid new calls (Closes 1 ∷ []) talks
-                (new, closes, refl));
-            port = rw is refl;
-            news_is = rw is refl;
-          }
 
   module _ (text : List ℕ) (s : State) (old mid : L) (before after : PortData) where
     attended-here : (script : Script) → before.standing ≡ Here
@@ -372,45 +353,23 @@ module _ {L : Type 0} (step : L → Call → L → Type 0) where
         → Does step (talk_part text s) old mid before after (Ok tt)
         → Attends step (λ script. attendance text s script before) old mid after None
     attends-kept here does =
+        let part = talk_part text s does.answers before in
+        let is = led part.after part.calls after does.leads in
         attends-as (λ script. attendance text s script before)
         (λ script. attended_here before (talk_part text s (script.taken, script.heard) before))
         old mid after
         None (λ script. attended-here script here)
-        (by-part (talk_part text s does.answers before) refl does.talks does.leads)
-      where
-        script : Script
-        script =
-            record {
-              accepted = None;
-              taken = does.answers.0;
-              heard = does.answers.1;
-              again = Silence;
-            }
-
-        by-part : (part : Part) → talk_part text s does.answers before ≡ part
-            → Talks step old part.calls mid → Leads part.after after (Ok tt)
-            → Attends step
-            (λ script. attended_here before (talk_part text s (script.taken, script.heard) before))
-            old mid
-            after None
-        by-part part is talks leads = by-after part.after part.calls is talks leads
-          where
-            by-after : (r : Result PortData Parting) (calls : List Call)
-                → talk_part text s does.answers before ≡ record { after = r; calls = calls }
-                → Talks step old calls mid → Leads r after (Ok tt)
-                → Attends step
-                (λ script. attended_here before
-                (talk_part text s (script.taken, script.heard) before))
-                old
-                mid
-                after None
-            by-after (Ok p) calls is talks leads = record {
-              script = script;
-              talks = rw is talks;
-              port = rw is leads;
-              news_is = rw is refl;
-            }
-            by-after (Err why) calls is talks leads = absurd leads
+        (record {
+          script = record {
+            accepted = None;
+            taken = does.answers.0;
+            heard = does.answers.1;
+            again = Silence;
+          };
+          talks = rw is does.talks;
+          port = rw is refl;
+          news_is = rw is refl;
+        })
 
     -- or it is closed
     pub attends-closed : (new : L) (why : Parting) → before.standing ≡ Here
@@ -418,47 +377,24 @@ module _ {L : Type 0} (step : L → Call → L → Type 0) where
         → Attends step (λ script. attendance text s script before) old new (emptied Leaving before)
         (Some (Closed why))
     attends-closed new why here does closes =
+        let part = talk_part text s does.answers before in
+        let is = ended part.after part.calls after why does.leads in
         attends-as (λ script. attendance text s script before)
         (λ script. attended_here before (talk_part text s (script.taken, script.heard) before))
         old new
         (emptied Leaving before) (Some (Closed why)) (λ script. attended-here script here)
-        (by-part (talk_part text s does.answers before) refl does.talks does.leads)
-      where
-        script : Script
-        script =
-            record {
-              accepted = None;
-              taken = does.answers.0;
-              heard = does.answers.1;
-              again = Silence;
-            }
-
-        by-part : (part : Part) → talk_part text s does.answers before ≡ part
-            → Talks step old part.calls mid → Leads part.after after (Err why)
-            → Attends step
-            (λ script. attended_here before (talk_part text s (script.taken, script.heard) before))
-            old new
-            (emptied Leaving before) (Some (Closed why))
-        by-part part is talks leads = by-after part.after part.calls is talks leads
-          where
-            by-after : (r : Result PortData Parting) (calls : List Call)
-                → talk_part text s does.answers before ≡ record { after = r; calls = calls }
-                → Talks step old calls mid → Leads r after (Err why)
-                → Attends step
-                (λ script. attended_here before
-                (talk_part text s (script.taken, script.heard) before))
-                old
-                new
-                (emptied Leaving before) (Some (Closed why))
-            by-after (Ok p) calls is talks leads = absurd leads
-            by-after (Err w) calls is talks leads = record {
-              script = script;
-              talks =
-                  rw is (Talks-append step old mid new calls (Closes 1 ∷ []) talks
-                  (new, closes, refl));
-              port = rw is refl;
-              news_is = rw is (ap (λ w. Some (Closed w)) leads);
-            }
+        (record {
+          script = record {
+            accepted = None;
+            taken = does.answers.0;
+            heard = does.answers.1;
+            again = Silence;
+          };
+          talks = rw is (Talks-append step old mid new part.calls (Closes 1 ∷ []) does.talks
+              (new, closes, refl));
+          port = rw is refl;
+          news_is = rw is refl;
+        })
 
     -- a process that has gone
     pub attends-leaving : before.standing ≡ Leaving
