@@ -1,5 +1,5 @@
 -- What is logged of a server, line by line.
-use Rattle.std.specs.Prelude.{ℕ, ℤ, ◌==◌, List, [], ◌∷◌, ◌++◌, codes, map, slice_get, slice_index, Option, None, Some, option_map, unwrap_or, Result, Ok, Err, unsigned_abs, if◌then◌else◌}
+use Rattle.std.specs.Prelude.{Bool, false, true, ℕ, ℤ, ◌==◌, List, [], ◌∷◌, ◌++◌, codes, map, slice_get, slice_index, Option, None, Some, option_map, unwrap_or, Result, Ok, Err, unsigned_abs, if◌then◌else◌}
 use Rattle.std.specs.Int.{is_negative}
 use Rattle.std.specs.List.{flat_map}
 use Rattle.std.specs.Fmt.{decimal}
@@ -137,9 +137,13 @@ verdict_words (Err ObjectNotSelected) =
     codes ": refused 18: the association has not selected the switch for this\n"
 
 -- the position that is asked for
+abbrev pub is_close : Operation → Bool
+is_close operations.Open = false
+is_close operations.Close = true
+
 abbrev pub position_words : Operation → List ℕ
-position_words operations.Open = codes " off orCat="
-position_words operations.Close = codes " on orCat="
+position_words operation =
+    if is_close operation then codes " on orCat=" else codes " off orCat="
 
 abbrev pub sign_text : ℤ → List ℕ
 sign_text number = if is_negative number then codes "-" else []
