@@ -135,7 +135,7 @@ pub record Since (m : ℕ) (past : List Past) (s : State) : Type 0 where
 
 -- the last scan is so, where it is not stale
 pub record Tracks (past : List Past) (s : State) : Type 0 where
-  since_scan : (m : ℕ) → s.last_scan ≡ Some m → s.is_stale ≡ false → Since m past s
+  pub since_scan : (m : ℕ) → s.last_scan ≡ Some m → s.is_stale ≡ false → Since m past s
 
 pub tracks-first : (first : State) → Came [] first → Tracks [] first
 tracks-first first came = record {
