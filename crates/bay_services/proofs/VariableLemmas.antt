@@ -221,6 +221,7 @@ one-more c tells asks named asked controls before next after whole accepted entr
           (ap (λ (a : Option Act). entries_of c.now a (tells one.part)) same ∙ one.told) rest.told;
     }
 
+-- what is accepted of variables that are read is told in their results
 abbrev pub AllRead : Client → Bay → Bay → List Naming → Reading → Type 0
 AllRead c n b ns r =
     AllTold (read_accepted c.now c.association n ns) (read_entries c b ns r) r.results
@@ -290,6 +291,7 @@ write-row-is c b given w row =
 
 -- ---- all variables that are written
 
+-- what is accepted of variables that are written is told in their results
 abbrev pub AllWritten : Client → Bay → Bay → List Naming → List Datum → Writing → Type 0
 AllWritten c n b ns values w =
     AllTold (write_accepted c.now c.association n ns values) (write_entries c b ns values w)
