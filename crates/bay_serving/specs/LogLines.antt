@@ -136,11 +136,12 @@ verdict_words (Err TimeLimitOver) =
 verdict_words (Err ObjectNotSelected) =
     codes ": refused 18: the association has not selected the switch for this\n"
 
--- the position that is asked for
+-- an operation closes
 abbrev pub is_close : Operation → Bool
 is_close operations.Open = false
 is_close operations.Close = true
 
+-- the position that is asked for
 abbrev pub position_words : Operation → List ℕ
 position_words operation =
     if is_close operation then codes " on orCat=" else codes " off orCat="
