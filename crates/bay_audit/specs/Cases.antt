@@ -2,12 +2,12 @@
 use Rattle.std.specs.Prelude.{ℕ, ℤ, ◌+ℤ◌, negsuc, pos, int_le, int_lt, Bool, true, false, not, ◌&&◌, ◌||◌, ◌==◌, List, fold, if◌then◌else◌}
 use Rattle.std.specs.Bool.{beq}
 use Rattle.std.specs.List.{list_all}
-use Rattle.bay_config.specs.declared.bay.MeterField.{MeterField}
-use Rattle.bay_config.specs.declared.bay.MeterField.TheVariants.{TotW, TotVAr, Hz, PhaseA, PhaseB, PhaseC}
-use Rattle.bay_config.specs.declared.bay.Source.{Source}
-use Rattle.bay_config.specs.declared.bay.Source.TheVariants as source
-use Rattle.bay_config.specs.declared.bay.SwitchPoint.{SwitchPoint}
-use Rattle.bay_config.specs.declared.bay.SwitchPoint.TheVariants.{Position, Open, Closed, EnableOpen, EnableClose}
+use Rattle.bay_base.specs.declared.point.MeterField.{MeterField}
+use Rattle.bay_base.specs.declared.point.MeterField.TheVariants.{TotW, TotVAr, Hz, PhaseA, PhaseB, PhaseC}
+use Rattle.bay_base.specs.declared.point.Source.{Source}
+use Rattle.bay_base.specs.declared.point.Source.TheVariants as source
+use Rattle.bay_base.specs.declared.point.SwitchPoint.{SwitchPoint}
+use Rattle.bay_base.specs.declared.point.SwitchPoint.TheVariants.{Position, Open, Closed, EnableOpen, EnableClose}
 use Rattle.bay_tree.specs.declared.leaf.Dbpos.{Dbpos}
 use Rattle.bay_tree.specs.declared.leaf.Dbpos.TheVariants.{Intermediate, Off, On, Bad}
 use Rattle.il_range.specs.declared.range.Range.{Range}

@@ -1,8 +1,8 @@
 -- What the points of a program read of what the process reports.
 use Rattle.std.specs.Prelude.{ℕ, ◌≤ℤ◌, negsuc, pos, Some}
-use Rattle.bay_config.specs.declared.bay.MeterField.{MeterField}
-use Rattle.bay_config.specs.declared.bay.Source.{Source}
-use Rattle.bay_config.specs.declared.bay.Source.TheVariants as source
+use Rattle.bay_base.specs.declared.point.MeterField.{MeterField}
+use Rattle.bay_base.specs.declared.point.Source.{Source}
+use Rattle.bay_base.specs.declared.point.Source.TheVariants as source
 use Rattle.bay_process.specs.Values.{position_value}
 use Rattle.bay_rules.specs.Process.{Process}
 use Rattle.bay_tree.specs.declared.leaf.Leaf.TheVariants as leaf

@@ -2,9 +2,9 @@
 use Rattle.std.specs.Prelude.{ℕ, zero, suc, ◌+◌, ◌++◌, ◌≡◌, Bool, true, false, not, ◌&&◌, ◌||◌, List, [], ◌∷◌, map, position, replicate, MatchOption, Option, None, Some, is_none, slice_get, Result, Ok, Err, if◌then◌else◌}
 use Rattle.std.specs.List.{count_by}
 use Rattle.bay_config.specs.declared.bay.Bay.{Bay}
-use Rattle.bay_config.specs.declared.bay.Source.{Source}
-use Rattle.bay_config.specs.declared.bay.SwitchPoint.{SwitchPoint}
-use Rattle.bay_config.specs.declared.bay.SwitchPoint.TheVariants.{EnableOpen, EnableClose}
+use Rattle.bay_base.specs.declared.point.Source.{Source}
+use Rattle.bay_base.specs.declared.point.SwitchPoint.{SwitchPoint}
+use Rattle.bay_base.specs.declared.point.SwitchPoint.TheVariants.{EnableOpen, EnableClose}
 use Rattle.bay_process.specs.Sources.{sources_of}
 use Rattle.bay_process.specs.Values.{is_point, output_of}
 use Rattle.bay_rules.specs.Process.{Process, holds}

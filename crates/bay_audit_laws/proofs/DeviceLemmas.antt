@@ -2,7 +2,7 @@
 use Rattle.std.proofs.Common.{◌≡◌, ℕ, ℤ, zero, suc, Bool, false, not, cond, List, [], ◌∷◌, ◌++◌, slice_get, slice_set, Option, None, Some, refl, ap, sym, subst, ◌∙◌}
 use Rattle.std.proofs.lemmas.Bool.{or_parts, not-false}
 use Rattle.std.specs.Bool.{beq}
-use Rattle.bay_config.specs.declared.bay.MeterField.{MeterField}
+use Rattle.bay_base.specs.declared.point.MeterField.{MeterField}
 use Rattle.bay_nodes.specs.Names.{interlocking_of, meter_names, switch_names}
 use Rattle.bay_nodes.specs.declared.switch.Switch.{Switch}
 use Rattle.bay_process.specs.Names.{field_names}

@@ -5,8 +5,8 @@ use Rattle.std.proofs.lemmas.Bool.{and_parts}
 use Rattle.std.proofs.Math.Bool.{and-true}
 use Rattle.bay_config.specs.Laws.{IsBay}
 use Rattle.bay_config.specs.declared.bay.Bay.{Bay}
-use Rattle.bay_config.specs.declared.bay.Source.{Source}
-use Rattle.bay_config.specs.declared.bay.SwitchPoint.TheVariants.{EnableOpen, EnableClose}
+use Rattle.bay_base.specs.declared.point.Source.{Source}
+use Rattle.bay_base.specs.declared.point.SwitchPoint.TheVariants.{EnableOpen, EnableClose}
 use Rattle.bay_nodes.specs.Names.{meter_names}
 use Rattle.bay_nodes.specs.declared.switch.Operation.{Operation}
 use Rattle.bay_nodes.specs.declared.switch.Operation.TheVariants as operations

@@ -1,10 +1,10 @@
 -- What the process reports, and what goes by it.
 use Rattle.std.proofs.Common.{◌≡◌, ℕ, Bool, false, List, [], ◌∷◌, map, slice_get, unwrap_or, Option, Some, None, refl, ap, ap₂, ◌∙◌}
-use Rattle.bay_config.specs.declared.bay.MeterField.{MeterField}
-use Rattle.bay_config.specs.declared.bay.Source.{Source}
-use Rattle.bay_config.specs.declared.bay.Source.TheVariants as source
-use Rattle.bay_config.specs.declared.bay.SwitchPoint.{SwitchPoint}
-use Rattle.bay_config.specs.declared.bay.SwitchPoint.TheVariants.{Position, Open, Closed, EnableOpen, EnableClose}
+use Rattle.bay_base.specs.declared.point.MeterField.{MeterField}
+use Rattle.bay_base.specs.declared.point.Source.{Source}
+use Rattle.bay_base.specs.declared.point.Source.TheVariants as source
+use Rattle.bay_base.specs.declared.point.SwitchPoint.{SwitchPoint}
+use Rattle.bay_base.specs.declared.point.SwitchPoint.TheVariants.{Position, Open, Closed, EnableOpen, EnableClose}
 use Rattle.bay_nodes.specs.Names.{meter_names}
 use Rattle.bay_nodes.specs.Node.{node_number}
 use Rattle.bay_nodes.specs.declared.switch.Switch.{Switch}

@@ -1,3 +1,4 @@
+pub mod DecimalLemmas
 pub mod ListLemmas
 pub mod NameLemmas
 pub mod WordLemmas

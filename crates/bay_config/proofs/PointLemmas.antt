@@ -2,7 +2,7 @@
 use Rattle.std.proofs.Common.{◌≡◌, ℕ, Bool, ◌||◌, List, [], ◌∷◌, map, refl, ap, ◌∙◌}
 use Rattle.std.specs.List.{list_any}
 use Rattle.std.specs.Str.{bytes_eq}
-use Rattle.bay_config.specs.declared.bay.Point.{Point}
+use Rattle.bay_base.specs.declared.point.Point.{Point}
 use Rattle.bay_config.specs.Key.{is_among}
 use Rattle.bay_config.specs.Point.{has_twin}
 

@@ -3,12 +3,12 @@ use Rattle.std.specs.Prelude.{ℕ, ◌+◌, Bool, true, false, ◌||◌, List, [
 use Rattle.std.specs.List.{list_any}
 use Rattle.std.specs.Str.{str_to_ascii_uppercase}
 use Rattle.bay_nodes.specs.declared.switch.Switch.{Switch}
-use Rattle.bay_config.specs.declared.bay.Point.{Point}
-use Rattle.bay_config.specs.declared.bay.Source.TheVariants as sources
-use Rattle.bay_config.specs.declared.bay.MeterField.{MeterField}
-use Rattle.bay_config.specs.declared.bay.MeterField.TheVariants.{TotW, TotVAr, Hz, PhaseA, PhaseB, PhaseC}
-use Rattle.bay_config.specs.declared.bay.SwitchPoint.{SwitchPoint}
-use Rattle.bay_config.specs.declared.bay.SwitchPoint.TheVariants.{Position, Open, Closed, EnableOpen, EnableClose}
+use Rattle.bay_base.specs.declared.point.Point.{Point}
+use Rattle.bay_base.specs.declared.point.Source.TheVariants as sources
+use Rattle.bay_base.specs.declared.point.MeterField.{MeterField}
+use Rattle.bay_base.specs.declared.point.MeterField.TheVariants.{TotW, TotVAr, Hz, PhaseA, PhaseB, PhaseC}
+use Rattle.bay_base.specs.declared.point.SwitchPoint.{SwitchPoint}
+use Rattle.bay_base.specs.declared.point.SwitchPoint.TheVariants.{Position, Open, Closed, EnableOpen, EnableClose}
 use Rattle.bay_base.specs.Words.{reserved_of}
 use Rattle.bay_base.specs.declared.types.ElementaryType.{ElementaryType}
 use Rattle.bay_base.specs.declared.types.ElementaryType.TheVariants.{Bool as Truth, Int, Dint}

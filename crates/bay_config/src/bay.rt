@@ -1,7 +1,7 @@
 // What a bay is.
 use bay_base::listing::Listing;
+pub use bay_base::point::{MeterField, Point, Source, SwitchPoint};
 use bay_base::text::Text;
-use bay_base::types::ElementaryType;
 pub use bay_nodes::switch::{Control, Switch, SwitchKind};
 use bay_tree::row::Row;
 
@@ -29,59 +29,4 @@ pub struct Bay {
     pub inputs: Listing<Text>,
     /// The ids of the meters, at most 8, in the order of the file.
     pub meters: Listing<Text>,
-}
-
-/// A variable through which the program reads or writes the bay.
-#[derive(Drop)]
-pub struct Point {
-    /// The name in upper case.
-    pub name: Text,
-    pub kind: ElementaryType,
-    /// Whether the program may write it.
-    pub writable: bool,
-    /// The part of the bay that it stands for.
-    pub source: Source,
-}
-
-/// The part of the bay that a point stands for.
-#[derive(Clone, Copy, Debug, PartialEq, Eq)]
-pub enum Source {
-    /// A point of the switch at this index, counted from 0 in the order of the file.
-    Switch { switch: usize, point: SwitchPoint },
-    /// The input at this index.
-    Input { input: usize },
-    /// A field of the meter at this index.
-    Meter { meter: usize, field: MeterField },
-}
-
-/// A point of a switch.
-#[derive(Clone, Copy, Debug, PartialEq, Eq)]
-pub enum SwitchPoint {
-    /// Its position as a number.
-    Position,
-    /// Whether it is open.
-    Open,
-    /// Whether it is closed.
-    Closed,
-    /// Whether it may be opened. The program writes it.
-    EnableOpen,
-    /// Whether it may be closed. The program writes it.
-    EnableClose,
-}
-
-/// A field of a meter (IEC 61850-7-4, MMXU), in whole units.
-#[derive(Clone, Copy, Debug, PartialEq, Eq)]
-pub enum MeterField {
-    /// The total active power, TotW.
-    TotW,
-    /// The total reactive power, TotVAr.
-    TotVAr,
-    /// The frequency, Hz.
-    Hz,
-    /// The current of phase A.
-    PhaseA,
-    /// The current of phase B.
-    PhaseB,
-    /// The current of phase C.
-    PhaseC,
 }

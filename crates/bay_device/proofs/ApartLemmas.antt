@@ -12,8 +12,8 @@ use Rattle.bay_tree.specs.declared.leaf.Quality.TheVariants.{Good}
 use Rattle.bay_nodes.specs.declared.switch.Switch.{Switch}
 use Rattle.bay_nodes.specs.Names.{StatusNames, control_names, control_of, interlocking_of, node_of, opening_of, position_names, operation_names, opening_names, closing_names, switch_names, meter_names, total_names, phase_names}
 use Rattle.bay_nodes.specs.Node.{node_name}
-use Rattle.bay_config.specs.declared.bay.MeterField.{MeterField}
-use Rattle.bay_config.specs.declared.bay.MeterField.TheVariants.{TotW, TotVAr, Hz, PhaseA, PhaseB, PhaseC}
+use Rattle.bay_base.specs.declared.point.MeterField.{MeterField}
+use Rattle.bay_base.specs.declared.point.MeterField.TheVariants.{TotW, TotVAr, Hz, PhaseA, PhaseB, PhaseC}
 use Rattle.il_image.specs.declared.value.Value.{Value}
 use Rattle.bay_process.specs.Layout.{Layout, status_in, switch_in}
 use Rattle.bay_process.specs.Names.{field_names}

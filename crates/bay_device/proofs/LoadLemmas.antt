@@ -9,7 +9,7 @@ use Rattle.bay_process.proofs.BoundLemmas.{are-bound, bound-switches}
 use Rattle.bay_process.specs.declared.switch.BoundSwitch.{BoundSwitch}
 use Rattle.bay_services.specs.Bay as services
 use Rattle.bay_config.specs.declared.bay.Bay.{Bay}
-use Rattle.bay_config.specs.declared.bay.Source.{Source}
+use Rattle.bay_base.specs.declared.point.Source.{Source}
 use Rattle.bay_nodes.specs.declared.switch.Switch.{Switch}
 use Rattle.il_image.specs.Images.{Image}
 use Rattle.il_check.specs.Program.{Checked}

@@ -4,8 +4,8 @@ use Rattle.std.specs.Prelude.{pos, int_lt, ◌+ℤ◌}
 use Rattle.std.specs.Str.{bytes_eq}
 use Rattle.bay_nodes.specs.Names.{StatusNames, SwitchNames, switch_names}
 use Rattle.bay_nodes.specs.declared.switch.Switch.{Switch}
-use Rattle.bay_config.specs.declared.bay.Source.{Source}
-use Rattle.bay_config.specs.declared.bay.SwitchPoint.TheVariants.{EnableOpen, EnableClose}
+use Rattle.bay_base.specs.declared.point.Source.{Source}
+use Rattle.bay_base.specs.declared.point.SwitchPoint.TheVariants.{EnableOpen, EnableClose}
 use Rattle.il_image.specs.declared.value.Value.{Value}
 use Rattle.bay_tree.specs.Rows.{leaf_of, names_of, with_leaf_of}
 use Rattle.bay_tree.specs.declared.leaf.Dbpos.{Dbpos}

@@ -2,7 +2,7 @@
 use Rattle.std.proofs.Common.{◌≡◌, ℕ, ℤ, zero, suc, Bool, true, false, ◌&&◌, cond, nat_lt, List, [], ◌∷◌, ◌++◌, slice_get, Option, None, Some, Result, Ok, Err, IfOk, ◌⊎◌, inl, inr, refl, ap, sym, ◌∙◌, subst, arith, append-nil, append_assoc}
 use Rattle.std.specs.List.{Contains}
 use Rattle.std.proofs.lemmas.List.Elements.{Contains-append_cases, Contains-append_left, Contains-append_right}
-use Rattle.bay_config.specs.declared.bay.MeterField.{MeterField}
+use Rattle.bay_base.specs.declared.point.MeterField.{MeterField}
 use Rattle.bay_connection.specs.Talk.{Indication, Talk, Terms, answers, tells, releases, ends as ends-heard, fails, indications}
 use Rattle.bay_control.specs.Acts.{Entry}
 use Rattle.bay_mms.specs.Grammar.{answer_to}

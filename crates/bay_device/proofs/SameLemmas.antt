@@ -1,7 +1,7 @@
 -- What clients leave as it is: the program, the process, the interlocking values, and what the
 -- device notes of its scans.
 use Rattle.std.proofs.Common.{◌≡◌, ℕ, zero, suc, Bool, true, false, cond, nat_lt, List, [], ◌∷◌, Option, Some, None, refl, ap₂, ◌∙◌}
-use Rattle.bay_config.specs.declared.bay.Source.{Source}
+use Rattle.bay_base.specs.declared.point.Source.{Source}
 use Rattle.bay_connection.specs.Talk.{Indication, Talk, Terms, answers, tells, releases, ends, fails, indications, left_by}
 use Rattle.bay_nodes.specs.declared.switch.Switch.{Switch}
 use Rattle.bay_services.proofs.AcceptedLemmas.{alike-after}

@@ -1,7 +1,7 @@
 -- What load makes of a bay, beside the machine of its program.
 use Rattle.std.specs.Prelude.{◌≡◌, List, length, None}
 use Rattle.bay_config.specs.declared.bay.Bay.{Bay}
-use Rattle.bay_config.specs.declared.bay.Source.{Source}
+use Rattle.bay_base.specs.declared.point.Source.{Source}
 use Rattle.bay_config.specs.Laws.{IsBay}
 use Rattle.bay_control.specs.Decisions.{controls_of, initial}
 use Rattle.bay_process.specs.Layout.{AreBound, AreMetersBound, layout_of, meters_of}

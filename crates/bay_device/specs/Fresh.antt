@@ -3,7 +3,7 @@
 -- looks at what a device notes of its scans.
 use Rattle.std.specs.Prelude.{ℕ, ◌≡◌, ◌≢◌, ◌+◌, ◌≤◌, All, List, [], ◌∷◌, ◌++◌, Result, IfOk, IsOk}
 use Rattle.bay_config.specs.declared.bay.Bay.{Bay}
-use Rattle.bay_config.specs.declared.bay.MeterField.{MeterField}
+use Rattle.bay_base.specs.declared.point.MeterField.{MeterField}
 use Rattle.bay_nodes.specs.Names.{StatusNames, meter_names, position_names}
 use Rattle.bay_nodes.specs.Node.{class_of, node_name}
 use Rattle.bay_nodes.specs.declared.switch.SwitchKind.{SwitchKind}

@@ -2,7 +2,7 @@
 use Rattle.std.specs.Prelude.{◌+◌, ℕ, ℤ, ◌-◌, ◌==◌, ◌&&◌, nat_lt, Bool, List, [], ◌∷◌, drop, get_or, slice_get, slice_set, unwrap_or, Option, None, Some, Result, Ok, Err, if◌then◌else◌}
 use Rattle.bay_tree.specs.declared.leaf.Dbpos.{Dbpos}
 use Rattle.bay_nodes.specs.declared.switch.Switch.{Switch}
-use Rattle.bay_config.specs.declared.bay.MeterField.{MeterField}
+use Rattle.bay_base.specs.declared.point.MeterField.{MeterField}
 use Rattle.bay_transport.specs.Doings.{start}
 use Rattle.bay_assoc.specs.declared.hearing.Phase.TheVariants.{Idle}
 use Rattle.bay_control.specs.Decisions.{without_association}

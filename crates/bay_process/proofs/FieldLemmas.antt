@@ -1,8 +1,8 @@
 -- The rows of a meter's field.
 use Rattle.std.proofs.Common.{◌≡◌, refl}
 use Rattle.bay_tree.specs.declared.leaf.LeafType.TheVariants as leaf_type
-use Rattle.bay_config.specs.declared.bay.MeterField.{MeterField}
-use Rattle.bay_config.specs.declared.bay.MeterField.TheVariants.{TotW, TotVAr, Hz, PhaseA, PhaseB, PhaseC}
+use Rattle.bay_base.specs.declared.point.MeterField.{MeterField}
+use Rattle.bay_base.specs.declared.point.MeterField.TheVariants.{TotW, TotVAr, Hz, PhaseA, PhaseB, PhaseC}
 use Rattle.bay_process.specs.Layout.{Layout, status_in, AreStatusRows, meter_in, field_rows, AreMeterRows}
 use Rattle.bay_process.specs.Names.{field_names}
 use Rattle.bay_process.specs.declared.meter.MeterRows.{MeterRows}

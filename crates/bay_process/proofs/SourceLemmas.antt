@@ -6,8 +6,8 @@ use Rattle.bay_base.specs.Names.{same_name}
 use Rattle.bay_base.specs.Types.{same_type}
 use Rattle.bay_base.specs.declared.types.ElementaryType.{ElementaryType}
 use Rattle.bay_config.specs.Point.{inputs_from, meters_from, points_from, points_of_all}
-use Rattle.bay_config.specs.declared.bay.Source.{Source}
-use Rattle.bay_config.specs.declared.bay.Point.{Point}
+use Rattle.bay_base.specs.declared.point.Source.{Source}
+use Rattle.bay_base.specs.declared.point.Point.{Point}
 use Rattle.bay_nodes.specs.declared.switch.Switch.{Switch}
 use Rattle.il_image.specs.Images.{Each}
 use Rattle.il_image.specs.declared.image.ImagePoint.{ImagePoint}

@@ -8,11 +8,11 @@ use Rattle.bay_tree.specs.declared.leaf.LeafType.TheVariants as leaf_type
 use Rattle.bay_nodes.specs.declared.switch.Switch.{Switch}
 use Rattle.bay_nodes.specs.Names.{StatusNames, SwitchNames, switch_names, MeterNames, meter_names}
 use Rattle.bay_process.specs.declared.switch.SwitchOutputs.{SwitchOutputs}
-use Rattle.bay_config.specs.declared.bay.SwitchPoint.TheVariants.{EnableOpen, EnableClose}
+use Rattle.bay_base.specs.declared.point.SwitchPoint.TheVariants.{EnableOpen, EnableClose}
 use Rattle.bay_process.specs.Values.{is_point}
-use Rattle.bay_config.specs.declared.bay.Source.{Source}
-use Rattle.bay_config.specs.declared.bay.MeterField.{MeterField}
-use Rattle.bay_config.specs.declared.bay.MeterField.TheVariants.{TotW, TotVAr, Hz, PhaseA, PhaseB, PhaseC}
+use Rattle.bay_base.specs.declared.point.Source.{Source}
+use Rattle.bay_base.specs.declared.point.MeterField.{MeterField}
+use Rattle.bay_base.specs.declared.point.MeterField.TheVariants.{TotW, TotVAr, Hz, PhaseA, PhaseB, PhaseC}
 use Rattle.bay_process.specs.declared.meter.BoundMeter.{BoundMeter}
 use Rattle.bay_process.specs.declared.meter.MeterRows.{MeterRows}
 use Rattle.bay_process.specs.declared.rows.StatusRows.{StatusRows}

@@ -2,15 +2,15 @@
 use Rattle.std.specs.Prelude.{Bool, List, Option, [], find, if◌then◌else◌, option_map, ◌∷◌}
 use Rattle.std.specs.Bool.{beq}
 use Rattle.std.specs.List.{cons_option}
-use Rattle.bay_config.specs.declared.bay.Source.{Source}
-use Rattle.bay_config.specs.declared.bay.Point.{Point}
+use Rattle.bay_base.specs.declared.point.Source.{Source}
+use Rattle.bay_base.specs.declared.point.Point.{Point}
 use Rattle.il_image.specs.declared.image.ImagePoint.{ImagePoint}
 use Rattle.il_verify.specs.Binding.{is_point}
 use Rattle.bay_base.specs.declared.types.ElementaryType.{ElementaryType}
 use Rattle.bay_base.specs.declared.types.ElementaryType.TheVariants as elementary
-use Rattle.bay_config.specs.declared.bay.Source.TheVariants as source
-use Rattle.bay_config.specs.declared.bay.SwitchPoint.{SwitchPoint}
-use Rattle.bay_config.specs.declared.bay.SwitchPoint.TheVariants.{Position, Open, Closed, EnableOpen, EnableClose}
+use Rattle.bay_base.specs.declared.point.Source.TheVariants as source
+use Rattle.bay_base.specs.declared.point.SwitchPoint.{SwitchPoint}
+use Rattle.bay_base.specs.declared.point.SwitchPoint.TheVariants.{Position, Open, Closed, EnableOpen, EnableClose}
 
 -- what an image's point stands for: the bay's point of its name, its type and its writability
 abbrev pub source_of : List Point → ImagePoint → Option Source

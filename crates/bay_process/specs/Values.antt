@@ -12,11 +12,11 @@ use Rattle.bay_tree.specs.declared.leaf.Dbpos.TheVariants.{Intermediate, Off, On
 use Rattle.bay_tree.specs.declared.leaf.Quality.{Quality}
 use Rattle.bay_tree.specs.declared.leaf.Quality.TheVariants.{Good, Invalid}
 use Rattle.bay_nodes.specs.declared.switch.Switch.{Switch}
-use Rattle.bay_config.specs.declared.bay.MeterField.{MeterField}
-use Rattle.bay_config.specs.declared.bay.Source.{Source}
-use Rattle.bay_config.specs.declared.bay.Source.TheVariants as source
-use Rattle.bay_config.specs.declared.bay.SwitchPoint.{SwitchPoint}
-use Rattle.bay_config.specs.declared.bay.SwitchPoint.TheVariants.{Position, Open, Closed, EnableOpen, EnableClose}
+use Rattle.bay_base.specs.declared.point.MeterField.{MeterField}
+use Rattle.bay_base.specs.declared.point.Source.{Source}
+use Rattle.bay_base.specs.declared.point.Source.TheVariants as source
+use Rattle.bay_base.specs.declared.point.SwitchPoint.{SwitchPoint}
+use Rattle.bay_base.specs.declared.point.SwitchPoint.TheVariants.{Position, Open, Closed, EnableOpen, EnableClose}
 use Rattle.il_image.specs.declared.value.Value.{Value}
 use Rattle.il_image.specs.declared.value.Value.TheVariants.{Truth, Short}
 use Rattle.il_scan.specs.Places.{is_true}

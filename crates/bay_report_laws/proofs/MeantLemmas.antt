@@ -4,8 +4,8 @@ use Rattle.std.specs.Fmt.{decimal}
 use Rattle.bay_audit_laws.proofs.LoadLemmas.{first-both}
 use Rattle.bay_audit_laws.proofs.RowLemmas.{AllBoth, outputs-told, told-both, told_by}
 use Rattle.bay_config.specs.Laws.{IsBay}
-use Rattle.bay_config.specs.declared.bay.Source.{Source}
-use Rattle.bay_config.specs.declared.bay.SwitchPoint.TheVariants.{EnableOpen, EnableClose}
+use Rattle.bay_base.specs.declared.point.Source.{Source}
+use Rattle.bay_base.specs.declared.point.SwitchPoint.TheVariants.{EnableOpen, EnableClose}
 use Rattle.bay_nodes.specs.declared.switch.Switch.{Switch}
 use Rattle.bay_process.specs.Told.{IsTold}
 use Rattle.bay_process.specs.Values.{is_truth, output_of, with_outputs}

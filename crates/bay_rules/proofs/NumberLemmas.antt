@@ -2,48 +2,38 @@
 use Rattle.std.proofs.Common.{◌≡◌, ℕ, ◌+◌, ◌-◌, ◌*◌, ◌^◌, ◌<◌, ◌≤◌, min, Bool, true, false, ◌&&◌, nat_lt, nat_le, nat_eq, if◌then◌else◌, List, [], ◌∷◌, length, Option, Some, None, option_map, refl, sym, ap, ◌∙◌, arith}
 use Rattle.std.proofs.lemmas.Bool.Decides.{nat_tests}
 use Rattle.std.proofs.lemmas.Nat.{mul-le}
-use Rattle.std.proofs.lemmas.Str.{digit_value_digit}
-use Rattle.std.specs.Char.{digit_value, is_ascii_digit}
 use Rattle.std.specs.Str.{all_ascii_digits}
-use Rattle.std.specs.Str.Parse.{digits_value_after}
+use Rattle.std.specs.Str.Parse.{digits_value}
 use Rattle.bay_base.specs.Options.{◌>>=◌}
-use Rattle.bay_rules.specs.Numbers.{digits_in, time_of, unit_of, positive_of, negative_of, timer_time}
+use Rattle.bay_base.specs.Decimals.{digits_in, negative_of, positive_of, read_number}
+use Rattle.bay_rules.specs.Numbers.{time_of, unit_of, timer_time}
 
--- the number that decimal digits write behind those of a number, at most 2 ^ 32
-abbrev pub digits_from : ℕ → List ℕ → Option ℕ
-digits_from n ds =
-    if all_ascii_digits ds then Some (min (2 ^ 32) (digits_value_after 10 n ds)) else None
-
-digit_value-digit : (b : ℕ) → is_ascii_digit b ≡ true → digit_value b ≡ b - 48
-digit_value-digit b is = omega (arith, digit_value_digit b (grind (arith, nat_tests)))
-
--- digits behind a great number
-after-min : (n m : ℕ) (ds : List ℕ) → min (2 ^ 32) n ≡ min (2 ^ 32) m
-    → min (2 ^ 32) (digits_value_after 10 n ds) ≡ min (2 ^ 32) (digits_value_after 10 m ds)
-after-min n m [] e = e
-after-min n m (c ∷ cs) e =
-    after-min (n * 10 + digit_value c) (m * 10 + digit_value c) cs (omega (arith, e))
-
-pub digits_from-step : (n b : ℕ) (bs : List ℕ) → is_ascii_digit b ≡ true
-    → digits_from n (b ∷ bs) ≡ digits_from (min (2 ^ 32) (n * 10 + (b - 48))) bs
-digits_from-step n b bs is =
-    rw (is, digit_value-digit b is)
-    (ap (λ k. if all_ascii_digits bs then Some k else None)
-    (after-min (n * 10 + (b - 48)) (min (2 ^ 32) (n * 10 + (b - 48))) bs (omega arith)))
-
-pub digits_from-none : (n b : ℕ) (bs : List ℕ) → is_ascii_digit b ≡ false
-    → digits_from n (b ∷ bs) ≡ None
-digits_from-none n b bs is = rw is refl
-
-pub digits_in-some : (bs : List ℕ) → nat_eq (length bs) 0 ≡ false
-    → option_map (min (2 ^ 32)) (digits_in bs) ≡ digits_from 0 bs
-digits_in-some [] some = absurd (grind (arith, nat_tests))
-digits_in-some (b ∷ bs) some = by-test (all_ascii_digits (b ∷ bs)) refl (grind (arith, nat_tests))
+-- digits that write no number below 2 ^ 64
+pub great-digits : (word : List ℕ) → read_number word ≡ None → all_ascii_digits word ≡ true
+    → nat_lt 0 (length word) ≡ true
+    → option_map (min (2 ^ 32)) (digits_in word) ≡ Some (2 ^ 32)
+great-digits word none digits some = by-test (nat_lt (digits_value 10 word) (2 ^ 64)) refl
   where
-    by-test : (u : Bool) → all_ascii_digits (b ∷ bs) ≡ u → nat_lt 0 (length (b ∷ bs)) ≡ true
-        → option_map (min (2 ^ 32)) (digits_in (b ∷ bs)) ≡ digits_from 0 (b ∷ bs)
-    by-test true e l = rw (e, l) refl
-    by-test false e l = rw e refl
+    by-test : (v : Bool) → nat_lt (digits_value 10 word) (2 ^ 64) ≡ v
+        → option_map (min (2 ^ 32)) (digits_in word) ≡ Some (2 ^ 32)
+    by-test true e = let no : Some (digits_value 10 word) ≡ None = rw (digits, some, e) at none in
+        absurd cc
+    by-test false e = let great : 2 ^ 64 ≤ digits_value 10 word = grind (arith, nat_tests) in
+        rw (digits, some) (ap Some (omega (arith, great)))
+
+-- digits that do
+pub few-digits : (word : List ℕ) (n : ℕ) → read_number word ≡ Some n → digits_in word ≡ Some n
+few-digits word n is =
+    by-tests (all_ascii_digits word) (nat_lt 0 (length word))
+    (nat_lt (digits_value 10 word) (2 ^ 64)) refl refl refl
+  where
+    by-tests : (u v w : Bool) → all_ascii_digits word ≡ u → nat_lt 0 (length word) ≡ v
+        → nat_lt (digits_value 10 word) (2 ^ 64) ≡ w → digits_in word ≡ Some n
+    by-tests false v w d e f = let no : None ≡ Some n = rw d at is in absurd cc
+    by-tests true false w d e f = let no : None ≡ Some n = rw (d, e) at is in absurd cc
+    by-tests true true false d e f = let no : None ≡ Some n = rw (d, e, f) at is in absurd cc
+    by-tests true true true d e f =
+        let same : Some (digits_value 10 word) ≡ Some n = rw (d, e, f) at is in rw (d, e) same
 
 -- a great number of units
 units-min : (n u t : ℕ) → 1 ≤ u
@@ -160,30 +150,6 @@ pub time-init : (x : Option ℕ)
     → option_map (min (2 ^ 32)) x ≡ option_map (λ t. min (2 ^ 32) (0 + t)) x
 time-init None = refl
 time-init (Some t) = ap Some (omega arith)
-
--- what a digit makes of a number
-abbrev pub digit_read : ℕ → ℕ → Option ℕ
-digit_read n b = if is_ascii_digit b then Some (min (2 ^ 32) (n * 10 + (b - 48))) else None
-
-pub digit-step : (n b m : ℕ) (bs : List ℕ) → digit_read n b ≡ Some m
-    → (m ≤ 2 ^ 32) × (digits_from n (b ∷ bs) ≡ digits_from m bs)
-digit-step n b m bs is = by-test (is_ascii_digit b) refl
-  where
-    by-test : (v : Bool) → is_ascii_digit b ≡ v
-        → (m ≤ 2 ^ 32) × (digits_from n (b ∷ bs) ≡ digits_from m bs)
-    by-test true e =
-        let at : Some (min (2 ^ 32) (n * 10 + (b - 48))) ≡ Some m = rw e at is in
-        let same : min (2 ^ 32) (n * 10 + (b - 48)) ≡ m = cc in
-        (omega (arith, same), digits_from-step n b bs e ∙ ap (λ k. digits_from k bs) same)
-    by-test false e = let none : None ≡ Some m = rw e at is in absurd cc
-
-pub digit-none : (n b : ℕ) (bs : List ℕ) → digit_read n b ≡ None → digits_from n (b ∷ bs) ≡ None
-digit-none n b bs is = by-test (is_ascii_digit b) refl
-  where
-    by-test : (v : Bool) → is_ascii_digit b ≡ v → digits_from n (b ∷ bs) ≡ None
-    by-test true e =
-        let at : Some (min (2 ^ 32) (n * 10 + (b - 48))) ≡ None = rw e at is in absurd cc
-    by-test false e = digits_from-none n b bs e
 
 -- the same, of pieces
 pub part-cut : (n u : List ℕ) (ps qs rs : List (List ℕ)) (d v e : ℕ) → ps ≡ n ∷ qs → qs ≡ u ∷ rs

@@ -1,23 +1,10 @@
 -- Numbers and times as a line writes them.
-use Rattle.std.specs.Prelude.{ℕ, ℤ, pos, neg_ℤ, ◌==◌, ◌&&◌, ◌+◌, ◌*◌, ◌^◌, nat_lt, nat_le, List, [], ◌∷◌, length, codes, Option, None, Some, option_map, if◌then◌else◌}
-use Rattle.std.specs.Str.{all_ascii_digits}
-use Rattle.std.specs.Str.Parse.{digits_value}
+use Rattle.std.specs.Prelude.{ℕ, ℤ, ◌==◌, ◌&&◌, ◌+◌, ◌*◌, ◌^◌, nat_lt, List, [], ◌∷◌, codes, Option, None, Some, option_map, if◌then◌else◌}
+use Rattle.bay_base.specs.Decimals.{digits_in, negative_of, positive_of}
 use Rattle.bay_base.specs.Names.{same_name}
 use Rattle.bay_base.specs.Options.{◌>>=◌}
 use Rattle.bay_rules.specs.Pieces.{pieces}
 use Rattle.bay_rules.specs.declared.pieces.Cut.TheVariants.{Time}
-
--- the number that one or more decimal digits write
-abbrev pub digits_in : List ℕ → Option ℕ
-digits_in word =
-    if all_ascii_digits word && nat_lt 0 (length word) then Some (digits_value 10 word) else None
-
--- a number and its opposite, from -(2 ^ 31) to 2 ^ 31 - 1
-abbrev pub positive_of : ℕ → Option ℤ
-positive_of n = if nat_lt n (2 ^ 31) then Some (pos n) else None
-
-abbrev pub negative_of : ℕ → Option ℤ
-negative_of n = if nat_le n (2 ^ 31) then Some (neg_ℤ (pos n)) else None
 
 -- a number, before which a `-` may stand; it may be out of range
 abbrev pub number_in : List ℕ → Option (Option ℤ)

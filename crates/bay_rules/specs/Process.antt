@@ -3,7 +3,7 @@ use Rattle.std.specs.Prelude.{ℕ, ℤ, int_lt, int_le, Bool, true, false, not, 
 use Rattle.std.specs.Ordering.{int_eq}
 use Rattle.bay_tree.specs.declared.leaf.Dbpos.{Dbpos}
 use Rattle.bay_tree.specs.declared.leaf.Dbpos.TheVariants.{Intermediate, Off, On, Bad}
-use Rattle.bay_config.specs.declared.bay.MeterField.{MeterField}
+use Rattle.bay_base.specs.declared.point.MeterField.{MeterField}
 use Rattle.bay_rules.specs.declared.rule.Item.{Item}
 use Rattle.bay_rules.specs.declared.rule.Item.TheVariants as items
 use Rattle.bay_rules.specs.declared.rule.Relation.{Relation}

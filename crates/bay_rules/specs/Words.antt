@@ -5,8 +5,8 @@ use Rattle.bay_base.specs.Names.{same_name}
 use Rattle.bay_tree.specs.declared.leaf.Dbpos.TheVariants as at
 use Rattle.bay_nodes.specs.declared.switch.Switch.{Switch}
 use Rattle.bay_config.specs.declared.bay.Bay.{Bay}
-use Rattle.bay_config.specs.declared.bay.Source.{Source}
-use Rattle.bay_config.specs.declared.bay.Source.TheVariants as sources
+use Rattle.bay_base.specs.declared.point.Source.{Source}
+use Rattle.bay_base.specs.declared.point.Source.TheVariants as sources
 use Rattle.bay_config.specs.Key.{begins_with_letter, is_name_character}
 use Rattle.bay_rules.specs.declared.rule.Relation.TheVariants.{Less, AtMost, Equal, Unequal, AtLeast, Greater}
 use Rattle.bay_rules.specs.declared.rule.RuleKind.TheVariants.{Never, Always}

@@ -1,11 +1,12 @@
 // Numbers and times as a line writes them.
-ghost use Rattle.std.specs.Prelude.{◌≡◌, ℕ, ◌+◌, ◌*◌, ◌-◌, ◌^◌, ◌<◌, ◌≤◌, min, length, Some, None, option_map, IfSome, MatchOption, if◌then◌else◌};
-ghost use Rattle.std.specs.Char.{is_ascii_digit};
-ghost use Rattle.bay_rules.specs.Numbers.{digits_in, positive_of, negative_of, number_in, unit_of, time_of, timer_time, time_in};
+ghost use Rattle.std.specs.Prelude.{◌≡◌, ℕ, ◌+◌, ◌^◌, ◌<◌, ◌≤◌, min, length, None, option_map, IfSome, MatchOption};
+ghost use Rattle.bay_base.specs.Decimals.{digits_in};
+ghost use Rattle.bay_rules.specs.Numbers.{number_in, unit_of, time_of, timer_time, time_in};
 ghost use Rattle.bay_rules.specs.Pieces.{pieces};
 ghost use Rattle.bay_rules.specs.declared.pieces.Cut.TheVariants.{Time};
 
 use crate::pieces::{Cut, cut_piece};
+use bay_base::decimal::{decimal, negative, positive};
 use bay_base::names::same_letters;
 
 // Greater numbers, and greater times, are taken as this one, 2^32.
@@ -18,51 +19,14 @@ fn enough(number: u64) -> u64
     if number < ENOUGH { number } else { ENOUGH }
 }
 
-// Appends a decimal digit to a number, or returns `None` if the octet is not a digit.
-fn with_digit(number: u64, octet: u8) -> Option<u64>
-    requires { number ≤ 2 ^ 32 }
-    ensures { result
-        ≡ if is_ascii_digit octet then Some (min (2 ^ 32) (number * 10 + (octet - 48))) else None }
-{
-    if !octet.is_ascii_digit() {
-        return None;
-    }
-    Some(enough(number * 10 + u64::from(octet - b'0')))
-}
-
 // Reads one or more decimal digits.
 fn digits(word: &[u8]) -> Option<u64>
     ensures { result ≡ option_map (min (2 ^ 32)) (digits_in word.now) }
 {
-    if word.is_empty() {
-        return None;
-    }
-    let mut number = 0;
-    for octet in word {
-        number = with_digit(number, *octet)?;
-    }
-    Some(number)
-}
-
-// Returns the number as a value if it is below 2^31.
-fn positive(number: u64) -> Option<i32>
-    ensures { result ≡ positive_of number }
-{
-    if number < 2_147_483_648 {
-        Some(number as i32)
-    } else {
-        None
-    }
-}
-
-// Returns the negated number as a value if it is not below -2^31.
-fn negative(number: u64) -> Option<i32>
-    ensures { result ≡ negative_of number }
-{
-    if number <= 2_147_483_648 {
-        Some((-(number as i64)) as i32)
-    } else {
-        None
+    match decimal(word) {
+        Some(number) => Some(enough(number)),
+        None if !word.is_empty() && word.iter().all(|octet| octet.is_ascii_digit()) => Some(ENOUGH),
+        None => None,
     }
 }
 

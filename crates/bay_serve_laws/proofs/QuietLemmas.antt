@@ -2,7 +2,7 @@
 use Rattle.std.proofs.Common.{◌≡◌, ℕ, ℤ, Bool, true, false, if◌then◌else◌, nat_lt, List, [], Option, Some, None, Result, Ok, Err, slice_get, refl, sym, subst}
 use Rattle.bay_tree.specs.declared.leaf.Dbpos.{Dbpos}
 use Rattle.bay_nodes.specs.declared.switch.Switch.{Switch}
-use Rattle.bay_config.specs.declared.bay.MeterField.{MeterField}
+use Rattle.bay_base.specs.declared.point.MeterField.{MeterField}
 use Rattle.bay_connection.specs.Talk.{Talk}
 use Rattle.bay_device.specs.Device.{State}
 use Rattle.bay_device.specs.Outcomes.{Outcome, close_outcome, connection_at, contact_outcome, event_outcome, input_outcome, last_moment, measure_outcome, octets_outcome, open_outcome, outcome, place_of, recv_outcome, refusal_of}

@@ -4,10 +4,11 @@ use Rattle.std.specs.List.{slice_split}
 use Rattle.std.specs.Char.{is_ascii_digit}
 use Rattle.std.specs.Str.{all_ascii_digits, bytes_eq, is_utf8}
 use Rattle.std.specs.Str.Parse.{digits_value}
-use Rattle.bay_config.specs.declared.bay.MeterField.{MeterField}
-use Rattle.bay_config.specs.declared.bay.MeterField.TheVariants.{TotW, TotVAr, Hz, PhaseA, PhaseB, PhaseC}
+use Rattle.bay_base.specs.declared.point.MeterField.{MeterField}
+use Rattle.bay_base.specs.declared.point.MeterField.TheVariants.{TotW, TotVAr, Hz, PhaseA, PhaseB, PhaseC}
 use Rattle.bay_tree.specs.declared.leaf.Dbpos.{Dbpos}
 use Rattle.bay_tree.specs.declared.leaf.Dbpos.TheVariants.{Intermediate, Off, On, Bad}
+use Rattle.bay_base.specs.Decimals.{negative_of, positive_of, read_number}
 use Rattle.bay_trace.specs.Digits.{octets_of}
 
 -- what happens at a moment: an association is opened, octets of its client come, or it is closed; a
@@ -41,32 +42,11 @@ only_word [] = None
 only_word (word ∷ []) = Some word
 only_word (word ∷ next ∷ others) = None
 
--- a number with one more decimal digit behind its own, below 2 ^ 64
-abbrev pub with_digit : ℕ → ℕ → Option ℕ
-with_digit n b =
-    if is_ascii_digit b && nat_lt (n * 10 + (b - 48)) (2 ^ 64) then Some (n * 10 + (b - 48))
-    else None
-
--- the number that decimal digits write, below 2 ^ 64
-abbrev pub read_number : List ℕ → Option ℕ
-read_number digits =
-    if all_ascii_digits digits && nat_lt 0 (length digits)
-    && nat_lt (digits_value 10 digits) (2 ^ 64)
-    then Some (digits_value 10 digits)
-    else None
-
 -- the number that the first of several words is, and the words behind it
 abbrev pub first_number : List (List ℕ) → Option (ℕ × List (List ℕ))
 first_number [] = None
 first_number (word ∷ []) = None
 first_number (word ∷ next ∷ words) = option_map (λ n. (n, next ∷ words)) (read_number word)
-
--- a number and its opposite, from -(2 ^ 31) to 2 ^ 31 - 1
-abbrev pub positive_of : ℕ → Option ℤ
-positive_of n = if nat_lt n (2 ^ 31) then Some (pos n) else None
-
-abbrev pub negative_of : ℕ → Option ℤ
-negative_of n = if nat_le n (2 ^ 31) then Some (neg_ℤ (pos n)) else None
 
 -- the number that decimal digits write, before which a `-` may stand
 abbrev pub read_integer : List ℕ → Option ℤ

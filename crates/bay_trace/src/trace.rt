@@ -2,12 +2,13 @@
 ghost use Rattle.std.specs.Prelude.{◌≡◌, ◌∷◌, ◌≤◌, ◌^◌, ◌<◌, ℕ, length, option_map, IfSome, Some, codes, neg_ℤ, pos};
 ghost use Rattle.std.specs.List.{slice_split};
 ghost use Rattle.std.specs.Str.{IsUtf8};
-ghost use Rattle.bay_trace.specs.Trace.{association_of, is_space, received_of, rest_words, association_event_in, read_number, first_number, positive_of, negative_of, read_integer, position_of, truth_of, field_of, name_of, measure_of, event_of, words_line, trace_line_of, process_of};
+ghost use Rattle.bay_trace.specs.Trace.{association_of, is_space, received_of, rest_words, association_event_in, first_number, read_integer, position_of, truth_of, field_of, name_of, measure_of, event_of, words_line, trace_line_of, process_of};
 ghost use Rattle.bay_trace.specs.Trace as spec;
 ghost use Rattle.bay_trace.specs.TraceView.{named_view, line_view};
 
 use crate::octets::Digits;
-use bay_config::bay::MeterField;
+use bay_base::decimal::{decimal, negative, positive, with_digit};
+use bay_base::point::MeterField;
 use bay_tree::leaf::Dbpos;
 
 /// An event, with names as in the trace.
@@ -55,9 +56,6 @@ pub enum TraceLine<'a> {
     At { moment: u64, event: NamedEvent<'a> },
 }
 
-// A number below this stays below 2^64 with any one digit appended.
-const ROOM_FOR_A_DIGIT: u64 = 1_000_000_000_000_000_000;
-
 // Returns the first word of a text, and what follows the space after it.
 fn cut_word(text: &[u8]) -> (&[u8], Option<&[u8]>)
     ensures { slice_split is_space text.now
@@ -69,64 +67,13 @@ fn cut_word(text: &[u8]) -> (&[u8], Option<&[u8]>)
     }
 }
 
-// Appends a decimal digit to a number, or returns `None` if the octet is not a digit or the result
-// reaches 2^64.
-fn with_digit(number: u64, octet: u8) -> Option<u64>
-    ensures { result ≡ spec.with_digit number octet }
-{
-    if !octet.is_ascii_digit() {
-        return None;
-    }
-    let digit = u64::from(octet - b'0');
-    if number < ROOM_FOR_A_DIGIT {
-        return Some(number * 10 + digit);
-    }
-    number.checked_mul(10)?.checked_add(digit)
-}
-
-// Reads a decimal number below 2^64. Leading zeros are allowed, a sign is not.
-fn number(word: &[u8]) -> Option<u64>
-    ensures { result ≡ read_number word.now }
-{
-    if word.is_empty() {
-        return None;
-    }
-    let mut number = 0;
-    for octet in word {
-        number = with_digit(number, *octet)?;
-    }
-    Some(number)
-}
-
-// Returns the number as a value if it is below 2^31.
-fn positive(number: u64) -> Option<i32>
-    ensures { result ≡ positive_of number }
-{
-    if number < 2_147_483_648 {
-        Some(number as i32)
-    } else {
-        None
-    }
-}
-
-// Returns the negated number as a value if it is not below -2^31.
-fn negative(number: u64) -> Option<i32>
-    ensures { result ≡ negative_of number }
-{
-    if number <= 2_147_483_648 {
-        Some((-(number as i64)) as i32)
-    } else {
-        None
-    }
-}
-
 // Reads a decimal value, optionally with a `-` before it.
 fn integer(word: &[u8]) -> Option<i32>
     ensures { result ≡ read_integer word.now }
 {
     match word.strip_prefix(b"-") {
-        Some(digits) => negative(number(digits)?),
-        None => positive(number(word)?),
+        Some(digits) => negative(decimal(digits)?),
+        None => positive(decimal(word)?),
     }
 }
 
@@ -237,7 +184,7 @@ fn measure(text: &[u8]) -> Option<NamedEvent<'_>>
 fn association(word: &[u8]) -> Option<u16>
     ensures { result ≡ association_of word.now }
 {
-    u16::try_from(number(word)?).ok()
+    u16::try_from(decimal(word)?).ok()
 }
 
 // Reads the octets that the client of an association sends.

@@ -7,7 +7,7 @@ use Rattle.bay_base.specs.Exact.{unless_refused}
 use Rattle.bay_base.specs.Names.{upper}
 use Rattle.bay_base.specs.Types.{same_type}
 use Rattle.bay_base.specs.declared.types.ElementaryType.{ElementaryType}
-use Rattle.bay_config.specs.declared.bay.Point.{Point}
+use Rattle.bay_base.specs.declared.point.Point.{Point}
 use Rattle.il_text.specs.Listing as text
 use Rattle.il_text.specs.declared.program.Operator.{Operator}
 use Rattle.il_image.proofs.KindLemmas.{same-is}

@@ -1,7 +1,7 @@
 -- What checking a program comes to: the checked program, or the fault that is answered.
 use Rattle.std.specs.Prelude.{◌+◌, ◌<◌, List, [], ◌++◌, length, map, Result}
 use Rattle.bay_base.specs.Exact.{unless_refused}
-use Rattle.bay_config.specs.declared.bay.Point.{Point}
+use Rattle.bay_base.specs.declared.point.Point.{Point}
 use Rattle.il_text.specs.Listing as text
 use Rattle.il_check.specs.Declaring.{names_in, labels_from, externals_of, variables_of, timers_of, declarations_faults}
 use Rattle.il_check.specs.Faults.{least_fault}

@@ -4,7 +4,7 @@ use Rattle.std.specs.Prelude.{◌≡◌, ℕ, pos, List, [], ◌∷◌, slice_ge
 use Rattle.bay_base.specs.Names.{upper}
 use Rattle.bay_base.specs.declared.types.ElementaryType.{ElementaryType}
 use Rattle.bay_base.specs.declared.types.ElementaryType.TheVariants as elementary
-use Rattle.bay_config.specs.declared.bay.Point.{Point}
+use Rattle.bay_base.specs.declared.point.Point.{Point}
 use Rattle.il_text.specs.Listing as text
 use Rattle.il_text.specs.declared.program.DeclaredType.{DeclaredType}
 use Rattle.il_text.specs.declared.program.DeclaredType.TheVariants as type

@@ -2,7 +2,7 @@
 use Rattle.std.specs.Prelude.{◌≡◌, true, false, IsSome, List, ◌∷◌, ◌++◌}
 use Rattle.std.specs.List.{list_any}
 use Rattle.bay_base.specs.Names.{same_name}
-use Rattle.bay_config.specs.declared.bay.Point.{Point}
+use Rattle.bay_base.specs.declared.point.Point.{Point}
 use Rattle.il_text.specs.Listing as text
 use Rattle.il_check.specs.Declaring.{counts_of, is_external, is_full, is_typed, names_in, point_of}
 use Rattle.il_check.specs.Labelling.{IsWellTyped}

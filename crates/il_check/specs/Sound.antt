@@ -2,7 +2,7 @@
 -- its names differ, and it is well typed.
 use Rattle.std.specs.Prelude.{◌≡◌, ℕ, ◌<◌, false, List, [], ◌++◌, length, map, slice_index_or, Ok}
 use Rattle.bay_base.specs.Names.{same_name}
-use Rattle.bay_config.specs.declared.bay.Point.{Point}
+use Rattle.bay_base.specs.declared.point.Point.{Point}
 use Rattle.il_text.specs.Listing as text
 use Rattle.il_check.specs.Checking.{checked_of}
 use Rattle.il_check.specs.Program.{Checked}

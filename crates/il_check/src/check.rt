@@ -14,7 +14,7 @@ use crate::labels::{Labels, all_labels};
 use crate::names::Names;
 use crate::program::{Parts, Typed};
 use crate::walk::Judge;
-use bay_config::bay::Point;
+use bay_base::point::Point;
 use il_text::program::Program;
 use std::alloc::Global;
 

@@ -20,7 +20,7 @@ use crate::typed::{External, Slot, Timer, Variable};
 use bay_base::names::same_name;
 use bay_base::text::Text;
 use bay_base::types::{ElementaryType, TimerKind};
-use bay_config::bay::Point;
+use bay_base::point::Point;
 use il_image::value::Value;
 use il_text::program::{Declaration, DeclaredType, Literal, Scope};
 use std::alloc::{AllocError, Global};

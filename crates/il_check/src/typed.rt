@@ -3,7 +3,7 @@ ghost use Rattle.std.specs.Prelude.{◌≡◌};
 
 use bay_base::text::Text;
 use bay_base::types::{ElementaryType, TimerKind};
-use bay_config::bay::Source;
+use bay_base::point::Source;
 use il_image::value::Value;
 use il_text::program::{Condition, Conversion, Input, Operator, Output, StoreKind};
 

@@ -1,5 +1,4 @@
 pub mod ByNamesLemmas
-pub mod Fits
 pub mod InstructionLemmas
 pub mod IntegerLemmas
 pub mod MeaningLemmas

@@ -1,7 +1,7 @@
 -- A program passes the checks exactly where it is right by the language's tables.
 use Rattle.std.proofs.Common.{◌≡◌, ◌↔◌, ℕ, ◌-◌, List, [], ◌∷◌, Option, Some, None, option_map, Ok, refl, sym, ap, subst, ◌∙◌}
 use Rattle.bay_base.specs.declared.types.ElementaryType.{ElementaryType}
-use Rattle.bay_config.specs.declared.bay.Point.{Point}
+use Rattle.bay_base.specs.declared.point.Point.{Point}
 use Rattle.il_text.specs.Listing as text
 use Rattle.il_text.specs.declared.program.Condition.TheVariants.{Always, IfTrue, IfFalse}
 use Rattle.il_check.specs.Checking.{checked_of}

@@ -2,7 +2,7 @@
 -- 61131-3:2003, 3.2).
 use Rattle.std.specs.Prelude.{◌≡◌, ℕ, ◌-◌, ◌<◌, List, [], ◌∷◌, Option, Some, None}
 use Rattle.bay_base.specs.declared.types.ElementaryType.{ElementaryType}
-use Rattle.bay_config.specs.declared.bay.Point.{Point}
+use Rattle.bay_base.specs.declared.point.Point.{Point}
 use Rattle.il_text.specs.Listing as text
 use Rattle.il_text.specs.declared.program.Condition.TheVariants.{Always}
 use Rattle.il_check.specs.Declaring.{names_in}

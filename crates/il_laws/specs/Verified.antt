@@ -1,6 +1,6 @@
 -- Compiled code verifies, with the points that the program was checked with.
 use Rattle.std.specs.Prelude.{◌≡◌, List, Ok}
-use Rattle.bay_config.specs.declared.bay.Point.{Point}
+use Rattle.bay_base.specs.declared.point.Point.{Point}
 use Rattle.il_image.specs.Images.{Image}
 use Rattle.il_check.specs.Program.{Checked}
 use Rattle.il_verify.specs.Verdicts.{IsVerified}

@@ -2,7 +2,7 @@
 ghost use Rattle.std.specs.Prelude.{◌≡◌, ◌↔◌, ℕ, ℤ, Bool, true, IsSome, List, Ok, Option, Some};
 ghost use Rattle.std.specs.List.{list_all};
 ghost use Rattle.bay_base.specs.declared.types.ElementaryType.{ElementaryType};
-ghost use Rattle.bay_config.specs.declared.bay.Point.{Point};
+ghost use Rattle.bay_base.specs.declared.point.Point.{Point};
 ghost use Rattle.il_text.specs.Grammar.{is_outer};
 ghost use Rattle.il_text.specs.Listing as text;
 ghost use Rattle.il_text.specs.declared.program.Conversion.{Conversion};

@@ -5,7 +5,7 @@ use Rattle.std.specs.List.{list_any}
 use Rattle.std.specs.Str.{bytes_eq}
 use Rattle.bay_base.specs.Names.{same_name}
 use Rattle.bay_base.specs.Types.{same_type}
-use Rattle.bay_config.specs.declared.bay.Point.{Point}
+use Rattle.bay_base.specs.declared.point.Point.{Point}
 use Rattle.il_image.specs.declared.image.ImagePoint.{ImagePoint}
 use Rattle.il_image.specs.Images.{Image}
 use Rattle.il_image.specs.Machine.{most_slots, most_timers}

@@ -1,6 +1,6 @@
 -- What is known of an image that is accepted.
 use Rattle.std.specs.Prelude.{ℕ, ◌≡◌, ◌≤◌, true, false, List, length, Some}
-use Rattle.bay_config.specs.declared.bay.Point.{Point}
+use Rattle.bay_base.specs.declared.point.Point.{Point}
 use Rattle.il_image.specs.declared.instr.Instr.{Instr}
 use Rattle.il_image.specs.declared.kind.CellKind.{CellKind}
 use Rattle.il_image.specs.Images.{Image}

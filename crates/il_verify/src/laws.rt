@@ -1,6 +1,6 @@
 // Laws of the definitions. Each function does nothing, and its contract is the law.
 ghost use Rattle.std.specs.Prelude.{◌≡◌, ℕ, List};
-ghost use Rattle.bay_config.specs.declared.bay.Point.{Point};
+ghost use Rattle.bay_base.specs.declared.point.Point.{Point};
 ghost use Rattle.il_image.specs.Images.{Image};
 ghost use Rattle.il_verify.specs.Refusals.{IsRefusal};
 ghost use Rattle.il_verify.specs.Verdicts.{IsVerified};

@@ -5,7 +5,7 @@ ghost use Rattle.std.specs.Str.{bytes_eq};
 ghost use Rattle.il_verify.specs.Binding as spec;
 
 use bay_base::names::same_name;
-use bay_config::bay::Point;
+use bay_base::point::Point;
 use il_image::image::{Image, ImagePoint};
 
 // The most slots of an image: its points and variables.

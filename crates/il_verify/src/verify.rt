@@ -9,7 +9,7 @@ use crate::frame::grow;
 use crate::pass::{Measures, Stop, pass};
 use crate::plan::plan_of;
 use crate::points::fits;
-use bay_config::bay::Point;
+use bay_base::point::Point;
 use il_image::image::Image;
 use std::alloc::{AllocError, Global};
 use std::marker::Model;

@@ -1,5 +1,5 @@
 use Rattle.std.proofs.Common.{List, ℕ, Option, map, subst, sym, ◌∙◌, ap}
-use Rattle.bay_config.specs.declared.bay.Source.{Source}
+use Rattle.bay_base.specs.declared.point.Source.{Source}
 use Rattle.il_range.specs.Foretold.{ForetellsTimed}
 use Rattle.il_range.specs.declared.range.Range.{Range}
 use Rattle.bay_audit.specs.Cases.{range_of}

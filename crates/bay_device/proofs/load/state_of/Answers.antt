@@ -1,7 +1,7 @@
 use Rattle.std.proofs.Common.{◌≡◌, None, false, List, map, replicate, subst, ap, sym, ◌∙◌}
 use Rattle.bay_config.specs.declared.bay.Bay.{Bay}
-use Rattle.bay_config.specs.declared.bay.Point.{Point}
-use Rattle.bay_config.specs.declared.bay.Source.{Source}
+use Rattle.bay_base.specs.declared.point.Point.{Point}
+use Rattle.bay_base.specs.declared.point.Source.{Source}
 use Rattle.bay_process.specs.Layout.{AreBound, layout_of, meters_of}
 use Rattle.bay_process.specs.Sources.{sources_of, type_of_source}
 use Rattle.bay_process.proofs.SourceLemmas.{IsTyped, bay-typed, points-fit, reads-typed}

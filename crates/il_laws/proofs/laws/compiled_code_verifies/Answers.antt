@@ -1,5 +1,5 @@
 use Rattle.il_check.proofs.TypedLemmas.{typed-of}
-use Rattle.il_laws.proofs.Fits.{verified}
+use Rattle.il_compile.proofs.Fits.{verified}
 use Rattle.il_laws.proofs.laws.compiled_code_verifies.Goals as goal
 
 pub returns : goal.returns

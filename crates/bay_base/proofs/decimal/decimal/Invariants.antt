@@ -1,6 +1,6 @@
 use Rattle.std.proofs.Common.{◌≡◌, ◌<◌, ◌^◌, drop}
-use Rattle.bay_trace.proofs.WordLemmas.{number_from}
-use Rattle.bay_trace.proofs.trace.number.Given as goal
+use Rattle.bay_base.proofs.DecimalLemmas.{number_from}
+use Rattle.bay_base.proofs.decimal.decimal.Given as goal
 
 abbrev pub invariant-loop-octet : goal.invariant-loop-octet
 invariant-loop-octet l = record {

@@ -1,8 +1,8 @@
 use Rattle.std.proofs.Common.{◌≡◌, ℕ, suc, ◌+◌, drop, get_or, sym, ap, ◌∙◌, arith}
 use Rattle.std.proofs.Math.Seq.{drop-cons}
 use Rattle.std.proofs.lemmas.List.{drop_all}
-use Rattle.bay_trace.proofs.WordLemmas.{with_digit-some, number_from, number_from-step, number_from-none, number_from-end, read_number-some}
-use Rattle.bay_trace.proofs.trace.number.Goals as goal
+use Rattle.bay_base.proofs.DecimalLemmas.{with_digit-some, number_from, number_from-step, number_from-none, number_from-end, read_number-some}
+use Rattle.bay_base.proofs.decimal.decimal.Goals as goal
 
 next : (i : ℕ) → i + 1 ≡ suc i
 next i = omega arith
