@@ -21,7 +21,7 @@ use Rattle.il_image.specs.declared.value.Value.TheVariants.{Truth}
 use Rattle.il_range.specs.Ranges.{AreIn, IsIn}
 use Rattle.bay_audit.specs.Cases.{allows, answer_of, example_of, grants, high_after, high_by, high_of, input_may, is_in, is_of_field, low_after, low_by, low_of, lowered, may_be, meets, position_range, raised, range_of, same_field, test_allows, test_grants, truth_range}
 use Rattle.bay_audit.specs.Process.{IsProcess, process_value}
-use Rattle.bay_audit.specs.declared.case.Literal.{Literal}
+use Rattle.bay_audit.specs.declared.case.TestAnswer.{TestAnswer}
 use Rattle.bay_audit.specs.declared.case.Test.{Test}
 use Rattle.bay_audit.specs.declared.case.Test.TheVariants as test
 
@@ -69,8 +69,8 @@ or-third x y false h = absurd cc
 module _ (p : Process) where
   -- ---- lists of literals
 
-  all-pass : (f : Literal → Bool) → ((l : Literal) → meets p l ≡ true → f l ≡ true)
-      → (case : List Literal) → is_in case p ≡ true → list_all f case ≡ true
+  all-pass : (f : TestAnswer → Bool) → ((l : TestAnswer) → meets p l ≡ true → f l ≡ true)
+      → (case : List TestAnswer) → is_in case p ≡ true → list_all f case ≡ true
   all-pass f each [] h = refl
   all-pass f each (l ∷ case) h =
       let parts = and_parts (meets p l) (is_in case p) h in
@@ -92,7 +92,7 @@ module _ (p : Process) where
   position-allowed k (test.Input j) value h = refl
   position-allowed k (test.AtMost j field most) value h = refl
 
-  pub position-may : (case : List Literal) → is_in case p ≡ true → (k : ℕ)
+  pub position-may : (case : List TestAnswer) → is_in case p ≡ true → (k : ℕ)
       → may_be case k (p.position k) ≡ true
   position-may case h k =
       all-pass (allows k (p.position k)) (λ l. position-allowed k l.test l.value) case h
@@ -108,7 +108,7 @@ module _ (p : Process) where
   input-granted k (test.Input j) value h = input-if (nat_eq j k) j k value refl h
   input-granted k (test.AtMost j field most) value h = refl
 
-  pub input-may : (case : List Literal) → is_in case p ≡ true → (k : ℕ)
+  pub input-may : (case : List TestAnswer) → is_in case p ≡ true → (k : ℕ)
       → input_may case k (p.input k) ≡ true
   input-may case h k =
       all-pass (grants k (p.input k)) (λ l. input-granted k l.test l.value) case h
@@ -161,14 +161,14 @@ module _ (p : Process) where
         ap (λ z. int_le z most) (sym (of-field j which parts.0))
         ∙ yes-answer (int_le (p.measure j which) most) answer)
 
-    low-all : (case : List Literal) (low : ℤ) → is_in case p ≡ true → low ≤ℤ p.measure k field
+    low-all : (case : List TestAnswer) (low : ℤ) → is_in case p ≡ true → low ≤ℤ p.measure k field
         → fold (low_after k field) low case ≤ℤ p.measure k field
     low-all [] low h le = le
     low-all (l ∷ case) low h le =
         let parts = and_parts (meets p l) (is_in case p) h in
         low-all case (low_after k field low l) parts.1 (low-one l.test l.value low parts.0 le)
 
-    high-all : (case : List Literal) (high : ℤ) → is_in case p ≡ true → p.measure k field ≤ℤ high
+    high-all : (case : List TestAnswer) (high : ℤ) → is_in case p ≡ true → p.measure k field ≤ℤ high
         → p.measure k field ≤ℤ fold (high_after k field) high case
     high-all [] high h le = le
     high-all (l ∷ case) high h le =
@@ -213,7 +213,7 @@ module _ (i o n b : Bool) where
   position-in d h EnableOpen = tt
   position-in d h EnableClose = tt
 
-allowed : (case : List Literal) (k : ℕ) (d : Dbpos) → may_be case k d ≡ true
+allowed : (case : List TestAnswer) (k : ℕ) (d : Dbpos) → may_be case k d ≡ true
     → Allowed (may_be case k Intermediate) (may_be case k Off) (may_be case k On)
     (may_be case k Bad) d
 allowed case k Intermediate h = h
@@ -221,12 +221,12 @@ allowed case k Off h = h
 allowed case k On h = h
 allowed case k Bad h = h
 
-granted : (case : List Literal) (k : ℕ) (b : Bool) → input_may case k b ≡ true
+granted : (case : List TestAnswer) (k : ℕ) (b : Bool) → input_may case k b ≡ true
     → cond b (input_may case k true) (input_may case k false) ≡ true
 granted case k true h = h
 granted case k false h = h
 
-module _ (p : Process) (is : IsProcess p) (case : List Literal) (h : is_in case p ≡ true) where
+module _ (p : Process) (is : IsProcess p) (case : List TestAnswer) (h : is_in case p ≡ true) where
   pub low-of : (k : ℕ) (field : MeterField) → low_of case k field ≤ℤ p.measure k field
   low-of k field = low-all p k field case (negsuc 2147483647) h (is.least k field)
 
@@ -262,7 +262,7 @@ low-more k field (test.AtMost j which most) value low =
     more-if true low most = grind (arith, ints)
     more-if false low most = omega (arith, ints)
 
-low-least : (k : ℕ) (field : MeterField) (case : List Literal) (least low : ℤ) → least ≤ℤ low
+low-least : (k : ℕ) (field : MeterField) (case : List TestAnswer) (least low : ℤ) → least ≤ℤ low
     → least ≤ℤ fold (low_after k field) low case
 low-least k field [] least low h = h
 low-least k field (l ∷ case) least low h =
@@ -274,7 +274,7 @@ within : (low : ℤ) → negsuc 2147483647 ≤ℤ low
     × (lowered (pos 2147483647) low ≤ℤ pos 2147483647)
 within low h = (grind (arith, ints), grind (arith, ints))
 
-pub example-is : (case : List Literal) → IsProcess (example_of case)
+pub example-is : (case : List TestAnswer) → IsProcess (example_of case)
 example-is case = record {
   least = λ k field. (within (low_of case k field) (low-least k field case (negsuc 2147483647)
       (negsuc 2147483647) (same-le (negsuc 2147483647)))).0;

@@ -8,14 +8,14 @@ use Rattle.std.proofs.lemmas.Int.{ints}
 use Rattle.bay_tree.specs.declared.leaf.Dbpos.{Dbpos}
 use Rattle.bay_tree.specs.declared.leaf.Dbpos.TheVariants.{Intermediate, Off, On, Bad}
 use Rattle.bay_rules.specs.Process.{Process, after_item, after_items, holds, joined, negated, same_position, stands, top}
-use Rattle.bay_rules.specs.declared.rule.Item.{Item}
-use Rattle.bay_rules.specs.declared.rule.Item.TheVariants as items
+use Rattle.bay_rules.specs.declared.rule.ConditionItem.{ConditionItem}
+use Rattle.bay_rules.specs.declared.rule.ConditionItem.TheVariants as items
 use Rattle.bay_rules.specs.declared.rule.Relation.{Relation}
 use Rattle.bay_rules.specs.declared.rule.Relation.TheVariants.{Less, AtMost, Equal, Unequal, AtLeast, Greater}
 use Rattle.bay_audit.specs.Cases.{high_of, input_may, is_in, low_of, may_be}
 use Rattle.bay_audit.specs.Conditions.{both, either, includes, opposed, opposite, outlook, outlook_after, outlook_of, outlooks_after, paired, position_outlook, relation_outlook, top_outlook}
 use Rattle.bay_audit.specs.Process.{IsProcess}
-use Rattle.bay_audit.specs.declared.case.Literal.{Literal}
+use Rattle.bay_audit.specs.declared.case.TestAnswer.{TestAnswer}
 use Rattle.bay_audit.specs.declared.outlook.Outlook.{Outlook}
 use Rattle.bay_audit.proofs.CaseLemmas.{high-of, input-may, low-of, or-first, or-second, or-third, position-may}
 
@@ -115,13 +115,13 @@ module _ (low high x n : ℤ) (above : low ≤ℤ x) (below : x ≤ℤ high) whe
 
 -- ---- conditions
 
-module _ (p : Process) (is : IsProcess p) (case : List Literal) (h : is_in case p ≡ true) where
+module _ (p : Process) (is : IsProcess p) (case : List TestAnswer) (h : is_in case p ≡ true) where
   input-included : (k : ℕ) (b : Bool) → input_may case k b ≡ true
       → includes (outlook (input_may case k true) (input_may case k false)) b ≡ true
   input-included k true e = e
   input-included k false e = e
 
-  item-included : (i : Item) (os : List Outlook) (bs : List Bool) → Include os bs
+  item-included : (i : ConditionItem) (os : List Outlook) (bs : List Bool) → Include os bs
       → Include (outlook_after case i os) (after_item p i bs)
   item-included items.True os bs all = (refl, all)
   item-included (items.Position k which) os bs all =
@@ -137,7 +137,7 @@ module _ (p : Process) (is : IsProcess p) (case : List Literal) (h : is_in case 
   item-included items.And os bs all = include-joined both (λ a b. a && b) of-both os bs all
   item-included items.Or os bs all = include-joined either (λ a b. a || b) of-either os bs all
 
-  items-included : (is : List Item) (os : List Outlook) (bs : List Bool) → Include os bs
+  items-included : (is : List ConditionItem) (os : List Outlook) (bs : List Bool) → Include os bs
       → Include (outlooks_after case is os) (after_items p is bs)
   items-included [] os bs all = all
   items-included (i ∷ is) os bs all =
@@ -151,6 +151,6 @@ module _ (p : Process) (is : IsProcess p) (case : List Literal) (h : is_in case 
   top-included (o ∷ os) [] all = absurd all
 
   -- the condition is one of what it may come to
-  pub condition-included : (is : List Item) → includes (outlook_of case is) (holds is p) ≡ true
+  pub condition-included : (is : List ConditionItem) → includes (outlook_of case is) (holds is p) ≡ true
   condition-included is =
       top-included (outlooks_after case is []) (after_items p is []) (items-included is [] [] tt)

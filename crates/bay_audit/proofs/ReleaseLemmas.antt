@@ -4,14 +4,14 @@ use Rattle.std.proofs.lemmas.List.{map-append}
 use Rattle.std.proofs.lemmas.List.Sums.{sum_by-append}
 use Rattle.bay_rules.specs.Process.{Process}
 use Rattle.bay_audit.specs.Cases.{is_in}
-use Rattle.bay_audit.specs.Rules.{AreReleases, AreTold, IsRelease, IsToldOf, IsTurn, IsVerdict, Program, case_count, demand, told_count, way_of, ways}
+use Rattle.bay_audit.specs.Rules.{AreReleases, AreTold, IsRelease, IsToldOf, IsTurn, IsVerdict, BoundProgram, case_count, demand, told_count, way_of, ways}
 use Rattle.bay_audit.specs.declared.answer.Release.{Release}
-use Rattle.bay_audit.specs.declared.answer.Told.{Told}
-use Rattle.bay_audit.specs.declared.answer.Told.TheVariants.{Released, Refused, Hangs}
+use Rattle.bay_audit.specs.declared.answer.CaseRelease.{CaseRelease}
+use Rattle.bay_audit.specs.declared.answer.CaseRelease.TheVariants.{Released, Refused, Hangs}
 use Rattle.bay_audit.specs.declared.answer.ToldCase.{ToldCase}
 use Rattle.bay_audit.specs.declared.answer.Verdict.{Verdict}
 use Rattle.bay_audit.specs.declared.answer.Verdict.TheVariants as verdict
-use Rattle.bay_audit.specs.declared.case.Literal.{Literal}
+use Rattle.bay_audit.specs.declared.case.TestAnswer.{TestAnswer}
 use Rattle.bay_audit.specs.declared.case.Test.{Test}
 use Rattle.bay_audit.proofs.SearchLemmas.{count-last, count-two, one_if, part, parts-count}
 use Rattle.bay_nodes.specs.declared.switch.Operation.{Operation}
@@ -19,10 +19,10 @@ use Rattle.bay_nodes.specs.declared.switch.Operation.TheVariants as operations
 
 -- ---- what is told
 
-module _ (g : Program) (k : ℕ) (operation : Operation) where
-  pub verdict-told : (case : List Literal) (v : Verdict) (told : Told)
+module _ (g : BoundProgram) (k : ℕ) (operation : Operation) where
+  pub verdict-told : (case : List TestAnswer) (v : Verdict) (told : CaseRelease)
       → IsVerdict g (demand k operation) case v
-      → IsTurn v (let r : Result Told Test = Ok told in r) → IsToldOf g k operation case told
+      → IsTurn v (let r : Result CaseRelease Test = Ok told in r) → IsToldOf g k operation case told
   verdict-told case verdict.Obeyed told is turn =
       let same : told ≡ Released = cc in subst (IsToldOf g k operation case) (sym same)
       (λ p ip inside machine now slots timers image kept leaves.
@@ -43,7 +43,7 @@ module _ (g : Program) (k : ℕ) (operation : Operation) where
 -- ---- how many have a process
 
 -- a case that is told is left no more
-pub one-told : (cases : List ToldCase) (left : List (List Literal)) (c : ToldCase) (p : Process)
+pub one-told : (cases : List ToldCase) (left : List (List TestAnswer)) (c : ToldCase) (p : Process)
     → told_count cases p + case_count (left ++ c.case ∷ []) p ≡ 1
     → told_count (cases ++ c ∷ []) p + case_count left p ≡ 1
 one-told cases left c p one =
@@ -53,7 +53,7 @@ one-told cases left c p one =
     omega (arith, told, e, one)
 
 -- both parts of a case are left in its place
-pub one-split : (cases : List ToldCase) (left : List (List Literal)) (case : List Literal)
+pub one-split : (cases : List ToldCase) (left : List (List TestAnswer)) (case : List TestAnswer)
     (test : Test) (p : Process)
     → told_count cases p + case_count (left ++ case ∷ []) p ≡ 1
     → told_count cases p
@@ -66,7 +66,7 @@ one-split cases left case test p one =
 
 -- ---- several releases
 
-pub releases-more : (g : Program) (releases : List Release) (r : Release) → AreReleases g releases
+pub releases-more : (g : BoundProgram) (releases : List Release) (r : Release) → AreReleases g releases
     → IsRelease g r → AreReleases g (releases ++ r ∷ [])
 releases-more g [] r all one = (one, tt)
 releases-more g (q ∷ releases) r all one = (all.0, releases-more g releases r all.1 one)

@@ -21,11 +21,11 @@ use Rattle.il_scan.specs.Scans as scans
 use Rattle.bay_audit.specs.Cases.{is_in, range_of}
 use Rattle.bay_audit.specs.Conditions.{asked_of, includes, opposite, outlook_of}
 use Rattle.bay_audit.specs.Process.{IsProcess, process_value}
-use Rattle.bay_audit.specs.Rules.{Comes, IsMissed, Program, decide, goal_range, idle_range, is_asked, is_kept, is_lost, is_obeyed, range_at, range_there, reaches, releasing_point}
+use Rattle.bay_audit.specs.Rules.{Comes, IsMissed, BoundProgram, decide, goal_range, idle_range, is_asked, is_kept, is_lost, is_obeyed, range_at, range_there, reaches, releasing_point}
 use Rattle.bay_audit.specs.declared.demand.Demand.{Demand}
 use Rattle.bay_audit.specs.declared.demand.Goal.{Goal}
 use Rattle.bay_audit.specs.declared.demand.Goal.TheVariants as goals
-use Rattle.bay_audit.specs.declared.case.Literal.{Literal}
+use Rattle.bay_audit.specs.declared.case.TestAnswer.{TestAnswer}
 use Rattle.bay_audit.specs.declared.outlook.Outlook.{Outlook}
 use Rattle.bay_audit.specs.declared.answer.Decision.TheVariants.{Obeyed, Lost, Unknown}
 use Rattle.bay_audit.proofs.CaseLemmas.{ranges-have}
@@ -178,7 +178,7 @@ idle-told now (t ∷ timers) (below ∷ limits) zero y = young-told now t.phase 
 idle-told now (t ∷ timers) (below ∷ limits) (suc n) y = idle-told now timers limits n y.1
 
 -- what is known of whether a goal is reached tells it
-pub goal-told : (g : Program) (goal : Goal) (now : ℕ) (slots : List Value)
+pub goal-told : (g : BoundProgram) (goal : Goal) (now : ℕ) (slots : List Value)
     (timers : List TimerState) (ranges : List Range) (limits : List (Option ℕ))
     → AreIn slots ranges → AreYoung now timers limits
     → Told (goal_range g.image.points g.writes ranges limits goal) (reaches g goal slots timers)
@@ -190,7 +190,7 @@ goal-told g (goals.Idle n) now slots timers ranges limits h y = idle-told now ti
 
 -- ---- what is asked
 
-pub asked-included : (d : Demand) (p : Process) → IsProcess p → (case : List Literal)
+pub asked-included : (d : Demand) (p : Process) → IsProcess p → (case : List TestAnswer)
     → is_in case p ≡ true → includes (asked_of case d.when d.unless) (is_asked d p) ≡ true
 asked-included d p is case inside =
     of-both (outlook_of case d.when) (opposite (outlook_of case d.unless)) (holds d.when p)
@@ -200,7 +200,7 @@ asked-included d p is case inside =
 
 -- ---- a pass
 
-module _ (g : Program) (d : Demand) (case : List Literal) (ranges : List Range)
+module _ (g : BoundProgram) (d : Demand) (case : List TestAnswer) (ranges : List Range)
     (limits : List (Option ℕ))
     (foretells : ForetellsTimed g.image d.limits (map (range_of case) g.reads) limits ranges)
     (asked : Outlook) (r : Range) (is-asked : asked ≡ asked_of case d.when d.unless)
@@ -241,7 +241,7 @@ idle-so : (kind : RuleKind) (o : Outlook) (c b : Bool) → o.yes ≡ false → i
 idle-so kind o false b never one = refl
 idle-so kind o true b never one = absurd (let f : true ≡ false = sym one ∙ never in cc)
 
-pub idle-in : (g : Program) (d : Demand) (case : List Literal)
+pub idle-in : (g : BoundProgram) (d : Demand) (case : List TestAnswer)
     → (asked_of case d.when d.unless).yes ≡ false → (p : Process) → IsProcess p
     → is_in case p ≡ true → Comes true g d p
 idle-in g d case never p is inside machine now slots timers image kept young leaves =

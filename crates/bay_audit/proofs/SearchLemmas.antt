@@ -8,34 +8,34 @@ use Rattle.bay_rules.specs.declared.rule.Rule.{Rule}
 use Rattle.bay_audit.specs.declared.demand.Demand.{Demand}
 use Rattle.bay_audit.specs.Cases.{answer_of, is_in, meets}
 use Rattle.bay_audit.specs.Process.{IsProcess}
-use Rattle.bay_audit.specs.Rules.{AreRight, Comes, HasProcess, IsAnswer, IsBrokenIn, IsLeft, IsMet, IsMissed, IsRight, Program, case_count}
+use Rattle.bay_audit.specs.Rules.{AreRight, Comes, HasProcess, IsAnswer, IsBrokenIn, IsLeft, IsMet, IsMissed, IsRight, BoundProgram, case_count}
 use Rattle.bay_audit.specs.declared.answer.Answer.{Answer}
 use Rattle.bay_audit.specs.declared.answer.Answer.TheVariants.{Holds, Broken, Open, TooMany, Since, Timed}
-use Rattle.bay_audit.specs.declared.case.Literal.{Literal}
+use Rattle.bay_audit.specs.declared.case.TestAnswer.{TestAnswer}
 use Rattle.bay_audit.specs.declared.case.Test.{Test}
 
 -- 1 where a case has the process
 abbrev pub one_if : Bool → ℕ
 one_if b = cond b 1 0
 
-pub count-last : (cases : List (List Literal)) (case : List Literal) (p : Process)
+pub count-last : (cases : List (List TestAnswer)) (case : List TestAnswer) (p : Process)
     → case_count (cases ++ case ∷ []) p ≡ case_count cases p + one_if (is_in case p)
 count-last cases case p =
     let e : case_count (cases ++ case ∷ []) p ≡ case_count cases p + (0 + one_if (is_in case p)) =
-    sum_by-append (λ (c : List Literal). cond (is_in c p) 1 0) cases (case ∷ []) in
+    sum_by-append (λ (c : List TestAnswer). cond (is_in c p) 1 0) cases (case ∷ []) in
     omega (arith, e)
 
-pub count-two : (cases : List (List Literal)) (a b : List Literal) (p : Process)
+pub count-two : (cases : List (List TestAnswer)) (a b : List TestAnswer) (p : Process)
     → case_count (cases ++ a ∷ b ∷ []) p
     ≡ case_count cases p + (one_if (is_in a p) + one_if (is_in b p))
 count-two cases a b p =
     let e : case_count (cases ++ a ∷ b ∷ []) p
     ≡ case_count cases p + (0 + one_if (is_in a p) + one_if (is_in b p)) =
-    sum_by-append (λ (c : List Literal). cond (is_in c p) 1 0) cases (a ∷ b ∷ []) in
+    sum_by-append (λ (c : List TestAnswer). cond (is_in c p) 1 0) cases (a ∷ b ∷ []) in
     omega (arith, e)
 
 -- a process of a case is in one of its two parts
-in-last : (case : List Literal) (l : Literal) (p : Process)
+in-last : (case : List TestAnswer) (l : TestAnswer) (p : Process)
     → is_in (case ++ l ∷ []) p ≡ (is_in case p && (meets p l && true))
 in-last case l p = list_all-append (meets p) case (l ∷ [])
 
@@ -47,10 +47,10 @@ parts-sum false true = refl
 parts-sum false false = refl
 
 -- the part of a case in which a test has this answer
-abbrev pub part : List Literal → Test → Bool → List Literal
+abbrev pub part : List TestAnswer → Test → Bool → List TestAnswer
 part case test value = case ++ record { test = test; value = value } ∷ []
 
-pub parts-count : (case : List Literal) (test : Test) (p : Process)
+pub parts-count : (case : List TestAnswer) (test : Test) (p : Process)
     → one_if (is_in (part case test false) p) + one_if (is_in (part case test true) p)
     ≡ one_if (is_in case p)
 parts-count case test p =
@@ -65,12 +65,12 @@ parts-count case test p =
     let s = parts-sum (is_in case p) (answer_of p test) in
     omega (arith, a, b, s)
 
-module _ (g : Program) (d : Demand) where
+module _ (g : BoundProgram) (d : Demand) where
   -- at first all processes are left
   pub left-first : IsLeft g d ([] ∷ [])
   left-first p is none = absurd (omega (arith, none))
 
-  left-if : (b : Bool) (cases : List (List Literal)) (case : List Literal) (p : Process)
+  left-if : (b : Bool) (cases : List (List TestAnswer)) (case : List TestAnswer) (p : Process)
       → IsProcess p → is_in case p ≡ b → IsLeft g d (cases ++ case ∷ [])
       → ((q : Process) → IsProcess q → is_in case q ≡ true → Comes true g d q)
       → case_count cases p ≡ 0 → Comes true g d p
@@ -80,7 +80,7 @@ module _ (g : Program) (d : Demand) where
       omega (arith, e, o, none))
 
   -- a case in which the rule is obeyed is left no more
-  pub left-without : (cases : List (List Literal)) (case : List Literal)
+  pub left-without : (cases : List (List TestAnswer)) (case : List TestAnswer)
       → IsLeft g d (cases ++ case ∷ [])
       → ((q : Process) → IsProcess q → is_in case q ≡ true → Comes true g d q)
       → IsLeft g d cases
@@ -88,7 +88,7 @@ module _ (g : Program) (d : Demand) where
       left-if (is_in case p) cases case p is refl left obeyed none
 
   -- both parts of a case are left in its place
-  pub left-parts : (cases : List (List Literal)) (case : List Literal) (test : Test)
+  pub left-parts : (cases : List (List TestAnswer)) (case : List TestAnswer) (test : Test)
       → IsLeft g d (cases ++ case ∷ [])
       → IsLeft g d (cases ++ part case test false ∷ part case test true ∷ [])
   left-parts cases case test left p is none =
@@ -99,12 +99,12 @@ module _ (g : Program) (d : Demand) where
       omega (arith, e, two, s, none))
 
   -- where none is left the rule holds
-  pub left-none : (cases : List (List Literal)) → cases ≡ [] → IsLeft g d cases
+  pub left-none : (cases : List (List TestAnswer)) → cases ≡ [] → IsLeft g d cases
       → IsMet g d
   left-none cases none left p is = left p is (ap (λ cs. case_count cs p) none)
 
 -- the answer where a demand is missed in a case
-pub broken-right : (g : Program) (d : Demand) (case : List Literal) (a : Answer)
+pub broken-right : (g : BoundProgram) (d : Demand) (case : List TestAnswer) (a : Answer)
     → IsMissed g d case → IsBrokenIn case a → IsAnswer g d a
 broken-right g d case (Broken told) is one =
     (subst (IsMissed g d) (sym one.0) is, subst HasProcess (sym one.0) one.1)
@@ -115,7 +115,7 @@ broken-right g d case (Since n cases) is one = absurd one
 broken-right g d case Timed is one = absurd one
 
 -- one rule more, and its answer
-pub right-more : (g : Program) (rules : List Rule) (answers : List Answer) (r : Rule) (a : Answer)
+pub right-more : (g : BoundProgram) (rules : List Rule) (answers : List Answer) (r : Rule) (a : Answer)
     → AreRight g rules answers → IsRight g r a → AreRight g (rules ++ r ∷ []) (answers ++ a ∷ [])
 right-more g [] [] r a all one = (one, tt)
 right-more g (q ∷ rules) (b ∷ answers) r a all one =

@@ -13,7 +13,7 @@ use Rattle.bay_tree.specs.declared.leaf.Dbpos.TheVariants.{Intermediate, Off, On
 use Rattle.il_range.specs.declared.range.Range.{Range}
 use Rattle.il_range.specs.declared.range.Range.TheVariants.{No, Yes, Either, Between}
 use Rattle.bay_rules.specs.Process.{Process, same_position}
-use Rattle.bay_audit.specs.declared.case.Literal.{Literal}
+use Rattle.bay_audit.specs.declared.case.TestAnswer.{TestAnswer}
 use Rattle.bay_audit.specs.declared.case.Test.{Test}
 use Rattle.bay_audit.specs.declared.case.Test.TheVariants as test
 
@@ -27,11 +27,11 @@ answer_of p (test.Input k) = p.input k
 answer_of p (test.AtMost k field most) = int_le (p.measure k field) most
 
 -- the test of the literal has its answer
-abbrev pub meets : Process → Literal → Bool
+abbrev pub meets : Process → TestAnswer → Bool
 meets p l = beq (answer_of p l.test) l.value
 
 -- the process is one of the case
-abbrev pub is_in : List Literal → Process → Bool
+abbrev pub is_in : List TestAnswer → Process → Bool
 is_in case p = list_all (meets p) case
 
 -- ---- what a case leaves open
@@ -53,10 +53,10 @@ test_allows k position value (test.Position j which) =
 test_allows k position value (test.Input j) = true
 test_allows k position value (test.AtMost j field most) = true
 
-abbrev pub allows : ℕ → Dbpos → Literal → Bool
+abbrev pub allows : ℕ → Dbpos → TestAnswer → Bool
 allows k position l = test_allows k position l.value l.test
 
-abbrev pub may_be : List Literal → ℕ → Dbpos → Bool
+abbrev pub may_be : List TestAnswer → ℕ → Dbpos → Bool
 may_be case k position = list_all (allows k position) case
 
 -- an input may have the value
@@ -65,10 +65,10 @@ test_grants k wanted value (test.Position j which) = true
 test_grants k wanted value (test.Input j) = not (j == k) || beq wanted value
 test_grants k wanted value (test.AtMost j field most) = true
 
-abbrev pub grants : ℕ → Bool → Literal → Bool
+abbrev pub grants : ℕ → Bool → TestAnswer → Bool
 grants k wanted l = test_grants k wanted l.value l.test
 
-abbrev pub input_may : List Literal → ℕ → Bool → Bool
+abbrev pub input_may : List TestAnswer → ℕ → Bool → Bool
 input_may case k wanted = list_all (grants k wanted) case
 
 -- the least and the greatest number that a measured value may have
@@ -87,7 +87,7 @@ low_by k field low value (test.Input j) = low
 low_by k field low value (test.AtMost j which most) =
     if is_of_field k field j which && not value then raised low (most +ℤ pos 1) else low
 
-abbrev pub low_after : ℕ → MeterField → ℤ → Literal → ℤ
+abbrev pub low_after : ℕ → MeterField → ℤ → TestAnswer → ℤ
 low_after k field low l = low_by k field low l.value l.test
 
 abbrev pub high_by : ℕ → MeterField → ℤ → Bool → Test → ℤ
@@ -96,13 +96,13 @@ high_by k field high value (test.Input j) = high
 high_by k field high value (test.AtMost j which most) =
     if is_of_field k field j which && value then lowered high most else high
 
-abbrev pub high_after : ℕ → MeterField → ℤ → Literal → ℤ
+abbrev pub high_after : ℕ → MeterField → ℤ → TestAnswer → ℤ
 high_after k field high l = high_by k field high l.value l.test
 
-abbrev pub low_of : List Literal → ℕ → MeterField → ℤ
+abbrev pub low_of : List TestAnswer → ℕ → MeterField → ℤ
 low_of case k field = fold (low_after k field) (negsuc 2147483647) case
 
-abbrev pub high_of : List Literal → ℕ → MeterField → ℤ
+abbrev pub high_of : List TestAnswer → ℕ → MeterField → ℤ
 high_of case k field = fold (high_after k field) (pos 2147483647) case
 
 -- ---- a process of a case
@@ -112,7 +112,7 @@ abbrev pub first_position : Bool → Bool → Bool → Dbpos
 first_position i o n = if i then Intermediate else if o then Off else if n then On else Bad
 
 -- of each point the first value that it may have
-abbrev pub example_of : List Literal → Process
+abbrev pub example_of : List TestAnswer → Process
 example_of case = record {
   position = λ k. first_position (may_be case k Intermediate) (may_be case k Off)
       (may_be case k On);
@@ -144,7 +144,7 @@ position_range EnableOpen i o n b = No
 position_range EnableClose i o n b = No
 
 -- what is known of what a point stands for
-abbrev pub range_of : List Literal → Source → Range
+abbrev pub range_of : List TestAnswer → Source → Range
 range_of case (source.Switch k point) =
     position_range point (may_be case k Intermediate) (may_be case k Off) (may_be case k On)
     (may_be case k Bad)

@@ -2,12 +2,12 @@
 use Rattle.std.specs.Prelude.{ℤ, int_lt, int_le, Bool, true, false, ◌&&◌, ◌||◌, List, [], ◌∷◌}
 use Rattle.bay_tree.specs.declared.leaf.Dbpos.{Dbpos}
 use Rattle.bay_tree.specs.declared.leaf.Dbpos.TheVariants.{Intermediate, Off, On, Bad}
-use Rattle.bay_rules.specs.declared.rule.Item.{Item}
-use Rattle.bay_rules.specs.declared.rule.Item.TheVariants as items
+use Rattle.bay_rules.specs.declared.rule.ConditionItem.{ConditionItem}
+use Rattle.bay_rules.specs.declared.rule.ConditionItem.TheVariants as items
 use Rattle.bay_rules.specs.declared.rule.Relation.{Relation}
 use Rattle.bay_rules.specs.declared.rule.Relation.TheVariants.{Less, AtMost, Equal, Unequal, AtLeast, Greater}
 use Rattle.bay_audit.specs.Cases.{high_of, input_may, low_of, may_be}
-use Rattle.bay_audit.specs.declared.case.Literal.{Literal}
+use Rattle.bay_audit.specs.declared.case.TestAnswer.{TestAnswer}
 use Rattle.bay_audit.specs.declared.outlook.Outlook.{Outlook}
 
 -- what may be TRUE, and may be FALSE
@@ -62,7 +62,7 @@ paired f (b ∷ []) = []
 paired f (b ∷ a ∷ stack) = f a b ∷ stack
 
 -- the stack after an item
-abbrev pub outlook_after : List Literal → Item → List Outlook → List Outlook
+abbrev pub outlook_after : List TestAnswer → ConditionItem → List Outlook → List Outlook
 outlook_after case items.True stack = outlook true false ∷ stack
 outlook_after case (items.Position k position) stack =
     position_outlook position (may_be case k Intermediate) (may_be case k Off) (may_be case k On)
@@ -76,7 +76,7 @@ outlook_after case items.And stack = paired both stack
 outlook_after case items.Or stack = paired either stack
 
 -- the stack after several
-abbrev pub outlooks_after : List Literal → List Item → List Outlook → List Outlook
+abbrev pub outlooks_after : List TestAnswer → List ConditionItem → List Outlook → List Outlook
 outlooks_after case [] stack = stack
 outlooks_after case (i ∷ is) stack = outlooks_after case is (outlook_after case i stack)
 
@@ -85,9 +85,9 @@ top_outlook [] = outlook false true
 top_outlook (a ∷ stack) = a
 
 -- what the condition that the items are may come to
-abbrev pub outlook_of : List Literal → List Item → Outlook
+abbrev pub outlook_of : List TestAnswer → List ConditionItem → Outlook
 outlook_of case is = top_outlook (outlooks_after case is [])
 
 -- what a condition without its exception may come to
-abbrev pub asked_of : List Literal → List Item → List Item → Outlook
+abbrev pub asked_of : List TestAnswer → List ConditionItem → List ConditionItem → Outlook
 asked_of case when unless = both (outlook_of case when) (opposite (outlook_of case unless))

@@ -8,8 +8,8 @@ use Rattle.bay_base.specs.declared.point.SwitchPoint.TheVariants.{EnableOpen, En
 use Rattle.bay_process.specs.Sources.{sources_of}
 use Rattle.bay_process.specs.Values.{is_point, output_of}
 use Rattle.bay_rules.specs.Process.{Process, holds}
-use Rattle.bay_rules.specs.declared.rule.Item.{Item}
-use Rattle.bay_rules.specs.declared.rule.Item.TheVariants as items
+use Rattle.bay_rules.specs.declared.rule.ConditionItem.{ConditionItem}
+use Rattle.bay_rules.specs.declared.rule.ConditionItem.TheVariants as items
 use Rattle.bay_rules.specs.declared.rule.Rule.{Rule}
 use Rattle.bay_rules.specs.declared.rule.RuleKind.{RuleKind}
 use Rattle.bay_rules.specs.declared.rule.RuleKind.TheVariants.{Never, Always}
@@ -28,14 +28,14 @@ use Rattle.bay_audit.specs.Cases.{is_in}
 use Rattle.bay_audit.specs.Process.{IsProcess, process_value}
 use Rattle.bay_audit.specs.declared.answer.Answer.{Answer}
 use Rattle.bay_audit.specs.declared.answer.Answer.TheVariants.{Holds, Broken, Open, TooMany, Since, Timed}
-use Rattle.bay_audit.specs.declared.case.Literal.{Literal}
+use Rattle.bay_audit.specs.declared.case.TestAnswer.{TestAnswer}
 use Rattle.bay_audit.specs.declared.case.Test.{Test}
 use Rattle.bay_audit.specs.declared.answer.Release.{Release}
 use Rattle.bay_audit.specs.declared.demand.Demand.{Demand}
 use Rattle.bay_audit.specs.declared.demand.Goal.{Goal}
 use Rattle.bay_audit.specs.declared.demand.Goal.TheVariants as goals
-use Rattle.bay_audit.specs.declared.answer.Told.{Told}
-use Rattle.bay_audit.specs.declared.answer.Told.TheVariants.{Released, Refused, Hangs}
+use Rattle.bay_audit.specs.declared.answer.CaseRelease.{CaseRelease}
+use Rattle.bay_audit.specs.declared.answer.CaseRelease.TheVariants.{Released, Refused, Hangs}
 use Rattle.bay_audit.specs.declared.answer.ToldCase.{ToldCase}
 use Rattle.bay_audit.specs.declared.outlook.Outlook.{Outlook}
 use Rattle.bay_audit.specs.declared.answer.Decision.{Decision}
@@ -47,15 +47,15 @@ use Rattle.bay_audit.specs.declared.answer.Verdict.TheVariants as verdict
 
 -- a program on a bay: its image, and what its points stand for that it only reads, and those that
 -- it may write
-pub record Program : Type 0 where
+pub record BoundProgram : Type 0 where
   pub image : Image
   pub reads : List Source
   pub writes : List Source
 
-abbrev pub program : Image → List Source → List Source → Program
+abbrev pub program : Image → List Source → List Source → BoundProgram
 program image reads writes = record { image = image; reads = reads; writes = writes }
 
-abbrev pub program_of : Bay → Image → Program
+abbrev pub program_of : Bay → Image → BoundProgram
 program_of bay image =
     program image (sources_of false bay.points image.points)
     (sources_of true bay.points image.points)
@@ -67,7 +67,7 @@ releasing_point operations.Close = EnableClose
 
 -- whether slots release the switch in this direction; they do not where the program does not name
 -- its point
-abbrev pub releases : Program → ℕ → Operation → List Value → Bool
+abbrev pub releases : BoundProgram → ℕ → Operation → List Value → Bool
 releases g k operation slots =
     output_of k (releasing_point operation) g.writes (outputs_of g.image.points slots)
 
@@ -80,7 +80,7 @@ is_obeyed Never true release = not release
 is_obeyed Always true release = release
 
 -- slots and timers come to the goal: the switch is released, or no delay of the timer runs
-abbrev pub reaches : Program → Goal → List Value → List TimerState → Bool
+abbrev pub reaches : BoundProgram → Goal → List Value → List TimerState → Bool
 reaches g (goals.Release k operation) slots timers = releases g k operation slots
 reaches g (goals.Idle n) slots timers = is_none (began_at n timers)
 
@@ -89,12 +89,12 @@ abbrev pub is_asked : Demand → Process → Bool
 is_asked d p = holds d.when p && not (holds d.unless p)
 
 -- slots and timers meet a demand, while the process reports this
-abbrev pub obeys : Program → Demand → Process → List Value → List TimerState → Bool
+abbrev pub obeys : BoundProgram → Demand → Process → List Value → List TimerState → Bool
 obeys g d p slots timers = is_obeyed d.kind (is_asked d p) (reaches g d.goal slots timers)
 
 -- Each scan that is meant, from what the process reports, at each moment and whatever the program
 -- keeps of the scans before it, ends with the demand met, or not.
-abbrev pub Comes : Bool → Program → Demand → Process → Type 0
+abbrev pub Comes : Bool → BoundProgram → Demand → Process → Type 0
 Comes b g d p =
     (machine : Held) (now : ℕ) (slots : List Value) (timers : List TimerState)
     → machine.image ≡ g.image → IsKept machine → AreYoung now machine.timers d.limits
@@ -102,11 +102,11 @@ Comes b g d p =
     → obeys g d p slots timers ≡ b
 
 -- A demand is met: whatever a process reports, in each state.
-abbrev pub IsMet : Program → Demand → Type 0
+abbrev pub IsMet : BoundProgram → Demand → Type 0
 IsMet g d = (p : Process) → IsProcess p → Comes true g d p
 
 -- A demand is missed in a case: by each process of the case, in each state.
-abbrev pub IsMissed : Program → Demand → List Literal → Type 0
+abbrev pub IsMissed : BoundProgram → Demand → List TestAnswer → Type 0
 IsMissed g d case = (p : Process) → IsProcess p → is_in case p ≡ true → Comes false g d p
 
 -- what a rule demands, but for its time
@@ -120,11 +120,11 @@ plain_demand rule = record {
 }
 
 -- A rule holds: whatever a process reports, in each state, it is obeyed.
-abbrev pub IsRule : Program → Rule → Type 0
+abbrev pub IsRule : BoundProgram → Rule → Type 0
 IsRule g rule = IsMet g (plain_demand rule)
 
 -- A rule is broken in a case: by each process of the case, in each state.
-abbrev pub IsBroken : Program → Rule → List Literal → Type 0
+abbrev pub IsBroken : BoundProgram → Rule → List TestAnswer → Type 0
 IsBroken g rule case = IsMissed g (plain_demand rule) case
 
 -- ---- rules with a time
@@ -144,7 +144,7 @@ late rule time n = record {
 }
 
 -- the switch is not released while the condition does not hold
-abbrev pub there : Rule → List Item → Demand
+abbrev pub there : Rule → List ConditionItem → Demand
 there rule condition = record {
   kind = Never;
   goal = goals.Release rule.switch rule.operation;
@@ -154,7 +154,7 @@ there rule condition = record {
 }
 
 -- no delay of the timer runs while the condition does not hold
-abbrev pub idle : List Item → ℕ → Demand
+abbrev pub idle : List ConditionItem → ℕ → Demand
 idle condition n = record {
   kind = Always;
   goal = goals.Idle n;
@@ -165,13 +165,13 @@ idle condition n = record {
 
 -- A timer bears the rule that a switch is not released until a condition has held for a time: its
 -- delay runs only while the condition holds, and a release waits for it.
-pub record IsByTimer (g : Program) (rule : Rule) (timing : Timing) (n : ℕ) : Type 0 where
+pub record IsByTimer (g : BoundProgram) (rule : Rule) (timing : Timing) (n : ℕ) : Type 0 where
   pub late_so : IsMet g (late rule timing.time n)
   pub there_so : IsMet g (there rule timing.condition)
   pub idle_so : IsMet g (idle timing.condition n)
 
 -- An answer to such a rule is right.
-abbrev pub IsUntil : Program → Rule → Timing → Answer → Type 0
+abbrev pub IsUntil : BoundProgram → Rule → Timing → Answer → Type 0
 IsUntil g rule timing (Since n cases) = (rule.kind ≡ Never) × IsByTimer g rule timing n
 IsUntil g rule timing Timed = Unit {0}
 IsUntil g rule timing (Holds cases) = ⊥
@@ -182,11 +182,11 @@ IsUntil g rule timing TooMany = ⊥
 -- ---- answers
 
 -- A process is one of the case.
-abbrev pub HasProcess : List Literal → Type 0
+abbrev pub HasProcess : List TestAnswer → Type 0
 HasProcess case = (p : Process) × IsProcess p × (is_in case p ≡ true)
 
 -- An answer to a demand is right.
-abbrev pub IsAnswer : Program → Demand → Answer → Type 0
+abbrev pub IsAnswer : BoundProgram → Demand → Answer → Type 0
 IsAnswer g d (Holds cases) = IsMet g d
 IsAnswer g d (Broken case) = IsMissed g d case × HasProcess case
 IsAnswer g d (Open case kept) = Unit {0}
@@ -195,13 +195,13 @@ IsAnswer g d (Since n cases) = ⊥
 IsAnswer g d Timed = ⊥
 
 -- An answer to a rule is right.
-abbrev pub IsRight : Program → Rule → Answer → Type 0
+abbrev pub IsRight : BoundProgram → Rule → Answer → Type 0
 IsRight g rule answer =
     MatchOption rule.timed (IsAnswer g (plain_demand rule) answer)
     (λ timing. IsUntil g rule timing answer)
 
 -- There is an answer for each rule, in their order, and it is right.
-abbrev pub AreRight : Program → List Rule → List Answer → Type 0
+abbrev pub AreRight : BoundProgram → List Rule → List Answer → Type 0
 AreRight g [] [] = Unit {0}
 AreRight g (r ∷ rules) (a ∷ answers) = IsRight g r a × AreRight g rules answers
 AreRight g [] (a ∷ answers) = ⊥
@@ -211,7 +211,7 @@ AreRight g (r ∷ rules) [] = ⊥
 
 -- Each scan from what the process reports, in each state, releases the switch in this direction, or
 -- does not.
-abbrev pub Gives : Bool → Program → ℕ → Operation → Process → Type 0
+abbrev pub Gives : Bool → BoundProgram → ℕ → Operation → Process → Type 0
 Gives b g k operation p =
     (machine : Held) (now : ℕ) (slots : List Value) (timers : List TimerState)
     → machine.image ≡ g.image → IsKept machine
@@ -219,14 +219,14 @@ Gives b g k operation p =
     → releases g k operation slots ≡ b
 
 -- What is told of a case of a release is so.
-abbrev pub IsToldOf : Program → ℕ → Operation → List Literal → Told → Type 0
+abbrev pub IsToldOf : BoundProgram → ℕ → Operation → List TestAnswer → CaseRelease → Type 0
 IsToldOf g k operation case Released =
     (p : Process) → IsProcess p → is_in case p ≡ true → Gives true g k operation p
 IsToldOf g k operation case Refused =
     (p : Process) → IsProcess p → is_in case p ≡ true → Gives false g k operation p
 IsToldOf g k operation case (Hangs kept) = Unit {0}
 
-abbrev pub AreTold : Program → ℕ → Operation → List ToldCase → Type 0
+abbrev pub AreTold : BoundProgram → ℕ → Operation → List ToldCase → Type 0
 AreTold g k operation [] = Unit {0}
 AreTold g k operation (c ∷ cases) =
     IsToldOf g k operation c.case c.told × AreTold g k operation cases
@@ -235,17 +235,17 @@ AreTold g k operation (c ∷ cases) =
 abbrev pub told_count : List ToldCase → Process → ℕ
 told_count cases p = count_by (λ c. is_in c.case p) cases
 
-abbrev pub case_count : List (List Literal) → Process → ℕ
+abbrev pub case_count : List (List TestAnswer) → Process → ℕ
 case_count cases p = count_by (λ case. is_in case p) cases
 
 -- The cases of a release are right, and each process is in just one of them, or in one of those
 -- that are left.
-pub record IsRelease (g : Program) (r : Release) : Type 0 where
+pub record IsRelease (g : BoundProgram) (r : Release) : Type 0 where
   pub told : AreTold g r.switch r.operation r.cases.items
   pub one : (p : Process) → told_count r.cases.items p + case_count r.left.items p ≡ 1
 
 -- Each is so.
-abbrev pub AreReleases : Program → List Release → Type 0
+abbrev pub AreReleases : BoundProgram → List Release → Type 0
 AreReleases g [] = Unit {0}
 AreReleases g (r ∷ releases) = IsRelease g r × AreReleases g releases
 
@@ -270,7 +270,7 @@ demand k operation = record {
 -- ---- how they are found
 
 -- a verdict on a demand in a case
-abbrev pub IsVerdict : Program → Demand → List Literal → Verdict → Type 0
+abbrev pub IsVerdict : BoundProgram → Demand → List TestAnswer → Verdict → Type 0
 IsVerdict g d case verdict.Obeyed =
     (p : Process) → IsProcess p → is_in case p ≡ true → Comes true g d p
 IsVerdict g d case verdict.Broken = IsMissed g d case
@@ -330,18 +330,18 @@ goal_range points writes ranges limits (goals.Release k operation) =
 goal_range points writes ranges limits (goals.Idle n) = idle_range (slice_get limits n)
 
 -- A demand is met by each process that none of these cases has.
-abbrev pub IsLeft : Program → Demand → List (List Literal) → Type 0
+abbrev pub IsLeft : BoundProgram → Demand → List (List TestAnswer) → Type 0
 IsLeft g d cases = (p : Process) → IsProcess p → case_count cases p ≡ 0 → Comes true g d p
 
 -- what a verdict on a demand tells, or the test that it hangs on
-abbrev pub IsTurn : Verdict → Result Told Test → Type 0
+abbrev pub IsTurn : Verdict → Result CaseRelease Test → Type 0
 IsTurn verdict.Obeyed r = r ≡ Ok Released
 IsTurn verdict.Broken r = r ≡ Ok Refused
 IsTurn (verdict.Open kept) r = r ≡ Ok (Hangs kept)
 IsTurn (verdict.Split test) r = r ≡ Err test
 
 -- the answer where a demand is missed in a case
-abbrev pub IsBrokenIn : List Literal → Answer → Type 0
+abbrev pub IsBrokenIn : List TestAnswer → Answer → Type 0
 IsBrokenIn case (Broken told) = (told ≡ case) × HasProcess case
 IsBrokenIn case (Open told kept) = Unit {0}
 IsBrokenIn case (Holds cases) = ⊥

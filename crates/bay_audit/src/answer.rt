@@ -22,7 +22,7 @@ pub enum Answer {
 
 /// What is told of a release in a case.
 #[derive(Drop)]
-pub enum Told {
+pub enum CaseRelease {
     /// For each process of the case the program releases it, in each state.
     Released,
     /// For each process of the case it does not, in each state.
@@ -35,7 +35,7 @@ pub enum Told {
 #[derive(Drop)]
 pub struct ToldCase {
     pub case: Case,
-    pub told: Told,
+    pub told: CaseRelease,
 }
 
 /// When a switch is released in a direction. Each process is in just one of the cases, or of those

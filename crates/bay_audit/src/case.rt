@@ -30,12 +30,12 @@ pub enum Test {
 
 /// A test with its answer.
 #[derive(Clone, Copy, Debug, PartialEq, Eq)]
-pub struct Literal {
+pub struct TestAnswer {
     pub test: Test,
     pub value: bool,
 }
 
-impl Literal {
+impl TestAnswer {
     // Whether the switch may have the position.
     fn allows(self, switch: usize, position: Dbpos) -> bool
         ensures { result ≡ spec.allows switch position self }
@@ -189,14 +189,14 @@ fn position_range(point: SwitchPoint, intermediate: bool, off: bool, on: bool, b
 /// it gives these answers.
 #[derive(Drop)]
 pub struct Case {
-    literals: Vec<Literal>,
+    literals: Vec<TestAnswer>,
 }
 
 impl Model for Case {
     ghost use Rattle.std.specs.Prelude.{List};
-    ghost use Rattle.bay_audit.specs.declared.case.Literal.{Literal};
+    ghost use Rattle.bay_audit.specs.declared.case.TestAnswer.{TestAnswer};
 
-    ghost Value = { List Literal };
+    ghost Value = { List TestAnswer };
 
     ghost view = { λ c. c.literals.items };
 }
@@ -217,7 +217,7 @@ impl Case {
             ++ record { test = test; value = value } ∷ []) }
     {
         let mut literals = Vec::from_slice(alloc, self.literals.as_slice())?;
-        literals.push(Literal { test, value })?;
+        literals.push(TestAnswer { test, value })?;
         Ok(Case { literals })
     }
 

@@ -1,7 +1,7 @@
 // What is demanded of each scan.
 use bay_base::listing::Listing;
 use bay_nodes::switch::Operation;
-use bay_rules::rule::{Item, RuleKind};
+use bay_rules::rule::{ConditionItem, RuleKind};
 
 /// What a scan may come to.
 #[derive(Clone, Copy, Debug, PartialEq, Eq)]
@@ -19,10 +19,10 @@ pub struct Demand {
     pub kind: RuleKind,
     pub goal: Goal,
     /// The condition, in postfix order: nothing is demanded while it does not hold.
-    pub when: Listing<Item>,
+    pub when: Listing<ConditionItem>,
     /// The exception, in postfix order: nothing is demanded while it holds. No item is no
     /// exception.
-    pub unless: Listing<Item>,
+    pub unless: Listing<ConditionItem>,
     /// Scans are meant whose timers have delays that began less than so many milliseconds ago,
     /// where there is a number; the first one for the first timer.
     pub limits: Listing<Option<u32>>,

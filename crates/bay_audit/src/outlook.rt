@@ -3,7 +3,7 @@ ghost use Rattle.std.specs.Prelude.{◌≡◌, ◌∷◌, [], true, false, IfOk,
 ghost use Rattle.bay_audit.specs.Conditions as spec;
 
 use crate::case::Case;
-use bay_rules::rule::{Item, Relation};
+use bay_rules::rule::{ConditionItem, Relation};
 use bay_tree::leaf::Dbpos;
 use std::alloc::{AllocError, Global};
 use std::marker::Model;
@@ -105,11 +105,11 @@ fn relation_outlook(relation: Relation, low: i64, high: i64, number: i64) -> Out
 
 // A stack of outlooks.
 #[derive(Drop)]
-struct Stack {
+struct OutlookStack {
     items: Vec<Outlook>,
 }
 
-impl Model for Stack {
+impl Model for OutlookStack {
     ghost use Rattle.std.specs.Prelude.{List, reverse};
     ghost use Rattle.bay_audit.specs.declared.outlook.Outlook.{Outlook};
 
@@ -118,11 +118,11 @@ impl Model for Stack {
     ghost view = { λ s. reverse s.items.items };
 }
 
-impl Stack {
+impl OutlookStack {
     fn new(alloc: Global) -> Self
         ensures { result ≡ [] }
     {
-        Stack {
+        OutlookStack {
             items: Vec::new(alloc),
         }
     }
@@ -167,26 +167,26 @@ impl Stack {
     }
 
     // Does one item of a condition.
-    fn take(&mut self, case: &Case, item: Item) -> Result<(), AllocError>
+    fn take(&mut self, case: &Case, item: ConditionItem) -> Result<(), AllocError>
         ensures { OnOk result (self.new ≡ spec.outlook_after case.now item self.old) }
     {
         match item {
-            Item::True => self.push(Outlook {
+            ConditionItem::True => self.push(Outlook {
                 yes: true,
                 no: false,
             }),
-            Item::Position { switch, position } => self.push(position_outlook(
+            ConditionItem::Position { switch, position } => self.push(position_outlook(
                 position,
                 case.may_be(switch, Dbpos::Intermediate),
                 case.may_be(switch, Dbpos::Off),
                 case.may_be(switch, Dbpos::On),
                 case.may_be(switch, Dbpos::Bad),
             )),
-            Item::Input { input } => self.push(Outlook {
+            ConditionItem::Input { input } => self.push(Outlook {
                 yes: case.input_may(input, true),
                 no: case.input_may(input, false),
             }),
-            Item::Measure {
+            ConditionItem::Measure {
                 meter,
                 field,
                 relation,
@@ -197,9 +197,9 @@ impl Stack {
                 case.high_of(meter, field),
                 i64::from(value),
             )),
-            Item::Not => self.oppose(),
-            Item::And => self.pair(true),
-            Item::Or => self.pair(false),
+            ConditionItem::Not => self.oppose(),
+            ConditionItem::And => self.pair(true),
+            ConditionItem::Or => self.pair(false),
         }
     }
 }
@@ -208,8 +208,8 @@ impl Stack {
 pub fn asked_of(
     alloc: Global,
     case: &Case,
-    when: &[Item],
-    unless: &[Item],
+    when: &[ConditionItem],
+    unless: &[ConditionItem],
 ) -> Result<Outlook, AllocError>
     ensures { IfOk result (λ outlook. outlook ≡ spec.asked_of case.now when.now unless.now) }
 {
@@ -219,10 +219,14 @@ pub fn asked_of(
 }
 
 /// Returns what a condition may come to in a case.
-pub fn outlook_of(alloc: Global, case: &Case, items: &[Item]) -> Result<Outlook, AllocError>
+pub fn outlook_of(
+    alloc: Global,
+    case: &Case,
+    items: &[ConditionItem],
+) -> Result<Outlook, AllocError>
     ensures { IfOk result (λ outlook. outlook ≡ spec.outlook_of case.now items.now) }
 {
-    let mut stack = Stack::new(alloc);
+    let mut stack = OutlookStack::new(alloc);
     for item in items {
         stack.take(case, *item)?;
     }

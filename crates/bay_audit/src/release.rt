@@ -3,14 +3,14 @@ ghost use Rattle.std.specs.Prelude.{◌≡◌, IfOk, length, map};
 ghost use Rattle.bay_audit.specs.Rules.{AreReleases, IsRelease, IsTurn, program, way_of, ways};
 ghost use Rattle.bay_audit.specs.Rules as spec;
 
-use crate::answer::{Release, Told, ToldCase, Verdict};
+use crate::answer::{CaseRelease, Release, ToldCase, Verdict};
 use crate::audit::split;
 use crate::case::{Case, Test};
 use crate::demand::{Demand, Goal};
 use crate::verdict::{Wires, verdict};
 use bay_base::listing::Listing;
 use bay_nodes::switch::Operation;
-use bay_rules::rule::{Item, RuleKind};
+use bay_rules::rule::{ConditionItem, RuleKind};
 use il_verify::verify::Verified;
 use std::alloc::{AllocError, Global};
 
@@ -18,7 +18,7 @@ use std::alloc::{AllocError, Global};
 fn demand(alloc: Global, switch: usize, operation: Operation) -> Result<Demand, AllocError>
     ensures { IfOk result (λ demand. demand ≡ spec.demand switch operation) }
 {
-    let when = vec![in alloc; Item::True]?;
+    let when = vec![in alloc; ConditionItem::True]?;
     Ok(Demand {
         kind: RuleKind::Always,
         goal: Goal::Release { switch, operation },
@@ -29,13 +29,13 @@ fn demand(alloc: Global, switch: usize, operation: Operation) -> Result<Demand, 
 }
 
 // What a verdict on that demand tells of the release, or the test that it hangs on.
-fn told_by(verdict: Verdict) -> Result<Told, Test>
+fn told_by(verdict: Verdict) -> Result<CaseRelease, Test>
     ensures { IsTurn verdict result }
 {
     match verdict {
-        Verdict::Obeyed => Ok(Told::Released),
-        Verdict::Broken => Ok(Told::Refused),
-        Verdict::Open(kept) => Ok(Told::Hangs(kept)),
+        Verdict::Obeyed => Ok(CaseRelease::Released),
+        Verdict::Broken => Ok(CaseRelease::Refused),
+        Verdict::Open(kept) => Ok(CaseRelease::Hangs(kept)),
         Verdict::Split(test) => Err(test),
     }
 }

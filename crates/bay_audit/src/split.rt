@@ -8,7 +8,7 @@ use crate::case::{Case, Test};
 use crate::demand::{Demand, Goal};
 use crate::verdict::{Wires, release_place};
 use bay_config::bay::{MeterField, Source, SwitchPoint};
-use bay_rules::rule::{Item, Relation};
+use bay_rules::rule::{ConditionItem, Relation};
 use bay_tree::leaf::Dbpos;
 use il_image::image::ImagePoint;
 use il_image::instr::Instr;
@@ -92,22 +92,22 @@ fn relation_test(
 }
 
 // The test of an item of a condition that its case leaves open.
-fn item_test(case: &Case, item: Item) -> Option<Test> {
+fn item_test(case: &Case, item: ConditionItem) -> Option<Test> {
     match item {
-        Item::Position { switch, position } => position_test(case, switch, position),
-        Item::Input { input } => input_test(case, input),
-        Item::Measure {
+        ConditionItem::Position { switch, position } => position_test(case, switch, position),
+        ConditionItem::Input { input } => input_test(case, input),
+        ConditionItem::Measure {
             meter,
             field,
             relation,
             value,
         } => relation_test(case, meter, field, relation, value),
-        Item::True | Item::Not | Item::And | Item::Or => None,
+        ConditionItem::True | ConditionItem::Not | ConditionItem::And | ConditionItem::Or => None,
     }
 }
 
 // The first test of a condition that its case leaves open.
-fn condition_split(case: &Case, items: &[Item]) -> Option<Test> {
+fn condition_split(case: &Case, items: &[ConditionItem]) -> Option<Test> {
     items.iter().find_map(|item| item_test(case, *item))
 }
 

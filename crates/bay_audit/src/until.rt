@@ -8,12 +8,12 @@ use crate::audit::answer;
 use crate::demand::{Demand, Goal};
 use crate::verdict::Wires;
 use bay_base::listing::Listing;
-use bay_rules::rule::{Item, Rule, RuleKind, Timing};
+use bay_rules::rule::{ConditionItem, Rule, RuleKind, Timing};
 use il_verify::verify::Verified;
 use std::alloc::{AllocError, Global};
 
 // Returns a copy of a condition.
-fn copy_of(alloc: Global, items: &[Item]) -> Result<Listing<Item>, AllocError>
+fn copy_of(alloc: Global, items: &[ConditionItem]) -> Result<Listing<ConditionItem>, AllocError>
     ensures { IfOk result (λ copy. copy ≡ items.now) }
 {
     let items = Vec::from_slice(alloc, items)?;
@@ -48,7 +48,7 @@ fn late(alloc: Global, rule: &Rule, time: u32, timer: usize) -> Result<Demand, A
 }
 
 // That the switch is not released while the condition does not hold.
-fn there(alloc: Global, rule: &Rule, condition: &[Item]) -> Result<Demand, AllocError>
+fn there(alloc: Global, rule: &Rule, condition: &[ConditionItem]) -> Result<Demand, AllocError>
     ensures { IfOk result (λ demand. demand ≡ spec.there rule.now condition.now) }
 {
     let when = copy_of(alloc, rule.when.as_slice())?;
@@ -66,10 +66,10 @@ fn there(alloc: Global, rule: &Rule, condition: &[Item]) -> Result<Demand, Alloc
 }
 
 // That no delay of the timer runs while the condition does not hold.
-fn idle(alloc: Global, condition: &[Item], timer: usize) -> Result<Demand, AllocError>
+fn idle(alloc: Global, condition: &[ConditionItem], timer: usize) -> Result<Demand, AllocError>
     ensures { IfOk result (λ demand. demand ≡ spec.idle condition.now timer) }
 {
-    let when = vec![in alloc; Item::True]?;
+    let when = vec![in alloc; ConditionItem::True]?;
     let unless = copy_of(alloc, condition)?;
     Ok(Demand {
         kind: RuleKind::Always,

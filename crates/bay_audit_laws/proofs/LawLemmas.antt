@@ -16,7 +16,7 @@ use Rattle.bay_process.specs.Values.{is_truth, measure_leaf, number_of_leaf, out
 use Rattle.bay_process.specs.Names.{field_names}
 use Rattle.bay_process.proofs.ToldLemmas.{Keeps, field-away}
 use Rattle.bay_rules.specs.Process.{Process, holds}
-use Rattle.bay_rules.specs.declared.rule.Item.{Item}
+use Rattle.bay_rules.specs.declared.rule.ConditionItem.{ConditionItem}
 use Rattle.bay_rules.specs.declared.rule.Rule.{Rule}
 use Rattle.bay_rules.specs.declared.rule.RuleKind.TheVariants.{Never}
 use Rattle.bay_services.specs.Controls.{dbpos_of}
@@ -276,7 +276,7 @@ module _ (bay : Bay) (image : Image) (rule : Rule) (is_bay : IsBay bay)
           (outputs_of i.points scanned.machine.slots)) o.writes o.image_is
 
       -- the condition holds after the scan where it did before
-      pub scanned-holds : (is : List Item)
+      pub scanned-holds : (is : List ConditionItem)
           → holds is (process_of scanned) ≡ holds is (process_of s)
       scanned-holds is = holds-alike (process_of scanned) (process_of s) alike is
 

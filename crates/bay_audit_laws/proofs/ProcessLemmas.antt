@@ -12,8 +12,8 @@ use Rattle.bay_process.specs.Names.{field_names}
 use Rattle.bay_process.specs.Values.{measure_leaf, number_of_leaf, position_leaf, position_value, with_outputs}
 use Rattle.bay_process.proofs.ToldLemmas.{IsAway, away-position, field-away}
 use Rattle.bay_rules.specs.Process.{Process, after_item, after_items, holds, same_position, stands, top}
-use Rattle.bay_rules.specs.declared.rule.Item.{Item}
-use Rattle.bay_rules.specs.declared.rule.Item.TheVariants as items
+use Rattle.bay_rules.specs.declared.rule.ConditionItem.{ConditionItem}
+use Rattle.bay_rules.specs.declared.rule.ConditionItem.TheVariants as items
 use Rattle.bay_services.specs.Controls.{dbpos_of}
 use Rattle.bay_tree.specs.Rows.{leaf_of}
 use Rattle.bay_tree.specs.declared.leaf.Leaf.{Leaf}
@@ -33,7 +33,7 @@ pub record IsAlike (p q : Process) : Type 0 where
   pub measure : (k : ℕ) (field : MeterField) → p.measure k field ≡ q.measure k field
 
 module _ (p q : Process) (alike : IsAlike p q) where
-  item-alike : (i : Item) (stack : List Bool) → after_item p i stack ≡ after_item q i stack
+  item-alike : (i : ConditionItem) (stack : List Bool) → after_item p i stack ≡ after_item q i stack
   item-alike items.True stack = refl
   item-alike (items.Position k position) stack =
       ap (λ d. same_position d position ∷ stack) (alike.position k)
@@ -44,13 +44,13 @@ module _ (p q : Process) (alike : IsAlike p q) where
   item-alike items.And stack = refl
   item-alike items.Or stack = refl
 
-  items-alike : (is : List Item) (stack : List Bool)
+  items-alike : (is : List ConditionItem) (stack : List Bool)
       → after_items p is stack ≡ after_items q is stack
   items-alike [] stack = refl
   items-alike (i ∷ is) stack =
       items-alike is (after_item p i stack) ∙ ap (after_items q is) (item-alike i stack)
 
-  pub holds-alike : (is : List Item) → holds is p ≡ holds is q
+  pub holds-alike : (is : List ConditionItem) → holds is p ≡ holds is q
   holds-alike is = ap top (items-alike is [])
 
 -- ---- what a program reads

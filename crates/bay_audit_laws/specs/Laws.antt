@@ -6,7 +6,7 @@ use Rattle.bay_tree.specs.Rows.{leaf_of}
 use Rattle.bay_process.specs.Values.{is_truth, measure_leaf, number_of_leaf, position_leaf}
 use Rattle.bay_nodes.specs.declared.switch.Operation.{Operation}
 use Rattle.bay_rules.specs.Process.{Process, holds}
-use Rattle.bay_rules.specs.declared.rule.Item.{Item}
+use Rattle.bay_rules.specs.declared.rule.ConditionItem.{ConditionItem}
 use Rattle.bay_rules.specs.declared.rule.Rule.{Rule}
 use Rattle.bay_rules.specs.declared.rule.RuleKind.TheVariants.{Never}
 use Rattle.bay_rules.specs.declared.rule.Timing.{Timing}
@@ -105,12 +105,12 @@ CommandsObey = Always CommandsObeyAt
 
 -- the scans that were done, the last one first: the moment of each, and whether a condition held of
 -- what the process had last reported
-abbrev pub scan_noted : List Item → ℕ → State → Result Step StepFault → List (ℕ × Bool)
+abbrev pub scan_noted : List ConditionItem → ℕ → State → Result Step StepFault → List (ℕ × Bool)
     → List (ℕ × Bool)
 scan_noted condition now s (Ok step) scans = (now, holds condition (process_of s)) ∷ scans
 scan_noted condition now s (Err fault) scans = scans
 
-abbrev pub scans_after : List Item → ℕ → Event → State → Result Step StepFault → List (ℕ × Bool)
+abbrev pub scans_after : List ConditionItem → ℕ → Event → State → Result Step StepFault → List (ℕ × Bool)
     → List (ℕ × Bool)
 scans_after condition now (Open a) s answer scans = scans
 scans_after condition now (Recv a octets) s answer scans = scans
@@ -152,7 +152,7 @@ CommandsWaitAt rule timing scans now event old answer new =
 -- Each event is a step of which this is so, by the scans before it.
 abbrev pub EachAfter : (List (ℕ × Bool) → ℕ → Event → State → Result Step StepFault → State
     → Type 0)
-    → List Item → List (ℕ × Event) → List (ℕ × Bool) → State → List (Result Step StepFault)
+    → List ConditionItem → List (ℕ × Event) → List (ℕ × Bool) → State → List (Result Step StepFault)
     → State → Type 0
 EachAfter Does condition [] scans s [] last = last ≡ s
 EachAfter Does condition [] scans s (answer ∷ answers) last = ⊥

@@ -6,11 +6,11 @@ use Rattle.bay_audit.specs.declared.answer.Answer.{Answer}
 use Rattle.bay_audit.specs.declared.answer.Answer.TheVariants as answer
 use Rattle.bay_audit.specs.declared.answer.Kept.{Kept}
 use Rattle.bay_audit.specs.declared.answer.Release.{Release}
-use Rattle.bay_audit.specs.declared.answer.Told.{Told}
-use Rattle.bay_audit.specs.declared.answer.Told.TheVariants as told
+use Rattle.bay_audit.specs.declared.answer.CaseRelease.{CaseRelease}
+use Rattle.bay_audit.specs.declared.answer.CaseRelease.TheVariants as told
 use Rattle.bay_audit.specs.declared.answer.ToldCase.{ToldCase}
 use Rattle.bay_audit.specs.Cases.{may_be, input_may, low_of, high_of}
-use Rattle.bay_audit.specs.declared.case.Literal.{Literal}
+use Rattle.bay_audit.specs.declared.case.TestAnswer.{TestAnswer}
 use Rattle.bay_config.specs.declared.bay.Bay.{Bay}
 use Rattle.bay_base.specs.declared.point.MeterField.{MeterField}
 use Rattle.bay_base.specs.declared.point.Point.{Point}
@@ -41,27 +41,27 @@ positions_of i o n b =
     position_text i false (codes "0") ++ (position_text o i (codes "1")
     ++ (position_text n (i || o) (codes "2") ++ position_text b (i || (o || n)) (codes "3")))
 
-abbrev pub positions_text : List Literal → ℕ → List ℕ
+abbrev pub positions_text : List TestAnswer → ℕ → List ℕ
 positions_text case k =
     positions_of (may_be case k Intermediate) (may_be case k Off) (may_be case k On)
     (may_be case k Bad)
 
-abbrev pub is_any_position : List Literal → ℕ → Bool
+abbrev pub is_any_position : List TestAnswer → ℕ → Bool
 is_any_position case k =
     may_be case k Intermediate && (may_be case k Off && (may_be case k On && may_be case k Bad))
 
 abbrev pub name_text : List ℕ → List ℕ
 name_text name = codes " " ++ name ++ codes "="
 
-abbrev pub known_text : List Literal → ℕ → List ℕ → List ℕ
+abbrev pub known_text : List TestAnswer → ℕ → List ℕ → List ℕ
 known_text case k id =
     if is_any_position case k then [] else name_text id ++ positions_text case k
 
-abbrev pub switch_text : List Literal → ℕ → Option Switch → List ℕ
+abbrev pub switch_text : List TestAnswer → ℕ → Option Switch → List ℕ
 switch_text case k None = []
 switch_text case k (Some switch) = known_text case k switch.id
 
-abbrev pub input_text : List Literal → ℕ → List ℕ → List ℕ
+abbrev pub input_text : List TestAnswer → ℕ → List ℕ → List ℕ
 input_text case k name =
     if input_may case k true && input_may case k false then []
     else name_text name ++ (if input_may case k true then codes "1" else codes "0")
@@ -77,26 +77,26 @@ measure_of low high name =
     if int_eq low (negsuc 2147483647) && int_eq high (pos 2147483647) then []
     else name_text name ++ range_text low high
 
-abbrev pub measure_text : List Literal → ℕ → MeterField → List ℕ → List ℕ
+abbrev pub measure_text : List TestAnswer → ℕ → MeterField → List ℕ → List ℕ
 measure_text case k field name = measure_of (low_of case k field) (high_of case k field) name
 
 -- what a case says of a switch stands at the point of its position
-abbrev pub switch_point_text : Bay → List Literal → ℕ → SwitchPoint → List ℕ
+abbrev pub switch_point_text : Bay → List TestAnswer → ℕ → SwitchPoint → List ℕ
 switch_point_text bay case k Position = switch_text case k (slice_get bay.switches k)
 switch_point_text bay case k Open = []
 switch_point_text bay case k Closed = []
 switch_point_text bay case k EnableOpen = []
 switch_point_text bay case k EnableClose = []
 
-abbrev pub source_text : Bay → List Literal → List ℕ → Source → List ℕ
+abbrev pub source_text : Bay → List TestAnswer → List ℕ → Source → List ℕ
 source_text bay case name (source.Switch k point) = switch_point_text bay case k point
 source_text bay case name (source.Input k) = input_text case k name
 source_text bay case name (source.Meter k field) = measure_text case k field name
 
-abbrev pub point_text : Bay → List Literal → Point → List ℕ
+abbrev pub point_text : Bay → List TestAnswer → Point → List ℕ
 point_text bay case point = source_text bay case point.name point.source
 
-abbrev pub case_text : Bay → List Literal → List ℕ
+abbrev pub case_text : Bay → List TestAnswer → List ℕ
 case_text bay case = flat_map (point_text bay case) bay.points
 
 -- ---- what a program keeps
@@ -166,7 +166,7 @@ is_passed answer.Timed = true
 -- ---- releases
 
 -- a case in which a switch is released, in which it is not, or in which that hangs on what is kept
-abbrev pub told_of : Bay → Known → List Literal → Told → List ℕ
+abbrev pub told_of : Bay → Known → List TestAnswer → CaseRelease → List ℕ
 told_of bay names case told.Released = codes "released" ++ case_text bay case
 told_of bay names case told.Refused = codes "blocked" ++ case_text bay case
 told_of bay names case (told.Hangs kept) =

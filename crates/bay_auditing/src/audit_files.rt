@@ -14,7 +14,7 @@ use bay_config::read::read_bay;
 use bay_device::device::Device;
 use bay_device::report::Report;
 use bay_files::files::{BothFiles, FileSystem, read_file, read_files};
-use bay_io::calls::{Part, Sink};
+use bay_io::calls::{LinePart, Sink};
 use bay_io::outbox::WriteFault;
 use bay_io::writer::WatchedWriter;
 use bay_report::load::{Form, load_program};
@@ -32,7 +32,7 @@ const PASSES: u32 = 10_000;
 
 // The lines behind a load's line, the exit status, and why rules are refused, if they are.
 #[derive(Drop)]
-struct Said {
+struct AuditOutput {
     text: Vec<u8>,
     status: Status,
     refused: Option<RuleFault>,
@@ -46,7 +46,7 @@ fn answers_said(
     form: Form,
     program: &[u8],
     rules: &[Rule],
-) -> Result<Said, AllocError>
+) -> Result<AuditOutput, AllocError>
     ensures answers { IfOk result
         (λ said. Answers bay.now verified.now rules.now said.text.items (code_of said.status)) }
     ensures taken { IfOk result (λ said. said.refused ≡ None) }
@@ -62,7 +62,7 @@ fn answers_said(
     } else {
         Status::Unproved
     };
-    Ok(Said {
+    Ok(AuditOutput {
         text,
         status,
         refused: None,
@@ -70,7 +70,7 @@ fn answers_said(
 }
 
 // Returns the line of rules that are refused.
-fn refusal_said(alloc: Global, fault: RuleFault) -> Result<Said, AllocError>
+fn refusal_said(alloc: Global, fault: RuleFault) -> Result<AuditOutput, AllocError>
     ensures { IfOk result
         (λ said. SaysRefused fault said.refused said.text.items (code_of said.status)) }
 {
@@ -78,7 +78,7 @@ fn refusal_said(alloc: Global, fault: RuleFault) -> Result<Said, AllocError>
     if let Some(code) = fault.code() {
         put_refused(&mut text, code, fault.line())?;
     }
-    Ok(Said {
+    Ok(AuditOutput {
         text,
         status: Status::Refused,
         refused: Some(fault),
@@ -93,7 +93,7 @@ fn rules_said(
     form: Form,
     program: &[u8],
     rules: &[u8],
-) -> Result<Said, AllocError>
+) -> Result<AuditOutput, AllocError>
     ensures { IfOk result (λ said. SaysFor (Ok bay.now) rules.now verified.now
         (log_in said.refused) said.text.items (code_of said.status)) }
 {
@@ -126,7 +126,7 @@ fn device_said(
     form: Form,
     rules: &[u8],
     device: &Device,
-) -> Result<Said, AllocError>
+) -> Result<AuditOutput, AllocError>
     requires { is_ok (file_of both.now.bay.items) ≡ true }
     ensures { IfOk result (λ said. SaysFor (file_of both.now.bay.items) rules.now
         device.now.machine.image (log_in said.refused) said.text.items (code_of said.status)) }
@@ -147,13 +147,13 @@ fn log_refused<W: Sink>(writer: &mut WatchedWriter<W>, refused: Option<RuleFault
         return;
     };
     writer.log(&[
-        Part::Text(b"bayctl: rules refused "),
-        Part::Number(u64::from(code)),
-        Part::Text(b" line "),
-        Part::Number(fault.line() as u64),
-        Part::Text(b": "),
-        Part::Text(fault_words(fault)),
-        Part::Text(b"\n"),
+        LinePart::Text(b"bayctl: rules refused "),
+        LinePart::Number(u64::from(code)),
+        LinePart::Text(b" line "),
+        LinePart::Number(fault.line() as u64),
+        LinePart::Text(b": "),
+        LinePart::Text(fault_words(fault)),
+        LinePart::Text(b"\n"),
     ]);
 }
 

@@ -5,7 +5,7 @@ ghost use Rattle.bay_auditing.specs.Text.{Known};
 use bay_report::load::Form;
 use il_image::image::ImagePoint;
 use il_text::fault::TextFault;
-use il_text::program::{Declaration, DeclaredType, Scope};
+use il_text::program::{Declaration, DeclaredType, VariableScope};
 use il_text::read::read_program;
 use std::alloc::{AllocError, Global};
 use std::marker::Model;
@@ -14,13 +14,13 @@ use std::marker::Model;
 /// and timers, each in the order of their declarations. An image has no names of variables and
 /// timers.
 #[derive(Drop)]
-pub struct Names<'a> {
+pub struct KeptNames<'a> {
     pub points: &'a [ImagePoint],
     pub variables: Vec<&'a str>,
     pub timers: Vec<&'a str>,
 }
 
-impl<'a> Model for Names<'a> {
+impl<'a> Model for KeptNames<'a> {
     ghost use Rattle.std.specs.Prelude.{map};
     ghost use Rattle.bay_auditing.specs.Text.{Known};
 
@@ -33,13 +33,15 @@ impl<'a> Model for Names<'a> {
     } };
 }
 
-impl<'a> Names<'a> {
+impl<'a> KeptNames<'a> {
     // Adds the name of a variable or a timer.
     fn add(&mut self, declared: &Declaration<'a>) -> Result<(), AllocError> {
         match (declared.scope, declared.kind) {
-            (Scope::External, _) => {}
-            (Scope::Local, DeclaredType::Elementary(_)) => self.variables.push(declared.name)?,
-            (Scope::Local, DeclaredType::Timer(_)) => self.timers.push(declared.name)?,
+            (VariableScope::External, _) => {}
+            (VariableScope::Local, DeclaredType::Elementary(_)) => self
+                .variables
+                .push(declared.name)?,
+            (VariableScope::Local, DeclaredType::Timer(_)) => self.timers.push(declared.name)?,
         }
         Ok(())
     }
@@ -51,8 +53,8 @@ pub fn names_of<'a>(
     points: &'a [ImagePoint],
     form: Form,
     program: &'a [u8],
-) -> Result<Names<'a>, AllocError> {
-    let mut names = Names {
+) -> Result<KeptNames<'a>, AllocError> {
+    let mut names = KeptNames {
         points,
         variables: Vec::new(alloc),
         timers: Vec::new(alloc),

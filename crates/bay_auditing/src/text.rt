@@ -4,8 +4,8 @@ ghost use Rattle.std.specs.Fmt.{decimal, signed_decimal};
 ghost use Rattle.std.specs.List.{flat_map, list_all};
 ghost use Rattle.bay_auditing.specs.Text as spec;
 
-use crate::kept::Names;
-use bay_audit::answer::{Answer, Kept, Release, Told, ToldCase};
+use crate::kept::KeptNames;
+use bay_audit::answer::{Answer, CaseRelease, Kept, Release, ToldCase};
 use bay_audit::case::Case;
 use bay_config::bay::{Bay, MeterField, Point, Source, SwitchPoint};
 use bay_nodes::switch::Operation;
@@ -202,7 +202,7 @@ fn put_named(
 }
 
 // Adds the name of a slot: that of a point, or of a variable.
-fn put_slot(text: &mut Vec<u8>, names: &Names<'_>, slot: usize) -> Result<(), AllocError>
+fn put_slot(text: &mut Vec<u8>, names: &KeptNames<'_>, slot: usize) -> Result<(), AllocError>
     ensures { OnOk result
         (text.new.items ≡ text.old.items ++ spec.slot_text names.now slot) }
 {
@@ -219,7 +219,7 @@ fn put_slot(text: &mut Vec<u8>, names: &Names<'_>, slot: usize) -> Result<(), Al
 }
 
 // Adds what a release hangs on: ` by` and the names of points, variables and timers.
-fn put_kept(text: &mut Vec<u8>, names: &Names<'_>, kept: &Kept) -> Result<(), AllocError>
+fn put_kept(text: &mut Vec<u8>, names: &KeptNames<'_>, kept: &Kept) -> Result<(), AllocError>
     ensures { OnOk result
         (text.new.items ≡ text.old.items ++ spec.kept_text names.now kept.now) }
 {
@@ -247,7 +247,7 @@ fn put_front(text: &mut Vec<u8>, rule: &Rule, word: &[u8]) -> Result<(), AllocEr
 fn put_said(
     text: &mut Vec<u8>,
     bay: &Bay,
-    names: &Names<'_>,
+    names: &KeptNames<'_>,
     rule: &Rule,
     answer: &Answer,
 ) -> Result<(), AllocError>
@@ -283,7 +283,7 @@ fn put_said(
 fn put_answer(
     text: &mut Vec<u8>,
     bay: &Bay,
-    names: &Names<'_>,
+    names: &KeptNames<'_>,
     rule: &Rule,
     answer: &Answer,
 ) -> Result<(), AllocError>
@@ -298,7 +298,7 @@ fn put_answer(
 pub fn put_answers(
     text: &mut Vec<u8>,
     bay: &Bay,
-    names: &Names<'_>,
+    names: &KeptNames<'_>,
     rules: &[Rule],
     answers: &[Answer],
 ) -> Result<(), AllocError>
@@ -327,16 +327,16 @@ fn put_word(text: &mut Vec<u8>, bay: &Bay, word: &[u8], case: &Case) -> Result<(
 fn put_told(
     text: &mut Vec<u8>,
     bay: &Bay,
-    names: &Names<'_>,
+    names: &KeptNames<'_>,
     told: &ToldCase,
 ) -> Result<(), AllocError>
     ensures { OnOk result (text.new.items ≡ text.old.items
         ++ spec.told_of bay.now names.now told.now.case told.now.told) }
 {
     match &told.told {
-        Told::Released => put_word(text, bay, b"released", &told.case),
-        Told::Refused => put_word(text, bay, b"blocked", &told.case),
-        Told::Hangs(kept) => {
+        CaseRelease::Released => put_word(text, bay, b"released", &told.case),
+        CaseRelease::Refused => put_word(text, bay, b"blocked", &told.case),
+        CaseRelease::Hangs(kept) => {
             put_word(text, bay, b"hangs", &told.case)?;
             put_kept(text, names, kept)
         }
@@ -347,7 +347,7 @@ fn put_told(
 fn put_told_line(
     text: &mut Vec<u8>,
     bay: &Bay,
-    names: &Names<'_>,
+    names: &KeptNames<'_>,
     told: &ToldCase,
 ) -> Result<(), AllocError>
     ensures { OnOk result
@@ -361,7 +361,7 @@ fn put_told_line(
 fn put_cases(
     text: &mut Vec<u8>,
     bay: &Bay,
-    names: &Names<'_>,
+    names: &KeptNames<'_>,
     cases: &[ToldCase],
 ) -> Result<(), AllocError>
     ensures { OnOk result
@@ -380,7 +380,7 @@ fn put_cases(
 fn put_release(
     text: &mut Vec<u8>,
     bay: &Bay,
-    names: &Names<'_>,
+    names: &KeptNames<'_>,
     id: &str,
     release: &Release,
 ) -> Result<(), AllocError>
@@ -405,7 +405,7 @@ fn put_release(
 fn put_release_of(
     text: &mut Vec<u8>,
     bay: &Bay,
-    names: &Names<'_>,
+    names: &KeptNames<'_>,
     release: &Release,
 ) -> Result<(), AllocError>
     ensures { OnOk result
@@ -421,7 +421,7 @@ fn put_release_of(
 pub fn put_releases(
     text: &mut Vec<u8>,
     bay: &Bay,
-    names: &Names<'_>,
+    names: &KeptNames<'_>,
     releases: &[Release],
 ) -> Result<(), AllocError>
     ensures { OnOk result (text.new.items ≡ text.old.items

@@ -8,27 +8,27 @@ use Rattle.bay_transport.proofs.SizeLemmas.{after-size}
 use Rattle.bay_assoc.specs.declared.fault.AssocFault.{AssocFault}
 use Rattle.bay_assoc.specs.declared.hearing.Phase.{Phase}
 use Rattle.bay_assoc.specs.Hearing.{Hearing, answer, mms, released, aborted, hearing}
-use Rattle.bay_connection.specs.Talk.{Talk, Terms, answers, tells, Told, on_heard, on_hearing, data_tpdus, talk_after, comes_to, indications, left_by}
+use Rattle.bay_connection.specs.Talk.{Talk, Terms, answers, tells, TalkStep, on_heard, on_hearing, data_tpdus, talk_after, comes_to, indications, left_by}
 use Rattle.bay_connection.specs.Feeding.{and_then}
 
 -- ---- doings, and then octets
 
-heard-cut : (s : Stream) (h : Hearing) (terms : Terms) (piece : List ℕ) (longer later : Told)
+heard-cut : (s : Stream) (h : Hearing) (terms : Terms) (piece : List ℕ) (longer later : TalkStep)
     → longer ≡ and_then later (comes_to later.left piece)
     → on_heard (after s piece) h terms longer
     ≡ and_then (on_heard s h terms later) (comes_to (on_heard s h terms later).left piece)
 heard-cut s (answer tsdu) terms piece longer later e =
-    ap (λ (t : Told). let r : Told =
+    ap (λ (t : TalkStep). let r : TalkStep =
     record { indications = answers (data_tpdus terms.size tsdu) ∷ t.indications; left = t.left } in
     r) e
 heard-cut s (mms pdu) terms piece longer later e =
-    ap (λ (t : Told). let r : Told =
+    ap (λ (t : TalkStep). let r : TalkStep =
     record { indications = tells terms pdu ∷ t.indications; left = t.left } in r) e
 heard-cut s (released tsdu) terms piece longer later e = refl
 heard-cut s aborted terms piece longer later e = refl
 
 hearing-cut : (s : Stream) (r : Result (Hearing × Phase) AssocFault) (size : Option ℕ)
-    (piece : List ℕ) (longer later : Phase → Told)
+    (piece : List ℕ) (longer later : Phase → TalkStep)
     → ((p : Phase) → longer p ≡ and_then (later p) (comes_to (later p).left piece))
     → on_hearing size (after s piece) r longer
     ≡ and_then (on_hearing size s r later) (comes_to (on_hearing size s r later).left piece)
@@ -43,7 +43,7 @@ told-cut : (s : Stream) (ds : List Doing) (size : Option ℕ) (phase : Phase) (p
 told-cut s [] size phase piece e =
     ap (λ (z : Option ℕ). talk_after (after s piece) (doings s piece) z phase) (sym e)
 told-cut s (Answers n reply ∷ ds) size phase piece e =
-    ap (λ (t : Told). let r : Told =
+    ap (λ (t : TalkStep). let r : TalkStep =
     record { indications = answers reply ∷ t.indications; left = t.left } in r)
     (told-cut s ds (Some n) phase piece e)
 told-cut s (Delivers tsdu ∷ ds) size phase piece e =
@@ -71,11 +71,11 @@ comes_to-append t octets piece =
 pub indications-append : (t : Talk) (octets piece : List ℕ)
     → indications t (octets ++ piece) ≡ indications t octets ++ indications (left_by t octets) piece
 indications-append t octets piece =
-    ap (λ (r : Told). r.indications) (comes_to-append t octets piece)
+    ap (λ (r : TalkStep). r.indications) (comes_to-append t octets piece)
 
 pub left_by-append : (t : Talk) (octets piece : List ℕ)
     → left_by t (octets ++ piece) ≡ left_by (left_by t octets) piece
-left_by-append t octets piece = ap (λ (r : Told). r.left) (comes_to-append t octets piece)
+left_by-append t octets piece = ap (λ (r : TalkStep). r.left) (comes_to-append t octets piece)
 
 pub indications-take : (t : Talk) (piece : List ℕ) (used : ℕ)
     → indications t piece ≡ indications t (take used piece)

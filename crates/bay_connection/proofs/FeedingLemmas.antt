@@ -12,7 +12,7 @@ use Rattle.bay_transport.specs.Feeding.{Received, doing_for, size_agreed, agreed
 use Rattle.bay_transport.proofs.SizeLemmas.{after-size, delivers-size, quiet-going}
 use Rattle.bay_assoc.specs.declared.hearing.Phase.{Phase}
 use Rattle.bay_assoc.specs.declared.hearing.Phase.TheVariants as phases
-use Rattle.bay_connection.specs.Talk.{Talk, Indication, ends, fails, Told, talk_over, talk_after, comes_to, indications, left_by}
+use Rattle.bay_connection.specs.Talk.{Talk, Indication, ends, fails, TalkStep, talk_over, talk_after, comes_to, indications, left_by}
 use Rattle.bay_connection.specs.Feeding.{CompletesIndication, Comes, Feeds, GoesOn}
 use Rattle.bay_connection.specs.Stack.{AreJoined, IsJoined, IsReady, TellsOf}
 use Rattle.bay_connection.proofs.CuttingLemmas.{indications-take, left_by-take}
@@ -120,10 +120,10 @@ going-done t piece used d i new c e =
           completes-comes t piece used i (record {
             moves = c.moves;
             within = c.within;
-            quiet = ap (λ (r : Told). r.indications) (quiet-told t (take (used - 1) piece) c.quiet);
-            does = ap (λ (r : Told). r.indications) all;
+            quiet = ap (λ (r : TalkStep). r.indications) (quiet-told t (take (used - 1) piece) c.quiet);
+            does = ap (λ (r : TalkStep). r.indications) all;
           });
-      left = sym (ap (λ (r : Told). r.left) all);
+      left = sym (ap (λ (r : TalkStep). r.left) all);
     }
 
 abbrev talk_with : ℕ → Left → Phase → Talk
@@ -135,8 +135,8 @@ over-done : (number : ℕ) (phase : Phase) (piece : List ℕ) (used : ℕ) (d : 
     → talk_after s (d ∷ []) (size_agreed s) phase ≡ record { indications = i ∷ []; left = new }
     → (i ≡ ends) × (new ≡ talk_with number Over phase)
 over-done number phase piece used Ends i new s over none is same e =
-    let a : ends ∷ [] ≡ i ∷ [] = ap (λ (r : Told). r.indications) e in
-    let b : talk_over s ≡ new = ap (λ (r : Told). r.left) e in
+    let a : ends ∷ [] ≡ i ∷ [] = ap (λ (r : TalkStep). r.indications) e in
+    let b : talk_over s ≡ new = ap (λ (r : TalkStep). r.left) e in
     let f : i ≡ ends = cc in (
       f,
       sym b ∙ ap (λ (n : ℕ). talk_with n Over phases.Over) same
@@ -152,7 +152,7 @@ fed-some : (number : ℕ) (left : Left) (phase : Phase) (piece : List ℕ) (used
     ≡ record { indications = option_to_list heard; left = new }
     → FedSo (talk_with number left phase) piece used heard new
 fed-some number left phase piece used d None new s joined fed is e =
-    absurd (told-some s d (size_agreed s) phase (ap (λ (r : Told). r.indications) e))
+    absurd (told-some s d (size_agreed s) phase (ap (λ (r : TalkStep). r.indications) e))
 fed-some number (Going connection rest) phase piece used d (Some i) new s joined fed is e =
     let e' : talk_after (after (record { number = number; left = Going connection rest })
     (take used piece)) (d ∷ [])
@@ -186,9 +186,9 @@ fed-none number (Going connection rest) phase piece used heard new s joined fed 
     let quiet : doings t.stream (take used piece) ≡ [] = ap (doings t.stream) all ∙ fed.1 in
     rw none (record {
       within = omega (arith, fed.0);
-      fed = (fed.0, ap (λ (r : Told). r.indications) (quiet-told t piece fed.1));
+      fed = (fed.0, ap (λ (r : TalkStep). r.indications) (quiet-told t piece fed.1));
       left = same ∙ ap (λ (x : Stream). let u : Talk = record { stream = x; phase = phase } in u) is
-          ∙ sym (ap (λ (r : Told). r.left) (quiet-told t (take used piece) quiet));
+          ∙ sym (ap (λ (r : TalkStep). r.left) (quiet-told t (take used piece) quiet));
     })
 fed-none number Over phase piece used heard new s joined fed is none same =
     absurd (let f : None ≡ Some Ends = fed.1 in cc)
@@ -276,10 +276,10 @@ fault-done number (Going connection rest) phase piece fault code joined e k =
       within = omega arith;
       fed = (
         omega arith,
-        ap (λ (r : Told). r.indications) c
+        ap (λ (r : TalkStep). r.indications) c
             ∙ ap (λ (o : Option ℕ). fails (unwrap_or o 0) ∷ []) k,
       );
-      left = sym (ap (λ (r : Told). r.left) c);
+      left = sym (ap (λ (r : TalkStep). r.left) c);
     }
 fault-done number Over phase piece fault code joined e k = absurd (cc)
 fault-done number Broken phase piece fault code joined e k = absurd joined

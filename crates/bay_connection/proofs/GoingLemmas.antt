@@ -6,7 +6,7 @@ use Rattle.bay_transport.proofs.SizeLemmas.{after-size, delivers-size, quiet-goi
 use Rattle.bay_assoc.specs.declared.fault.AssocFault.{AssocFault}
 use Rattle.bay_assoc.specs.declared.hearing.Phase.{Phase}
 use Rattle.bay_assoc.specs.Hearing.{Hearing, answer, mms, released, aborted, hearing}
-use Rattle.bay_connection.specs.Talk.{Talk, Indication, ends, Told, on_hearing, talk_after, indications, left_by}
+use Rattle.bay_connection.specs.Talk.{Talk, Indication, ends, TalkStep, on_hearing, talk_after, indications, left_by}
 use Rattle.bay_connection.specs.Feeding.{IsContinued}
 
 -- a size is agreed only where octets are still taken
@@ -17,7 +17,7 @@ agreed-going left some = absurd (cc)
 -- ---- what comes to nothing has no doings
 
 hearing-some : (s : Stream) (r : Result (Hearing × Phase) AssocFault) (size : Option ℕ)
-    (later : Phase → Told) → (on_hearing size s r later).indications ≡ [] → ⊥
+    (later : Phase → TalkStep) → (on_hearing size s r later).indications ≡ [] → ⊥
 hearing-some s (Ok (answer tsdu, phase)) size later e = cc
 hearing-some s r size later e = cc
 
@@ -56,7 +56,7 @@ not-same : (j i : Indication) → j ∷ [] ≡ i ∷ [] → IsContinued i → (I
 not-same j i e goes ends_it = let same : i ≡ j = cc in ends_it (subst IsContinued same goes)
 
 hearing-going : (s : Stream) (r : Result (Hearing × Phase) AssocFault) (size : Option ℕ)
-    (later : Phase → Told) (i : Indication) → (on_hearing size s r later).indications ≡ i ∷ []
+    (later : Phase → TalkStep) (i : Indication) → (on_hearing size s r later).indications ≡ i ∷ []
     → IsContinued i → ((p : Phase) → (later p).indications ≡ []
     → IsGoing (later p).left.stream.left) → IsGoing (on_hearing size s r later).left.stream.left
 hearing-going s (Ok (answer tsdu, phase)) size later i e goes rest = rest phase (cc)

@@ -5,7 +5,7 @@ use Rattle.bay_assoc.specs.declared.hearing.Phase.{Phase}
 use Rattle.bay_assoc.specs.Hears.{association_terms}
 use Rattle.bay_connection.specs.declared.heard.Indication as code
 use Rattle.bay_connection.specs.declared.heard.Indication.TheVariants as heard
-use Rattle.bay_connection.specs.Talk.{Talk, terms_of, Indication, answers, tells, releases, ends, fails, Told, indications}
+use Rattle.bay_connection.specs.Talk.{Talk, terms_of, Indication, answers, tells, releases, ends, fails, TalkStep, indications}
 
 -- The octets that are taken come to this and nothing else, and those before the last of them to
 -- nothing.
@@ -51,7 +51,7 @@ IsContinued (tells terms pdu) = Unit {0}
 IsContinued indication = ⊥
 
 -- two runs, one after the other
-abbrev pub and_then : Told → Told → Told
+abbrev pub and_then : TalkStep → TalkStep → TalkStep
 and_then first later =
     record { indications = first.indications ++ later.indications; left = later.left }
 

@@ -39,7 +39,7 @@ pub data Indication : Type 0 where
   fails : ℕ → Indication
 
 -- what octets come to, and what they leave
-pub record Told : Type 0 where
+pub record TalkStep : Type 0 where
   pub indications : List Indication
   pub left : Talk
 
@@ -54,7 +54,7 @@ data_tpdus (Some size) tsdu = tpdus_of size tsdu
 
 -- what is heard comes first, and then what is told later; nothing is told behind a release, an
 -- abort and a fault
-abbrev pub on_heard : Stream → Hearing → Terms → Told → Told
+abbrev pub on_heard : Stream → Hearing → Terms → TalkStep → TalkStep
 on_heard s (answer tsdu) terms later =
     record {
       indications = answers (data_tpdus terms.size tsdu) ∷ later.indications;
@@ -67,15 +67,15 @@ on_heard s (released tsdu) terms later =
 on_heard s aborted terms later = record { indications = ends ∷ []; left = talk_over s }
 
 -- what a TSDU comes to, as it is heard or refused, and then what is told later
-abbrev pub on_hearing : Option ℕ → Stream → Result (Hearing × Phase) AssocFault → (Phase → Told)
-    → Told
+abbrev pub on_hearing : Option ℕ → Stream → Result (Hearing × Phase) AssocFault → (Phase → TalkStep)
+    → TalkStep
 on_hearing size s (Ok x) later = on_heard s x.0 (record { size = size; phase = x.1 }) (later x.1)
 on_hearing size s (Err fault) later =
     record { indications = fails (unwrap_or (association_code fault) 0) ∷ []; left = talk_over s }
 
 -- What the doings of a stream come to, which leave this stream: in a phase, and where this size of
 -- TPDUs was agreed before them.
-abbrev pub talk_after : Stream → List Doing → Option ℕ → Phase → Told
+abbrev pub talk_after : Stream → List Doing → Option ℕ → Phase → TalkStep
 talk_after s [] size phase =
     record { indications = []; left = record { stream = s; phase = phase } }
 talk_after s (Answers size_agreed reply ∷ later) size phase =
@@ -90,7 +90,7 @@ talk_after s (Fails fault ∷ later) size phase =
     record { indications = fails (unwrap_or (transport_code fault) 0) ∷ []; left = talk_over s }
 
 -- what octets come to, and what they leave
-abbrev pub comes_to : Talk → List ℕ → Told
+abbrev pub comes_to : Talk → List ℕ → TalkStep
 comes_to t octets =
     talk_after (after t.stream octets) (doings t.stream octets) (size_agreed t.stream) t.phase
 

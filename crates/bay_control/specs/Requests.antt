@@ -12,7 +12,7 @@ use Rattle.bay_tree.specs.declared.leaf.Dbpos.TheVariants.{Off, On}
 use Rattle.bay_control.specs.declared.control.SwitchControl.{SwitchControl}
 use Rattle.bay_control.specs.declared.request.Ask.{Ask}
 use Rattle.bay_control.specs.declared.request.Choice.{Choice}
-use Rattle.bay_control.specs.declared.request.Origin.{Origin}
+use Rattle.bay_control.specs.declared.request.Originator.{Originator}
 use Rattle.bay_control.specs.declared.request.View.{View}
 
 -- ---- what the bay file says of a switch's control
@@ -69,7 +69,7 @@ same_operation Open Open = true
 same_operation Close Close = true
 same_operation c d = false
 
-abbrev pub same_origin : Origin → Origin → Bool
+abbrev pub same_origin : Originator → Originator → Bool
 same_origin c d = int_eq c.cat d.cat && pointwise nat_eq c.ident d.ident
 
 -- what is asked for twice is the same: operation and originator

@@ -60,15 +60,15 @@ impl Identity {
 /// The originator of a control (IEC 61850-7-3, Originator), as a selection keeps it. bay_mms has
 /// the one that borrows from a request.
 #[derive(Clone, Copy, Debug)]
-pub struct Origin {
+pub struct Originator {
     /// The category (orCat).
     pub cat: i8,
     pub ident: Identity,
 }
 
-impl Origin {
+impl Originator {
     /// Returns whether two originators are the same.
-    pub(crate) fn is_same(&self, other: &Origin) -> bool
+    pub(crate) fn is_same(&self, other: &Originator) -> bool
         ensures { result ≡ same_origin self.now other.now }
     {
         self.cat == other.cat && self.ident.as_slice() == other.ident.as_slice()
@@ -80,7 +80,7 @@ impl Origin {
 pub struct Choice {
     /// What the switch is told to do (ctlVal).
     pub operation: Operation,
-    pub origin: Origin,
+    pub origin: Originator,
 }
 
 impl Choice {
@@ -99,7 +99,7 @@ pub struct Ask {
     pub operation: Operation,
     /// Whether it is a test, which moves nothing (Test).
     pub test: bool,
-    pub origin: Origin,
+    pub origin: Originator,
 }
 
 /// What a decision knows of the switch.

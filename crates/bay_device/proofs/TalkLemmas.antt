@@ -23,7 +23,7 @@ use Rattle.bay_assoc.specs.Results.{or_fault}
 use Rattle.bay_assoc.specs.Session.{Spdu, connect, accept, finish, disconnect, abort, transfer, spdu_in}
 use Rattle.bay_mms.specs.Sizes.{IsPduSize, agreed_size}
 use Rattle.bay_assoc.specs.Sized.{IsSized}
-use Rattle.bay_connection.specs.Talk.{Indication, Talk, Told, answers, tells, releases, ends, fails, comes_to, indications, left_by, on_heard, on_hearing, talk_after}
+use Rattle.bay_connection.specs.Talk.{Indication, Talk, TalkStep, answers, tells, releases, ends, fails, comes_to, indications, left_by, on_heard, on_hearing, talk_after}
 
 -- ---- what is heard leaves a size of PDUs
 
@@ -162,11 +162,11 @@ abbrev pub CanAnswerAll : List Indication → Type 0
 CanAnswerAll [] = Unit {0}
 CanAnswerAll (i ∷ is) = CanAnswer i × CanAnswerAll is
 
-record IsTold (t : Told) : Type 0 where
+record IsTold (t : TalkStep) : Type 0 where
   all : CanAnswerAll t.indications
   left : IsSized t.left.phase
 
-heard-told : (s : Stream) (h : Hearing) (size : Option ℕ) (phase : Phase) (later : Told)
+heard-told : (s : Stream) (h : Hearing) (size : Option ℕ) (phase : Phase) (later : TalkStep)
     → IsSome size → HeardOpen h phase → IsTold later
     → IsTold (on_heard s h (record { size = size; phase = phase }) later)
 heard-told s (answer tsdu) size phase later some is rest =
@@ -177,7 +177,7 @@ heard-told s (released tsdu) size phase later some is rest = record { all = (tt,
 heard-told s aborted size phase later some is rest = record { all = (tt, tt); left = tt }
 
 hearing-told : (s : Stream) (r : Result (Hearing × Phase) AssocFault) (size : Option ℕ)
-    (later : Phase → Told) → IsSome size → OkIs IsHeard r
+    (later : Phase → TalkStep) → IsSome size → OkIs IsHeard r
     → ((p : Phase) → IsSized p → IsTold (later p))
     → IsTold (on_hearing size s r later)
 hearing-told s (Ok x) size later some is rest =

@@ -12,7 +12,7 @@ use std::io::{Read, Write};
 /// Its meaning is `does old call new`: this call, with what it returned, may have led from the old
 /// state to the new one. A source in memory gives its own meaning. Nothing is known of any other
 /// source, and it keeps the default. Code proved for every source makes only the calls it states.
-pub trait Source {
+pub trait OctetSource {
     ghost remaining: { Self → Option (List ℕ) } = { λ _. None };
 
     ghost does: { Self → ReadCall → Self → Type 0 } = { λ _ _ _. Unit {0} };
@@ -26,13 +26,13 @@ pub trait Source {
 
 /// A part of a line.
 #[derive(Clone, Copy, Debug)]
-pub enum Part<'a> {
+pub enum LinePart<'a> {
     Text(&'a [u8]),
     /// A number, in decimal digits.
     Number(u64),
 }
 
-/// A sink for octets, with a meaning like that of a `Source`. It may have a log beside them.
+/// A sink for octets, with a meaning like that of a `OctetSource`. It may have a log beside them.
 pub trait Sink {
     ghost contents: { Self → Option (List ℕ) } = { λ _. None };
 
@@ -51,12 +51,12 @@ pub trait Sink {
 
     /// Logs the line of these parts, the last of which ends with LF. A log that fails stops
     /// nothing.
-    fn log_line(&mut self, parts: &[Part<'_>])
+    fn log_line(&mut self, parts: &[LinePart<'_>])
         ensures bytes { Keeps (contents self.old) (contents self.new) }
         ensures call { does self.old (Log (parts_text parts.now)) self.new };
 }
 
-impl<R: Read> Source for R {
+impl<R: Read> OctetSource for R {
     ghost remaining = { λ r. R.remaining r };
 
     fn read_octets(&mut self, room: &mut [u8]) -> io::Result<usize> {
@@ -76,5 +76,5 @@ impl<W: Write> Sink for W {
     }
 
     // A writer of std has no log.
-    fn log_line(&mut self, _parts: &[Part<'_>]) {}
+    fn log_line(&mut self, _parts: &[LinePart<'_>]) {}
 }

@@ -2,7 +2,7 @@
 ghost use Rattle.std.specs.Prelude.{◌≡◌, ◌+◌, ◌-◌, ◌^◌, ◌<◌, ◌≤◌, ◌++◌, true, is_ok, length, vec_len, IfOk, IfSome};
 ghost use Rattle.bay_io.specs.Input.{ReadsAll, failed_of};
 
-use crate::calls::Source;
+use crate::calls::OctetSource;
 use crate::reader::WatchedReader;
 use std::alloc::{AllocError, Global};
 use std::io::ErrorKind;
@@ -36,7 +36,7 @@ fn keep(all: &mut Vec<u8>, kept: Result<(), AllocError>, octets: &[u8]) -> Resul
 /// Reads all octets that the reader has left, if there are at most `limit`. Makes at most `limit` +
 /// 1 reads, and none after a failed read. If an allocation fails it reads on, because there may be
 /// too many octets.
-pub fn read_all<R: Source>(
+pub fn read_all<R: OctetSource>(
     alloc: Global,
     reader: &mut WatchedReader<R>,
     limit: usize,

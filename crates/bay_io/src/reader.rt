@@ -4,7 +4,7 @@ ghost use Rattle.std.specs.Io.{ReadsAtMost};
 ghost use Rattle.std.specs.Io.KnownBytes.{ReadConsumes};
 ghost use Rattle.bay_io.specs.Calls.{reads as read_call};
 
-use crate::calls::Source;
+use crate::calls::OctetSource;
 use std::io;
 use std::marker::Model;
 
@@ -51,7 +51,7 @@ impl<R> WatchedReader<R> {
     }
 }
 
-impl<R: Source> WatchedReader<R> {
+impl<R: OctetSource> WatchedReader<R> {
     /// Reads once, at most as many octets as fit in `room`. A result of 0 means the end.
     pub fn read(&mut self, room: &mut [u8]) -> io::Result<usize>
         ensures bound { ReadsAtMost result room.new }

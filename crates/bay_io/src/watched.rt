@@ -6,7 +6,7 @@ ghost use Rattle.std.specs.Io.KnownBytes.{WriteAppends, Keeps};
 ghost use Rattle.bay_io.specs.Calls.{Log, parts_text, writes, flushes};
 ghost use Rattle.bay_io.specs.Watched as spec;
 
-use crate::calls::{Part, Sink};
+use crate::calls::{LinePart, Sink};
 use std::io;
 use std::marker::Model;
 
@@ -139,7 +139,7 @@ impl<W: Sink> Watched<W> {
     }
 
     /// Logs the line of these parts, if the log was started.
-    pub fn log(&mut self, parts: &[Part<'_>])
+    pub fn log(&mut self, parts: &[LinePart<'_>])
         ensures bytes { Keeps (W.contents self.old.inner) (W.contents self.new.inner) }
         ensures call { MatchBool self.old.logs
             (W.does self.old.inner (Log (parts_text parts.now)) self.new.inner)

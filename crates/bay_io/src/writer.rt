@@ -7,7 +7,7 @@ ghost use Rattle.std.specs.Io.KnownBytes.{Appends, Keeps};
 ghost use Rattle.bay_io.specs.Calls.{Asked, Unlogged, parts_text, write_failed};
 ghost use Rattle.bay_io.specs.Sent.{Finishes, Logs, Puts, SendsPart};
 
-use crate::calls::{Part, Sink};
+use crate::calls::{LinePart, Sink};
 use crate::outbox::{Outbox, WriteFault};
 use crate::watched::Watched;
 use itoa::Buffer;
@@ -215,7 +215,7 @@ impl<W: Sink> WatchedWriter<W> {
     }
 
     /// Logs the line of these parts, if the log was started. What is in the buffer stays there.
-    pub fn log(&mut self, parts: &[Part<'_>])
+    pub fn log(&mut self, parts: &[LinePart<'_>])
         ensures { Logs W.contents W.does self.old (parts_text parts.now) self.new }
     {
         self.sink.log(parts);

@@ -6,11 +6,11 @@ use std::marker::Model;
 
 /// A buffer of at most `MOST` octets, allocated once when it is created.
 #[derive(Drop)]
-pub struct Kept<const MOST: usize> {
+pub struct BoundedBuffer<const MOST: usize> {
     octets: Vec<u8>,
 }
 
-impl<const MOST: usize> Model for Kept<MOST> {
+impl<const MOST: usize> Model for BoundedBuffer<MOST> {
     ghost use Rattle.std.specs.Prelude.{ℕ, List};
     ghost use Rattle.bay_lines.specs.Room.{HasRoom};
 
@@ -21,13 +21,13 @@ impl<const MOST: usize> Model for Kept<MOST> {
     ghost invariant = { λ k. HasRoom MOST k.octets };
 }
 
-impl<const MOST: usize> Kept<MOST> {
+impl<const MOST: usize> BoundedBuffer<MOST> {
     /// Creates an empty buffer.
     pub fn new(alloc: Global) -> Result<Self, AllocError>
         ensures { IfOk result (λ k. k ≡ []) }
     {
         let octets = Vec::with_capacity(alloc, MOST)?;
-        Ok(Kept { octets })
+        Ok(BoundedBuffer { octets })
     }
 
     /// Returns the octets in order.

@@ -16,8 +16,8 @@ use Rattle.bay_files.specs.declared.files.FileFault.TheVariants as unwritten
 use Rattle.bay_report.specs.declared.load.Form.{Form}
 use Rattle.bay_report.specs.declared.load.Form.TheVariants as form
 use Rattle.bay_words.specs.Jobs.{task_in}
-use Rattle.bay_words.specs.declared.task.Program.{Program}
-use Rattle.bay_words.specs.declared.task.Program.TheVariants.{Logic, Image}
+use Rattle.bay_words.specs.declared.task.ProgramFile.{ProgramFile}
+use Rattle.bay_words.specs.declared.task.ProgramFile.TheVariants.{Logic, Image}
 use Rattle.bay_words.specs.declared.task.Asked.{Asked}
 use Rattle.bay_words.specs.declared.task.Task.{Task}
 use Rattle.bay_words.specs.declared.task.Task.TheVariants.{Check, Replay, Serve, Compile, Audit}
@@ -159,11 +159,11 @@ IsRefused WriteFailed = ⊥
 IsRefused (Refused text) = Unit {0}
 
 -- which form a program has, and the name of its file
-abbrev pub form_of : Program (List ℕ) → Form
+abbrev pub form_of : ProgramFile (List ℕ) → Form
 form_of (Logic name) = form.Logic
 form_of (Image name) = form.Image
 
-abbrev pub name_of : Program (List ℕ) → List ℕ
+abbrev pub name_of : ProgramFile (List ℕ) → List ℕ
 name_of (Logic name) = name
 name_of (Image name) = name
 

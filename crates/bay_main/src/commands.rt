@@ -11,7 +11,7 @@ use crate::ending::Ended;
 use bay_auditing::audit_files::audit_files;
 use bay_device::device::Device;
 use bay_files::files::{BothFiles, FileFault, FileSystem, read_files, write_whole};
-use bay_io::calls::{Sink, Source};
+use bay_io::calls::{OctetSource, Sink};
 use bay_io::outbox::WriteFault;
 use bay_io::reader::WatchedReader;
 use bay_io::writer::WatchedWriter;
@@ -21,8 +21,8 @@ use bay_report::log::{log_unwritten, tell_refusal, tell_unread};
 use bay_report::output::{NO_MEMORY, Status, write_report, write_text};
 use bay_serve::link::Link;
 use bay_serving::host::Host;
-use bay_serving_files::serve::{Named, Numbers, serve};
-use bay_words::task::{Asked, Program, Task};
+use bay_serving_files::serve::{NamedFiles, Numbers, serve};
+use bay_words::task::{Asked, ProgramFile, Task};
 use bay_words::words::{WordsFault, task_of};
 use std::alloc::{AllocError, Global};
 
@@ -138,18 +138,18 @@ fn compile<F: FileSystem, W: Sink>(
 }
 
 // Returns the form of a program and the name of its file.
-fn form_of<'a>(program: Program<&'a str>) -> (Form, &'a str)
+fn form_of<'a>(program: ProgramFile<&'a str>) -> (Form, &'a str)
     ensures form { result.0 ≡ spec.form_of (program_view program.entry) }
     ensures name { result.1.now ≡ name_of (program_view program.entry) }
 {
     match program {
-        Program::Logic(name) => (Form::Logic, name),
-        Program::Image(name) => (Form::Image, name),
+        ProgramFile::Logic(name) => (Form::Logic, name),
+        ProgramFile::Image(name) => (Form::Image, name),
     }
 }
 
 // Does a task.
-fn do_task<F: FileSystem, L: Link + Drop, H: Host<L>, R: Source, W: Sink>(
+fn do_task<F: FileSystem, L: Link + Drop, H: Host<L>, R: OctetSource, W: Sink>(
     alloc: Global,
     task: Task<&str>,
     files: &mut F,
@@ -179,7 +179,7 @@ fn do_task<F: FileSystem, L: Link + Drop, H: Host<L>, R: Source, W: Sink>(
             tells_releases,
         } => {
             let (form, program) = form_of(program);
-            let named = Named {
+            let named = NamedFiles {
                 bay,
                 form,
                 program,
@@ -227,7 +227,7 @@ fn log_unprinted<W: Sink>(writer: &mut WatchedWriter<W>)
 /// their names, a replay reads from the reader, and a compilation writes a file. Serving reads
 /// files, and uses the ports and the clock of the host. What is printed goes to the writer, and so
 /// does the log, if the words ask for it.
-pub fn obey<F: FileSystem, L: Link + Drop, H: Host<L>, R: Source, W: Sink>(
+pub fn obey<F: FileSystem, L: Link + Drop, H: Host<L>, R: OctetSource, W: Sink>(
     alloc: Global,
     words: &[&str],
     files: &mut F,

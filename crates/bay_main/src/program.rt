@@ -7,7 +7,7 @@ ghost use Rattle.bay_main.specs.Ending.{status_of};
 use crate::commands::obey;
 use crate::ending::Ended;
 use bay_files::files::SystemFiles;
-use bay_io::calls::{Part, Sink};
+use bay_io::calls::{LinePart, Sink};
 use bay_io::reader::WatchedReader;
 use bay_io::writer::WatchedWriter;
 use bay_output::descriptor::Descriptor;
@@ -103,7 +103,7 @@ fn obey_words<
     let mut output = writer.into_inner();
     let ended = drained(&mut output, ended);
     if matches!(&ended, Ended::WriteFailed) {
-        output.log_line(&[Part::Text(ended.complaint().as_bytes())]);
+        output.log_line(&[LinePart::Text(ended.complaint().as_bytes())]);
         return Ok(ExitCode::from(ended.status()));
     }
     Ok(conclude(rt, &ended))

@@ -10,7 +10,7 @@ use Rattle.bay_nodes.specs.declared.switch.Switch.{Switch}
 use Rattle.bay_nodes.specs.declared.switch.SwitchKind.{SwitchKind}
 use Rattle.bay_nodes.specs.declared.nameplate.Nameplate.{Nameplate}
 use Rattle.bay_nodes.specs.declared.tables.InitialValue.{InitialValue}
-use Rattle.bay_nodes.specs.Node.{Part, Parts, Node, row, rows_of, rows_of_parts, parts_of, inside, value, commands, model_of, node_rows, device_node, device_parts, physical_node, physical_parts, position_node, position_parts, control_parts, is_of}
+use Rattle.bay_nodes.specs.Node.{NodePart, Parts, Node, row, rows_of, rows_of_parts, parts_of, inside, value, commands, model_of, node_rows, device_node, device_parts, physical_node, physical_parts, position_node, position_parts, control_parts, is_of}
 use Rattle.bay_nodes.specs.NodeRows.{line_row, under, table_rows, status_group, type_rows, position_model, command_rows, control_group, control_model}
 
 -- a node's own row, and the rows of its table
@@ -63,7 +63,7 @@ position-appended old node kind =
     sym (append-nil _) ∙ node-groups node old status_group (type_rows kind) position_model []
 
 -- the rows of the first parts, and then those of the others
-rows-of_both : (path : List ℕ) (ps qs : List Part)
+rows-of_both : (path : List ℕ) (ps qs : List NodePart)
     → rows_of_parts path (parts_of (ps ++ qs))
     ≡ rows_of_parts path (parts_of ps) ++ rows_of_parts path (parts_of qs)
 rows-of_both path [] qs = refl
@@ -73,7 +73,7 @@ rows-of_both path (p ∷ ps) qs =
     (rows_of_parts path (parts_of qs)))
 
 -- the parts of a control behind its commands
-abbrev pub configuration : Control → ℕ → List Part
+abbrev pub configuration : Control → ℕ → List NodePart
 configuration control timeout =
     inside (codes "CF") (inside (codes "Pos")
     (value (codes "ctlModel") (Int8 (pos (model_of control)))

@@ -18,13 +18,13 @@ use Rattle.bay_nodes.specs.declared.nameplate.Nameplate.{Nameplate}
 
 -- a part of a logical node: a value, or a structure with its parts
 mutual
-  pub data Part : Type 0 where
-    value : List ℕ → Leaf → Part
-    structure : List ℕ → Parts → Part
+  pub data NodePart : Type 0 where
+    value : List ℕ → Leaf → NodePart
+    structure : List ℕ → Parts → NodePart
 
   pub data Parts : Type 0 where
     end : Parts
-    part : Part → Parts → Parts
+    part : NodePart → Parts → Parts
 
 -- a row of the tree
 abbrev pub row : List ℕ → Option Leaf → Row
@@ -32,7 +32,7 @@ row name leaf = record { name = name; leaf = leaf }
 
 -- the rows of a part and of parts, depth first, with the name that leads to them in front
 abbrev mutual
-  pub rows_of : List ℕ → Part → List Row
+  pub rows_of : List ℕ → NodePart → List Row
   rows_of path (value name leaf) = row (path ++ codes "$" ++ name) (Some leaf) ∷ []
   rows_of path (structure name parts) =
       row (path ++ codes "$" ++ name) None ∷ rows_of_parts (path ++ codes "$" ++ name) parts
@@ -51,24 +51,24 @@ abbrev pub node_rows : Node → List Row
 node_rows node =
     row node.name None ∷ map (λ r. row (node.name ++ r.name) r.leaf) (rows_of_parts [] node.parts)
 
-abbrev pub parts_of : List Part → Parts
+abbrev pub parts_of : List NodePart → Parts
 parts_of [] = end
 parts_of (p ∷ ps) = part p (parts_of ps)
 
 -- a structure with its parts
-abbrev pub inside : List ℕ → List Part → Part
+abbrev pub inside : List ℕ → List NodePart → NodePart
 inside name ps = structure name (parts_of ps)
 
 -- the quality of a value, and its moment, 0
-abbrev pub stamp : Validity → List Part
+abbrev pub stamp : Validity → List NodePart
 stamp q = value (codes "q") (Quality q) ∷ value (codes "t") (Utc 0) ∷ []
 
 -- a value with its quality and its moment (IEC 61850-7-3, common data classes of status)
-abbrev pub status : List ℕ → Leaf → Validity → Part
+abbrev pub status : List ℕ → Leaf → Validity → NodePart
 status name v q = inside name (value (codes "stVal") v ∷ stamp q)
 
 -- a data object that shows its status alone: its control model is 0 (IEC 61850-7-3, ctlModel)
-abbrev pub status_only : List ℕ → Part
+abbrev pub status_only : List ℕ → NodePart
 status_only name = inside name (value (codes "ctlModel") (Int8 (pos 0)) ∷ [])
 
 -- the parts of LLN0, with the texts of the nameplate: mode, behaviour and health are 1, `on` and
@@ -96,7 +96,7 @@ physical_parts n =
     ∷ [])
 
 -- a breaker has no type; a disconnector's is 2, an earthing switch's 3 (IEC 61850-7-4, SwTyp)
-abbrev pub switch_type : SwitchKind → List Part
+abbrev pub switch_type : SwitchKind → List NodePart
 switch_type Breaker = []
 switch_type Disconnector = status (codes "SwTyp") (Int8 (pos 2)) Good ∷ []
 switch_type Earthing = status (codes "SwTyp") (Int8 (pos 3)) Good ∷ []
@@ -115,7 +115,7 @@ position_parts kind =
     ∷ [])
 
 -- what is written to operate a switch, or to select it with a value (IEC 61850-8-1, Oper and SBOw)
-abbrev pub operation : List ℕ → Part
+abbrev pub operation : List ℕ → NodePart
 operation name =
     inside name
     (value (codes "ctlVal") (Truth false)
@@ -128,7 +128,7 @@ operation name =
     ∷ [])
 
 -- what is written to give a selection up, which has no checks (IEC 61850-8-1, Cancel)
-abbrev pub cancelling : Part
+abbrev pub cancelling : NodePart
 cancelling =
     inside (codes "Cancel")
     (value (codes "ctlVal") (Truth false)
@@ -140,11 +140,11 @@ cancelling =
     ∷ [])
 
 -- the functional constraint CO, with what may be written to a position
-abbrev pub controls_by : List Part → List Part
+abbrev pub controls_by : List NodePart → List NodePart
 controls_by ps = inside (codes "CO") (inside (codes "Pos") ps ∷ []) ∷ []
 
 -- what may be written to a switch with each kind of control
-abbrev pub commands : Control → List Part
+abbrev pub commands : Control → List NodePart
 commands Status = []
 commands Direct = controls_by (operation (codes "Oper") ∷ [])
 commands Sbo =
@@ -180,14 +180,14 @@ interlocking_parts =
     ∷ status (codes "EnaCls") (Truth false) Invalid ∷ []) ∷ [])
 
 -- the magnitude of a measured value, as a whole number
-abbrev pub magnitude : Part
+abbrev pub magnitude : NodePart
 magnitude = inside (codes "mag") (value (codes "i") (Int32 (pos 0)) ∷ [])
 
 -- a measured value, and that of a phase (IEC 61850-7-3, MV and CMV)
-abbrev pub measured_value : List ℕ → Part
+abbrev pub measured_value : List ℕ → NodePart
 measured_value name = inside name (magnitude ∷ stamp Invalid)
 
-abbrev pub phase : List ℕ → Part
+abbrev pub phase : List ℕ → NodePart
 phase name = inside name (inside (codes "cVal") (magnitude ∷ []) ∷ stamp Invalid)
 
 -- the parts of MMXU

@@ -4,7 +4,7 @@ use Rattle.std.proofs.Math.Seq.{drop-cons}
 use Rattle.std.proofs.lemmas.Bool.Decides.{nat_tests}
 use Rattle.bay_io.specs.Calls.{part_text, parts_text}
 use Rattle.bay_io.specs.Sent.{has_room}
-use Rattle.bay_io.specs.declared.calls.Part.{Part}
+use Rattle.bay_io.specs.declared.calls.LinePart.{LinePart}
 use Rattle.bay_output.specs.Log.{Keeps}
 
 -- of a text, all but the rest was added to what waits
@@ -26,7 +26,7 @@ Added-step {before} {whole} {rest} {now} part more next a e n = record {
 }
 
 -- the next part of a line
-pub parts-turn : (parts : List Part) (k : ℕ) (part : Part) → part ≡ get_or parts k part
+pub parts-turn : (parts : List LinePart) (k : ℕ) (part : LinePart) → part ≡ get_or parts k part
     → k < length parts
     → parts_text (drop k parts) ≡ part_text part ++ parts_text (drop (k + 1) parts)
 parts-turn parts k part is lt =

@@ -1,5 +1,5 @@
 // A descriptor of the system as a sink.
-use bay_io::calls::{Part, Sink};
+use bay_io::calls::{LinePart, Sink};
 use mio::unix::SourceFd;
 use mio::{Events, Interest, Poll, Token};
 use std::alloc::Global;
@@ -138,5 +138,5 @@ impl<R: Net + AllocGlobal, W: Write + AsRawFd> Sink for Descriptor<'_, R, W> {
     }
 
     // A descriptor has no log.
-    fn log_line(&mut self, _parts: &[Part<'_>]) {}
+    fn log_line(&mut self, _parts: &[LinePart<'_>]) {}
 }

@@ -6,7 +6,7 @@ ghost use Rattle.bay_output.specs.Log.{Keeps, notice, with_line};
 ghost use Rattle.bay_output.specs.Offers.{Empties};
 
 use crate::offer::{Offered, offer_all};
-use bay_io::calls::{Part, Sink};
+use bay_io::calls::{LinePart, Sink};
 use bay_io::outbox::Outbox;
 use std::io;
 use std::marker::Model;
@@ -28,19 +28,19 @@ impl Model for Log {
 }
 
 // Adds a part of a line if it fits. Returns whether it fitted.
-fn keep_part(waiting: &mut Outbox, part: Part<'_>) -> bool
+fn keep_part(waiting: &mut Outbox, part: LinePart<'_>) -> bool
     ensures fits { result ≡ has_room waiting.old (part_text part.entry) }
     ensures after { waiting.new
         ≡ (if result then waiting.old ++ part_text part.entry else waiting.old) }
 {
     match part {
-        Part::Text(text) => waiting.keep(text),
-        Part::Number(number) => waiting.keep_number(number),
+        LinePart::Text(text) => waiting.keep(text),
+        LinePart::Number(number) => waiting.keep_number(number),
     }
 }
 
 // Adds the parts of a line if all fit, and else those that do. Returns whether all fitted.
-fn keep_parts(waiting: &mut Outbox, parts: &[Part<'_>]) -> bool
+fn keep_parts(waiting: &mut Outbox, parts: &[LinePart<'_>]) -> bool
     requires { length waiting.old ≤ 65536 }
     ensures { Keeps waiting.old (parts_text parts.now) waiting.new result }
 {
@@ -73,15 +73,15 @@ impl Log {
             return true;
         }
         let parts = [
-            Part::Number(self.lost),
-            Part::Text(b" lines of the log were lost\n"),
+            LinePart::Number(self.lost),
+            LinePart::Text(b" lines of the log were lost\n"),
         ];
         keep_parts(&mut self.waiting, &parts)
     }
 
     /// Adds the line of these parts, behind a line that tells how many were lost. If both don't fit
     /// nothing is added, and this line is lost.
-    pub fn put(&mut self, parts: &[Part<'_>])
+    pub fn put(&mut self, parts: &[LinePart<'_>])
         ensures { self.new ≡ with_line (parts_text parts.now) self.old }
     {
         let before = self.waiting.as_slice().len();

@@ -5,7 +5,7 @@ ghost use Rattle.bay_output.specs.Output.{PutsIn, written};
 use crate::descriptor::Descriptor;
 use crate::log::Log;
 use crate::queue::{Queue, send_waiting};
-use bay_io::calls::{Part, Sink};
+use bay_io::calls::{LinePart, Sink};
 use std::io;
 use std::io::{ErrorKind, Write};
 use std::net::Net;
@@ -76,7 +76,7 @@ impl<O: Sink, E: Sink> Sink for Output<O, E> {
         }
     }
 
-    fn log_line(&mut self, parts: &[Part<'_>]) {
+    fn log_line(&mut self, parts: &[LinePart<'_>]) {
         self.log.put(parts);
         let _ = self.log.send(&mut self.err);
     }

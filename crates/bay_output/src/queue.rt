@@ -3,14 +3,14 @@ ghost use Rattle.bay_output.specs.Offers.{Empties};
 
 use crate::offer::{Offered, offer_all};
 use bay_io::calls::Sink;
-use bay_lines::kept::Kept;
+use bay_lines::kept::BoundedBuffer;
 use std::io;
 
 // The maximum number of octets in a queue.
 const ROOM: usize = 1_048_576;
 
 /// A queue of at most 1,048,576 octets. Its room is allocated up front.
-pub type Queue = Kept<ROOM>;
+pub type Queue = BoundedBuffer<ROOM>;
 
 /// Writes what waits, in its order, as far as the sink takes it. An error says that a write failed.
 pub fn send_waiting<S: Sink>(queue: &mut Queue, sink: &mut S) -> io::Result<()>

@@ -5,7 +5,7 @@ use Rattle.std.specs.List.{position}
 use Rattle.std.specs.declared.net.socket_addr.SocketAddrV4.{SocketAddrV4}
 use Rattle.bay_lines.specs.Fronts.{Overlong, Waiting, front, front_at, is_end}
 use Rattle.bay_serve.proofs.TalkLemmas.{Talks-append}
-use Rattle.bay_port.specs.Attending.{Attended, all_told, Attends, Does, Leads, Part, Script, attendance, attended_here, behind, line_part, left_in, offer_part, offered_of, on_taken, read_by, accepted_in, first_part, welcomed, talk_part, told_to}
+use Rattle.bay_port.specs.Attending.{Attended, all_told, Attends, Does, Leads, AttendedPart, Script, attendance, attended_here, behind, line_part, left_in, offer_part, offered_of, on_taken, read_by, accepted_in, first_part, welcomed, talk_part, told_to}
 use Rattle.bay_serve.specs.Calls.{Call, Accepts, Closes, ReadOutcome, Octets, Silence, Reads, Writes, Talks}
 use Rattle.bay_port.specs.Fit.{is_waiting, is_wrong}
 use Rattle.bay_port.specs.Ports.{PortData, emptied}
@@ -62,8 +62,8 @@ module _ {L : Type 0} (step : L → Call → L → Type 0) where
       let is = offered-some before.queue taken before some in
       record {
         answers = taken;
-        talks = subst (λ (part : Part). Talks step old part.calls new) (sym is) talks;
-        leads = subst (λ (part : Part). Leads part.after after answer) (sym is) leads;
+        talks = subst (λ (part : AttendedPart). Talks step old part.calls new) (sym is) talks;
+        leads = subst (λ (part : AttendedPart). Leads part.after after answer) (sym is) leads;
       }
 
   -- octets came
@@ -89,29 +89,29 @@ module _ {L : Type 0} (step : L → Call → L → Type 0) where
 
   led : (r : Result PortData Parting) (calls : List Call) (after : PortData)
       → Leads r after (Ok tt)
-      → (let p : Part = record { after = r; calls = calls } in p)
+      → (let p : AttendedPart = record { after = r; calls = calls } in p)
       ≡ record { after = Ok after; calls = calls }
   led (Ok p) calls after leads =
-      ap (λ q. let p : Part = record { after = Ok q; calls = calls } in p) (sym leads)
+      ap (λ q. let p : AttendedPart = record { after = Ok q; calls = calls } in p) (sym leads)
   led (Err why) calls after leads = absurd leads
 
   ended : (r : Result PortData Parting) (calls : List Call) (after : PortData) (why : Parting)
       → Leads r after (Err why)
-      → (let p : Part = record { after = r; calls = calls } in p)
+      → (let p : AttendedPart = record { after = r; calls = calls } in p)
       ≡ record { after = Err why; calls = calls }
   ended (Ok p) calls after why leads = absurd leads
   ended (Err w) calls after why leads =
-      ap (λ v. let p : Part = record { after = Err v; calls = calls } in p) (sym leads)
+      ap (λ v. let p : AttendedPart = record { after = Err v; calls = calls } in p) (sym leads)
 
   -- ---- one after the other
 
-  record Ran (old new : L) (part : Part) (after : PortData) (answer : Result (Unit {0}) Parting)
+  record Ran (old new : L) (part : AttendedPart) (after : PortData) (answer : Result (Unit {0}) Parting)
       : Type 0 where
     talks : Talks step old part.calls new
     leads : Leads part.after after answer
 
   ran-on : (old mid new : L) (result : Result PortData Parting) (calls : List Call)
-      (between after : PortData) (f : PortData → Part) (answer : Result (Unit {0}) Parting)
+      (between after : PortData) (f : PortData → AttendedPart) (answer : Result (Unit {0}) Parting)
       → Talks step old calls mid → Leads result between (Ok tt)
       → Ran mid new (f between) after answer
       → Ran old new (behind (record { after = result; calls = calls }) f) after answer
@@ -125,7 +125,7 @@ module _ {L : Type 0} (step : L → Call → L → Type 0) where
   ran-on old mid new (Err why) calls between after f answer talks leads rest = absurd leads
 
   ran-out : (old new : L) (result : Result PortData Parting) (calls : List Call)
-      (after : PortData) (f : PortData → Part) (why : Parting)
+      (after : PortData) (f : PortData → AttendedPart) (why : Parting)
       → Talks step old calls new → Leads result after (Err why)
       → Ran old new (behind (record { after = result; calls = calls }) f) after (Err why)
   ran-out old new (Ok p) calls after f why talks leads = absurd leads
@@ -142,7 +142,7 @@ module _ {L : Type 0} (step : L → Call → L → Type 0) where
       }
 
   -- what is done behind a part that led to a closing
-  ran-out2 : (old new : L) (a : Part) (after : PortData) (f g : PortData → Part) (why : Parting)
+  ran-out2 : (old new : L) (a : AttendedPart) (after : PortData) (f g : PortData → AttendedPart) (why : Parting)
       → Ran old new a after (Err why) → Ran old new (behind (behind a f) g) after (Err why)
   ran-out2 old new a after f g why r =
       let r1 = ran-out old new a.after a.calls after f why r.talks r.leads in

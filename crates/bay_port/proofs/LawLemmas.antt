@@ -6,7 +6,7 @@ use Rattle.std.specs.List.{position_from}
 use Rattle.std.specs.declared.net.socket_addr.SocketAddrV4.{SocketAddrV4}
 use Rattle.bay_device.specs.Device.{State}
 use Rattle.bay_lines.specs.Fronts.{Front, Waiting, Overlong, Whole, front}
-use Rattle.bay_port.specs.Attending.{Attended, all_told, Part, Script, accepted_in, attendance, first_part, taken_or_closed, welcomed, attended_here, behind, line_part, closed_or_kept, attended_as, left_in, offer_part, offered_of, on_heard, read_by, talk_part, told_to}
+use Rattle.bay_port.specs.Attending.{Attended, all_told, AttendedPart, Script, accepted_in, attendance, first_part, taken_or_closed, welcomed, attended_here, behind, line_part, closed_or_kept, attended_as, left_in, offer_part, offered_of, on_heard, read_by, talk_part, told_to}
 use Rattle.bay_port.specs.Fit.{is_fit, is_told, is_waiting, is_wrong, line_or_none}
 use Rattle.bay_port.specs.Laws.{AreBad, AreFalse, IsReadable, IsSilent, TellsInOrder, hears_end, is_end, taken_of}
 use Rattle.bay_port.specs.Ports.{PortData, emptied, taken_as, taken_front}
@@ -231,13 +231,13 @@ taken-append (Writes a octets (Some n) ∷ xs) ys =
 taken-append (Closes a ∷ xs) ys = taken-append xs ys
 
 -- a part took a front of what was to be told, and the rest still waits, unless it led to a closing
-record Tells (all : List ℕ) (part : Part) : Type 0 where
+record Tells (all : List ℕ) (part : AttendedPart) : Type 0 where
   rest : List ℕ
   whole : all ≡ taken_of part.calls ++ rest
   waits : (p : PortData) → part.after ≡ Ok p → p.queue ≡ rest
 
 tells-behind : (all : List ℕ) (r : Result PortData Parting) (calls : List Call)
-    (f : PortData → Part) → Tells all (record { after = r; calls = calls })
+    (f : PortData → AttendedPart) → Tells all (record { after = r; calls = calls })
     → ((p : PortData) → Tells p.queue (f p))
     → Tells all (behind (record { after = r; calls = calls }) f)
 tells-behind all (Err why) calls f t next =

@@ -10,7 +10,7 @@ use Rattle.std.specs.declared.net.socket_addr.SocketAddrV4.{SocketAddrV4}
 use Rattle.bay_device.specs.Device.{State}
 use Rattle.bay_device.specs.LookUps.{enabled_of, may_close, may_open}
 use Rattle.bay_lines.specs.Fronts.{Front, Overlong, Waiting, Whole, front}
-use Rattle.bay_port.specs.Attending.{Part, Script, accepted_in, all_told, attended_as, behind, closed_or_kept, first_part, left_in, line_part, offer_part, offered_of, on_heard, read_by, taken_or_closed, talk_part, told_to}
+use Rattle.bay_port.specs.Attending.{AttendedPart, Script, accepted_in, all_told, attended_as, behind, closed_or_kept, first_part, left_in, line_part, offer_part, offered_of, on_heard, read_by, taken_or_closed, talk_part, told_to}
 use Rattle.bay_port.specs.Fit.{is_fit, is_waiting, is_wrong}
 use Rattle.bay_port.specs.Ports.{PortData, emptied, bare, taken_as, taken_front}
 use Rattle.bay_port.specs.Releases.{Release, is_same, last_said, nothing_told, release_part, releases_text, said_at, said_from, said_in, told_after}
@@ -197,9 +197,9 @@ has-closed : (why : Parting) (told : Option (List (Option Release))) → HasTold
 has-closed why told q e = absurd cc
 
 has-behind : (told : Option (List (Option Release))) (r : Result PortData Parting)
-    (calls : List Call) (f : PortData → Part) → HasTold told r
+    (calls : List Call) (f : PortData → AttendedPart) → HasTold told r
     → ((p : PortData) → HasTold p.told (f p).after)
-    → (let b : Part = behind (record { after = r; calls = calls }) f in HasTold told b.after)
+    → (let b : AttendedPart = behind (record { after = r; calls = calls }) f in HasTold told b.after)
 has-behind told (Err why) calls f h next = has-closed why told
 has-behind told (Ok p) calls f h next = λ q e. next p q e ∙ h p refl
 

@@ -9,7 +9,7 @@ use Rattle.bay_lines.specs.Fronts.{Front, Overlong, Waiting, Whole, front}
 use Rattle.bay_lines.proofs.FrontLemmas.{nothing-is-lost}
 use Rattle.bay_serve.specs.Served.{told_by}
 use Rattle.bay_serve.specs.Calls.{Call, Accepts, Reads, Writes, Closes, ReadOutcome, Octets, Silence, Over, Broken}
-use Rattle.bay_port.specs.Attending.{Attended, all_told, Part, Script, accepted_in, attendance, first_part, taken_or_closed, attended_as, attended_here, behind, closed_or_kept, line_part, offer_part, offered_of, on_heard, read_by, talk_part, told_to}
+use Rattle.bay_port.specs.Attending.{Attended, all_told, AttendedPart, Script, accepted_in, attendance, first_part, taken_or_closed, attended_as, attended_here, behind, closed_or_kept, line_part, offer_part, offered_of, on_heard, read_by, talk_part, told_to}
 use Rattle.bay_port.specs.Fit.{is_fit, is_told, is_waiting, is_wrong, line_or_none}
 use Rattle.bay_port.specs.Ports.{PortData, Taken, emptied, bare, nothing_of, taken_as, taken_front, taken_line}
 use Rattle.bay_port.specs.Releases.{told_after}
@@ -46,9 +46,9 @@ keeps-closed : (why : Parting) (kept : List ℕ) (calls : List Call) → Keeps k
 keeps-closed why kept calls q e = absurd cc
 
 keeps-behind : (kept : List ℕ) (r : Result PortData Parting) (calls : List Call)
-    (f : PortData → Part) → Keeps kept r calls
+    (f : PortData → AttendedPart) → Keeps kept r calls
     → ((p : PortData) → Keeps p.kept (f p).after (f p).calls)
-    → (let b : Part = behind (record { after = r; calls = calls }) f in Keeps kept b.after b.calls)
+    → (let b : AttendedPart = behind (record { after = r; calls = calls }) f in Keeps kept b.after b.calls)
 keeps-behind kept (Err why) calls f k next = keeps-closed why kept calls
 keeps-behind kept (Ok p) calls f k next = λ q e.
     next p q e ∙ ap (λ l. l ++ given_of (f p).calls) (k p refl)

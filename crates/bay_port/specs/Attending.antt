@@ -28,14 +28,14 @@ pub record Script : Type 0 where
 
 -- a part of what is done with a process that is there: the port behind it, or why the connection is
 -- closed; and the calls on the link, in which it is association 1
-pub record Part : Type 0 where
+pub record AttendedPart : Type 0 where
   pub after : Result PortData Parting
   pub calls : List Call
 
-abbrev pub going : PortData → List Call → Part
+abbrev pub going : PortData → List Call → AttendedPart
 going p calls = record { after = Ok p; calls = calls }
 
-abbrev pub parting : Parting → List Call → Part
+abbrev pub parting : Parting → List Call → AttendedPart
 parting why calls = record { after = Err why; calls = calls }
 
 -- ---- the parts
@@ -45,39 +45,39 @@ abbrev pub all_told : List ℕ → State → PortData → List ℕ
 all_told text s p = text ++ releases_text s (said_in s p.told)
 
 -- goes whole into the queue
-abbrev pub told_to : List ℕ → State → PortData → Part
+abbrev pub told_to : List ℕ → State → PortData → AttendedPart
 told_to text s p =
     if fits_in p.queue (all_told text s p)
     then going (record p { queue = p.queue ++ all_told text s p; told = told_after s p.told }) []
     else parting QueueFull []
 
 -- how many octets the link took
-abbrev pub on_taken : Option ℕ → PortData → List Call → Part
+abbrev pub on_taken : Option ℕ → PortData → List Call → AttendedPart
 on_taken None p calls = parting LinkFailed calls
 on_taken (Some n) p calls = going (record p { queue = drop n p.queue }) calls
 
 -- the queue is offered once, if there is anything in it
-abbrev pub offered_of : List ℕ → Option ℕ → PortData → Part
+abbrev pub offered_of : List ℕ → Option ℕ → PortData → AttendedPart
 offered_of [] taken p = going p []
 offered_of (b ∷ bs) taken p = on_taken taken p (Writes 1 (b ∷ bs) taken ∷ [])
 
-abbrev pub offer_part : Option ℕ → PortData → Part
+abbrev pub offer_part : Option ℕ → PortData → AttendedPart
 offer_part taken p = offered_of p.queue taken p
 
 -- what a read brought
-abbrev pub on_heard : ReadOutcome → PortData → List Call → Part
+abbrev pub on_heard : ReadOutcome → PortData → List Call → AttendedPart
 on_heard (Octets octets) p calls = going (record p { kept = p.kept ++ octets }) calls
 on_heard Silence p calls = going p calls
 on_heard Over p calls = parting Ended calls
 on_heard Broken p calls = parting LinkFailed calls
 
 -- where no whole line is kept the process is read once, up to 4,096 octets
-abbrev pub read_by : ReadOutcome → PortData → Part
+abbrev pub read_by : ReadOutcome → PortData → AttendedPart
 read_by heard p =
     if is_waiting (front p.kept) then on_heard heard p (Reads 1 4096 heard ∷ []) else going p []
 
 -- a line that can't be taken ends the connection, and is told
-abbrev pub line_part : PortData → Part
+abbrev pub line_part : PortData → AttendedPart
 line_part p =
     if is_wrong (front p.kept)
     then parting (BadLine (shown_text (line_or_all (front p.kept) p.kept))) []
@@ -85,16 +85,16 @@ line_part p =
 
 -- ---- one after the other
 
-abbrev pub part_then : Result PortData Parting → List Call → (PortData → Part) → Part
+abbrev pub part_then : Result PortData Parting → List Call → (PortData → AttendedPart) → AttendedPart
 part_then (Err why) calls next = parting why calls
 part_then (Ok p) calls next =
     record { after = (next p).after; calls = calls ++ (next p).calls }
 
-abbrev pub behind : Part → (PortData → Part) → Part
+abbrev pub behind : AttendedPart → (PortData → AttendedPart) → AttendedPart
 behind part next = part_then part.after part.calls next
 
 -- The process is told, it is offered what waits, it is read, and its line is looked at
-abbrev pub talk_part : List ℕ → State → Option ℕ × ReadOutcome → PortData → Part
+abbrev pub talk_part : List ℕ → State → Option ℕ × ReadOutcome → PortData → AttendedPart
 talk_part text s answers p =
     behind (behind (behind (told_to text s p) (offer_part answers.0)) (read_by answers.1)) line_part
 
@@ -115,12 +115,12 @@ closed_or_kept before (Err why) calls = record {
   calls = calls ++ Closes 1 ∷ [];
 }
 
-abbrev pub attended_here : PortData → Part → Attended
+abbrev pub attended_here : PortData → AttendedPart → Attended
 attended_here before part = closed_or_kept before part.after part.calls
 
 -- a process that has come is read twice: one that has gone while it waited has left its last octets
 -- and then its end
-abbrev pub first_part : ReadOutcome × ReadOutcome → PortData → Part
+abbrev pub first_part : ReadOutcome × ReadOutcome → PortData → AttendedPart
 first_part answers p = behind (read_by answers.0 p) (read_by answers.1)
 
 -- it is taken, or closed where it has gone
@@ -129,7 +129,7 @@ taken_or_closed before (Ok p) calls = record { port = p; news = Some Opened; cal
 taken_or_closed before (Err why) calls =
     record { port = emptied Away before; news = None; calls = calls ++ Closes 1 ∷ [] }
 
-abbrev pub welcomed : PortData → Part → Attended
+abbrev pub welcomed : PortData → AttendedPart → Attended
 welcomed before part = taken_or_closed before part.after part.calls
 
 abbrev pub with_call : Call → Attended → Attended
@@ -170,7 +170,7 @@ Leads (Err why) after (Err told) = told ≡ why
 
 module _ {L : Type 0} (step : L → Call → L → Type 0) where
   -- a part was done: with some answers of the link, the calls and the port behind it are the part's
-  pub record Does {C : Type 0} (f : C → PortData → Part) (old new : L) (before after : PortData)
+  pub record Does {C : Type 0} (f : C → PortData → AttendedPart) (old new : L) (before after : PortData)
       (answer : Result (Unit {0}) Parting) : Type 0 where
     pub answers : C
     pub talks : Talks step old (f answers before).calls new

@@ -9,12 +9,12 @@ ghost use Rattle.bay_port.specs.Telling.{told_text};
 
 use crate::fit::is_fit;
 use crate::news::Parting;
-use crate::releases::{Told, put_releases, told_if};
+use crate::releases::{ToldReleases, put_releases, told_if};
 use crate::sound::forgetting;
 use crate::telling::{Queue, put_told};
 use bay_device::device::Device;
 use bay_lines::front::{Found, line_in_front};
-use bay_lines::kept::Kept;
+use bay_lines::kept::BoundedBuffer;
 use bay_lines::shown::Shown;
 use bay_serve::link::{Arrival, Link};
 use bay_serve::process::{ProcessEvent, read_process_event};
@@ -45,18 +45,18 @@ pub enum Presence {
 /// What a turn is given of the process: an event, if there is one, and the line that tells of it, as
 /// a log shows it.
 #[derive(Debug, Drop)]
-pub struct Said {
+pub struct GivenEvent {
     pub event: Option<ProcessEvent>,
     pub shown: Shown,
 }
 
-impl Said {
+impl GivenEvent {
     // Creates an event without a line.
-    fn alone(event: Option<ProcessEvent>) -> Said
+    fn alone(event: Option<ProcessEvent>) -> GivenEvent
         ensures event { result.event ≡ event }
         ensures shown { result.shown ≡ [] }
     {
-        Said {
+        GivenEvent {
             event,
             shown: Shown::new(b""),
         }
@@ -68,10 +68,10 @@ impl Said {
 #[derive(Drop)]
 pub struct Port {
     standing: Presence,
-    kept: Kept<ROOM>,
+    kept: BoundedBuffer<ROOM>,
     found: Found,
     queue: Queue,
-    told: Option<Told>,
+    told: Option<ToldReleases>,
 }
 
 impl Model for Port {
@@ -93,8 +93,8 @@ impl Port {
     pub fn new(alloc: Global, tells_releases: bool) -> Result<Self, AllocError>
         ensures { IfOk result (λ port. port ≡ bare tells_releases Presence.Away) }
     {
-        let kept = Kept::new(alloc)?;
-        let queue = Kept::new(alloc)?;
+        let kept = BoundedBuffer::new(alloc)?;
+        let queue = BoundedBuffer::new(alloc)?;
         Ok(Port {
             standing: Presence::Away,
             kept,
@@ -143,7 +143,7 @@ impl Port {
     }
 
     // Takes the first line of what was sent, if there is one. An invalid one stays.
-    fn take_front(&mut self, device: &Device) -> Said
+    fn take_front(&mut self, device: &Device) -> GivenEvent
         ensures event { result.event
             ≡ (taken_front device.now (front self.old.kept) self.old).event }
         ensures shown { result.shown
@@ -151,31 +151,31 @@ impl Port {
         ensures port { self.new ≡ (taken_front device.now (front self.old.kept) self.old).port }
     {
         match self.found {
-            Found::Waiting => Said::alone(None),
-            Found::Overlong => Said::alone(None),
+            Found::Waiting => GivenEvent::alone(None),
+            Found::Overlong => GivenEvent::alone(None),
             Found::Whole { line, end } => {
                 let text = &self.kept.as_slice()[..line];
                 let event = read_process_event(device, text);
                 if event.is_none() && !text.is_empty() {
-                    return Said::alone(None);
+                    return GivenEvent::alone(None);
                 }
                 let shown = Shown::new(text);
                 self.kept.drop_front(end);
                 self.found = line_in_front(self.kept.as_slice());
-                Said { event, shown }
+                GivenEvent { event, shown }
             }
         }
     }
 
     /// Takes what the port has for a turn.
-    pub fn take_line(&mut self, device: &Device) -> Said
+    pub fn take_line(&mut self, device: &Device) -> GivenEvent
         ensures event { result.event ≡ (taken_line device.now self.old).event }
         ensures shown { result.shown ≡ shown_line (taken_line device.now self.old).line }
         ensures port { self.new ≡ (taken_line device.now self.old).port }
     {
         match self.standing {
-            Presence::Away => Said::alone(None),
-            Presence::Leaving => Said::alone(forgetting(device)),
+            Presence::Away => GivenEvent::alone(None),
+            Presence::Leaving => GivenEvent::alone(forgetting(device)),
             Presence::Here => self.take_front(device),
         }
     }

@@ -18,11 +18,11 @@ pub type Release = (bool, bool);
 
 /// The release of each switch that a process was told last, if it was told one.
 #[derive(Drop)]
-pub struct Told {
+pub struct ToldReleases {
     releases: [Option<Release>; SWITCHES],
 }
 
-impl Model for Told {
+impl Model for ToldReleases {
     ghost use Rattle.std.specs.Prelude.{◌≡◌, List, Option, length};
     ghost use Rattle.bay_port.specs.Releases.{Release};
 
@@ -33,13 +33,13 @@ impl Model for Told {
     ghost invariant = { λ t. length t.releases ≡ 32 };
 }
 
-impl Told {
+impl ToldReleases {
     /// Nothing was told yet.
     #[tactic(auto, unfolding(crate::specs::Releases::nothing_told))]
     pub fn new() -> Self
         ensures { result ≡ nothing_told }
     {
-        Told {
+        ToldReleases {
             releases: [None; SWITCHES],
         }
     }
@@ -55,11 +55,11 @@ impl Told {
 }
 
 /// Returns that nothing was told yet, if a process is told of releases.
-pub fn told_if(tells_releases: bool) -> Option<Told>
+pub fn told_if(tells_releases: bool) -> Option<ToldReleases>
     ensures { result ≡ (if tells_releases then Some nothing_told else None) }
 {
     if tells_releases {
-        Some(Told::new())
+        Some(ToldReleases::new())
     } else {
         None
     }
@@ -129,7 +129,7 @@ fn put_changes(queue: &mut Queue, device: &Device, told: &[Option<Release>]) -> 
 
 /// Appends the line of each switch whose release is not what was told last, if the process is told
 /// of releases. Returns false if there is not room for all of them.
-pub fn put_releases(queue: &mut Queue, device: &Device, told: &mut Option<Told>) -> bool
+pub fn put_releases(queue: &mut Queue, device: &Device, told: &mut Option<ToldReleases>) -> bool
     ensures queue { PutsWhole queue.old
         (releases_text device.now (said_in device.now told.old)) queue.new result }
     ensures told { told.new ≡ told_after device.now told.old }

@@ -4,7 +4,7 @@ ghost use Rattle.bay_report.specs.Lines.{command_line, command_text, commands_te
 ghost use Rattle.bay_port.specs.Telling.{PutsWhole, refusal_text, text_of, told_text};
 
 use bay_device::device::Device;
-use bay_lines::kept::Kept;
+use bay_lines::kept::BoundedBuffer;
 use bay_nodes::switch::Operation;
 use bay_serve::told::Turn;
 use bay_services::answer::Command;
@@ -14,7 +14,7 @@ use itoa::Buffer;
 pub const QUEUE: usize = 65_536;
 
 /// The octets still to be sent.
-pub type Queue = Kept<QUEUE>;
+pub type Queue = BoundedBuffer<QUEUE>;
 
 /// Appends the parts of a text. Returns false if there is not room for all of them.
 pub fn put_parts(queue: &mut Queue, parts: &[&[u8]]) -> bool

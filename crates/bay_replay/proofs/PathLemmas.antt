@@ -11,7 +11,7 @@ use Rattle.il_compile.specs.declared.fault.CompileFault.TheVariants.{CodeTooLong
 use Rattle.il_compile.proofs.CompiledLemmas.{is-image}
 use Rattle.il_image.specs.Arithmetic.{computation_of, comparison_holds, wider_value}
 use Rattle.il_image.specs.Images.{Image}
-use Rattle.il_image.specs.Machine.{State as Machine, Turn, Goes, Halts as Stops, Traps, MissingSlot, MissingTimer, WrongKind, ZeroDivisor, Halted, act, as_number, as_span, as_truth, divides, ending_of, goes, is_comparable, pushes, run_from, stores, turn_of, value_of_width, with_slot, with_timer, with_top, with_truths, with_two}
+use Rattle.il_image.specs.Machine.{State as Machine, StepResult, Goes, Halts as Stops, Traps, MissingSlot, MissingTimer, WrongKind, ZeroDivisor, Halted, act, as_number, as_span, as_truth, divides, ending_of, goes, is_comparable, pushes, run_from, stores, turn_of, value_of_width, with_slot, with_timer, with_top, with_truths, with_two}
 use Rattle.il_image.specs.Places.{begun_at, is_place}
 use Rattle.il_image.specs.Reading.{instr_at}
 use Rattle.il_image.specs.Tables.{Ends, LeadsTo, Path}
@@ -32,57 +32,57 @@ use Rattle.il_verify.proofs.LengthLemmas.{path-short}
 -- ---- what a turn comes to
 
 -- Where it goes on, the place is one of these; where it halts, this is so.
-abbrev Lands : (ℕ → Type 0) → Type 0 → Turn → Type 0
+abbrev Lands : (ℕ → Type 0) → Type 0 → StepResult → Type 0
 Lands P H (Goes s) = P s.place
 Lands P H Stops = H
 Lands P H (Traps trap) = Unit {0}
 
 module _ (P : ℕ → Type 0) (H : Type 0) where
-  lands-if : (b : Bool) (x y : Turn) → Lands P H x → Lands P H y → Lands P H (cond b x y)
+  lands-if : (b : Bool) (x y : StepResult) → Lands P H x → Lands P H y → Lands P H (cond b x y)
   lands-if true x y h g = h
   lands-if false x y h g = g
 
   lands-pushes : (v : Value) (to : ℕ) (s : Machine) → P to → Lands P H (pushes v to s)
   lands-pushes v to s h = lands-if (nat_lt (length s.cells) 32) _ _ h tt
 
-  lands-top : (cells : List Value) (f : Value → List Value → Turn)
+  lands-top : (cells : List Value) (f : Value → List Value → StepResult)
       → ((v : Value) (below : List Value) → Lands P H (f v below)) → Lands P H (with_top cells f)
   lands-top [] f h = tt
   lands-top (v ∷ below) f h = h v below
 
-  lands-two : (cells : List Value) (f : Value → Value → List Value → Turn)
+  lands-two : (cells : List Value) (f : Value → Value → List Value → StepResult)
       → ((a b : Value) (below : List Value) → Lands P H (f a b below))
       → Lands P H (with_two cells f)
   lands-two [] f h = tt
   lands-two (v ∷ []) f h = tt
   lands-two (b ∷ a ∷ below) f h = h a b below
 
-  lands-truth : (v : Value) (f : Bool → Turn) → ((b : Bool) → Lands P H (f b))
+  lands-truth : (v : Value) (f : Bool → StepResult) → ((b : Bool) → Lands P H (f b))
       → Lands P H (as_truth v f)
   lands-truth v f h = grind (arith, common_steps)
 
-  lands-span : (v : Value) (f : ℕ → Turn) → ((n : ℕ) → Lands P H (f n)) → Lands P H (as_span v f)
+  lands-span : (v : Value) (f : ℕ → StepResult) → ((n : ℕ) → Lands P H (f n)) → Lands P H (as_span v f)
   lands-span v f h = grind (arith, common_steps)
 
-  lands-number : (w : Width) (v : Value) (f : ℤ → Turn) → ((z : ℤ) → Lands P H (f z))
+  lands-number : (w : Width) (v : Value) (f : ℤ → StepResult) → ((z : ℤ) → Lands P H (f z))
       → Lands P H (as_number w v f)
   lands-number w v f h = grind (arith, common_steps)
 
-  lands-slot : (n : ℕ) (s : Machine) (f : Value → Turn) → ((v : Value) → Lands P H (f v))
+  lands-slot : (n : ℕ) (s : Machine) (f : Value → StepResult) → ((v : Value) → Lands P H (f v))
       → Lands P H (with_slot n s f)
   lands-slot n s f h =
       elim (slice_get s.slots n) as
       (λ o. Lands P H (elim o [ None ↦ Traps MissingSlot | Some v ↦ f v ]))
       [ None ↦ tt | Some v ↦ h v ]
 
-  lands-timer : (n : ℕ) (s : Machine) (f : TimerState → Turn) → ((t : TimerState) → Lands P H (f t))
+  lands-timer : (n : ℕ) (s : Machine) (f : TimerState → StepResult) → ((t : TimerState) → Lands P H (f t))
       → Lands P H (with_timer n s f)
   lands-timer n s f h =
       elim (slice_get s.timers n) as
       (λ o. Lands P H (elim o [ None ↦ Traps MissingTimer | Some t ↦ f t ]))
       [ None ↦ tt | Some t ↦ h t ]
 
-  lands-truths : (n : ℕ) (s : Machine) (f : Bool → Bool → Turn)
+  lands-truths : (n : ℕ) (s : Machine) (f : Bool → Bool → StepResult)
       → ((a b : Bool) → Lands P H (f a b)) → Lands P H (with_truths n s f)
   lands-truths n s f h =
       lands-slot n s _ (λ slot. lands-top s.cells _
@@ -169,7 +169,7 @@ module _ (code : List ℕ) (now most k : ℕ) (slots : List Value) (timers : Lis
     (more : (after : Machine) → Path code (suc (suc k)) after.place
     → run_from code now most after (k + 1) ≡ Halted slots timers n → Ends code n) (s : Machine)
     (path : Path code (suc k) s.place) where
-  by-turn : (i : Instr) (next : ℕ) (t : Turn) → instr_at code s.place ≡ Some (i, next)
+  by-turn : (i : Instr) (next : ℕ) (t : StepResult) → instr_at code s.place ≡ Some (i, next)
       → Lands (λ to. LeadsTo i next to) (i ≡ Halt) t
       → ending_of t s (k + 1) (λ after. run_from code now most after (k + 1))
       ≡ Halted slots timers n

@@ -10,7 +10,7 @@ ghost use Rattle.bay_replay.specs.ScenarioView.{scenario_view};
 use crate::answer::answer_line;
 use crate::scenario::{Scenario, cut_scenario};
 use bay_device::device::Device;
-use bay_io::calls::{Part, Sink, Source};
+use bay_io::calls::{LinePart, OctetSource, Sink};
 use bay_io::input::read_all;
 pub use bay_io::outbox::WriteFault;
 use bay_io::reader::WatchedReader;
@@ -107,7 +107,7 @@ fn replay_scenario<W: Sink>(
             writer,
             b"fault 120 line 0\n",
             Status::Fault,
-            &[Part::Text(b"bayctl: fault 120 line 0: a line %% is missing\n")],
+            &[LinePart::Text(b"bayctl: fault 120 line 0: a line %% is missing\n")],
         ),
     }
 }
@@ -117,7 +117,7 @@ fn replay_scenario<W: Sink>(
 ///
 /// A scenario of more than 16,777,216 octets is a fault, and so is a failed read. A fault is logged. A reader or a
 /// writer that has already failed is not called.
-pub fn replay_watched<R: Source, W: Sink>(
+pub fn replay_watched<R: OctetSource, W: Sink>(
     alloc: Global,
     reader: &mut WatchedReader<R>,
     writer: &mut WatchedWriter<W>,
@@ -141,7 +141,7 @@ pub fn replay_watched<R: Source, W: Sink>(
 
 /// Does the same for any source and any sink, which it consumes. What they were asked and what they
 /// answered is stated in terms of their own meaning.
-pub fn replay_run<R: Source + Drop, W: Sink + Drop>(
+pub fn replay_run<R: OctetSource + Drop, W: Sink + Drop>(
     alloc: Global,
     reader: R,
     writer: W,

@@ -8,7 +8,7 @@ ghost use Rattle.bay_report.specs.LogLines as spec;
 
 use crate::output::{NO_MEMORY, Status, write_refusal, write_text};
 use bay_device::fault::LoadFault;
-use bay_io::calls::{Part, Sink};
+use bay_io::calls::{LinePart, Sink};
 use bay_io::input::ReadFault;
 use bay_io::outbox::WriteFault;
 use bay_io::writer::WatchedWriter;
@@ -83,26 +83,26 @@ fn log_refusal<W: Sink>(writer: &mut WatchedWriter<W>, fault: LoadFault)
     let LoadFault::Refused { code, line } = fault else {
         return;
     };
-    let number = Part::Number(u64::from(code));
-    let words = Part::Text(fault_words(code));
+    let number = LinePart::Number(u64::from(code));
+    let words = LinePart::Text(fault_words(code));
     if line == 0 {
-        let colon = Part::Text(b": ");
+        let colon = LinePart::Text(b": ");
         writer.log(&[
-            Part::Text(b"bayctl: load refused "),
+            LinePart::Text(b"bayctl: load refused "),
             number,
             colon,
             words,
-            Part::Text(b"\n"),
+            LinePart::Text(b"\n"),
         ]);
     } else {
         writer.log(&[
-            Part::Text(b"bayctl: load refused "),
+            LinePart::Text(b"bayctl: load refused "),
             number,
-            Part::Text(b" line "),
-            Part::Number(line as u64),
-            Part::Text(b": "),
+            LinePart::Text(b" line "),
+            LinePart::Number(line as u64),
+            LinePart::Text(b": "),
             words,
-            Part::Text(b"\n"),
+            LinePart::Text(b"\n"),
         ]);
     }
 }
@@ -111,9 +111,9 @@ fn log_refusal<W: Sink>(writer: &mut WatchedWriter<W>, fault: LoadFault)
 pub fn log_unwritten<W: Sink>(writer: &mut WatchedWriter<W>, name: &str)
     ensures { Logs W.contents W.does writer.old (unwritten_line name.now) writer.new }
 {
-    let what = Part::Text(name.as_bytes());
-    let why = Part::Text(b": it can't be written\n");
-    writer.log(&[Part::Text(b"bayctl: fault 122: "), what, why]);
+    let what = LinePart::Text(name.as_bytes());
+    let why = LinePart::Text(b": it can't be written\n");
+    writer.log(&[LinePart::Text(b"bayctl: fault 122: "), what, why]);
 }
 
 /// Logs a line of a trace that can't be read, by its number.
@@ -122,11 +122,11 @@ pub fn log_unreadable<W: Sink>(writer: &mut WatchedWriter<W>, number: usize, lin
 {
     let line = Shown::new(line);
     writer.log(&[
-        Part::Text(b"bayctl: fault 120 line "),
-        Part::Number(number as u64),
-        Part::Text(b": "),
-        Part::Text(line.as_slice()),
-        Part::Text(b"\n"),
+        LinePart::Text(b"bayctl: fault 120 line "),
+        LinePart::Number(number as u64),
+        LinePart::Text(b": "),
+        LinePart::Text(line.as_slice()),
+        LinePart::Text(b"\n"),
     ]);
 }
 
@@ -135,7 +135,7 @@ pub fn tell_text<W: Sink>(
     writer: &mut WatchedWriter<W>,
     text: &[u8],
     status: Status,
-    parts: &[Part<'_>],
+    parts: &[LinePart<'_>],
 ) -> Result<u8, WriteFault>
     ensures { PrintsLogs W.contents W.does (IsTold (Some (parts_text parts.now)) text.now
         (code_of status))
@@ -163,17 +163,23 @@ pub fn tell_unread<W: Sink>(
     ensures { PrintsLogs W.contents W.does (UnreadReport name.now fault) writer.old writer.new
         result }
 {
-    let start = Part::Text(b"bayctl: fault 121: ");
-    let what = Part::Text(name.as_bytes());
+    let start = LinePart::Text(b"bayctl: fault 121: ");
+    let what = LinePart::Text(name.as_bytes());
     match fault {
         ReadFault::OutOfMemory => tell_memory(writer),
         ReadFault::TooLong => {
-            let why = Part::Text(b": it is longer than 16,777,216 bytes\n");
+            let why = LinePart::Text(b": it is longer than 16,777,216 bytes\n");
             tell_text(writer, b"fault 121\n", Status::Fault, &[start, what, why])
         }
         ReadFault::Failed(kind) => {
-            let why = Part::Text(kind_words(kind));
-            let parts = [start, what, Part::Text(b": "), why, Part::Text(b"\n")];
+            let why = LinePart::Text(kind_words(kind));
+            let parts = [
+                start,
+                what,
+                LinePart::Text(b": "),
+                why,
+                LinePart::Text(b"\n"),
+            ];
             tell_text(writer, b"fault 121\n", Status::Fault, &parts)
         }
     }

@@ -1,8 +1,8 @@
 -- The code of a condition's reader goes as the definition does.
 use Rattle.std.proofs.Common.{◌≡◌, ℕ, zero, suc, Bool, true, false, List, [], ◌∷◌, drop, append_assoc, Bor, Some, None, refl, ap, ◌∙◌}
-use Rattle.bay_rules.specs.declared.condition.Turn.TheVariants.{On, Stop, Refuse}
-use Rattle.bay_rules.specs.declared.rule.Item.TheVariants as items
-use Rattle.bay_rules.specs.declared.token.Named.{Named}
+use Rattle.bay_rules.specs.declared.condition.Advance.TheVariants.{On, Stop, Refuse}
+use Rattle.bay_rules.specs.declared.rule.ConditionItem.TheVariants as items
+use Rattle.bay_rules.specs.declared.token.NamedThing.{NamedThing}
 use Rattle.bay_rules.specs.declared.token.Token.{Token}
 use Rattle.bay_rules.specs.declared.token.Token.TheVariants as token
 use Rattle.bay_rules.specs.declared.token.Value.{Value}
@@ -29,11 +29,11 @@ plus-four a b c d = ap (λ x. x ⊕ d) (plus-assoc a b c) ∙ plus-assoc a (b �
 -- ---- values
 
 -- one more value
-pub record MoreTook (named : Named) (old new : Items) (ts left : List Token) : Type 0 where
+pub record MoreTook (named : NamedThing) (old new : Items) (ts left : List Token) : Type 0 where
   pub items : new ⊕ (more_at named left).0 ≡ old ⊕ (more_at named ts).0
   pub rest : drop (more_at named left).1 left ≡ drop (more_at named ts).1 ts
 
-pub more-step : (named : Named) (old new : Items) (ts others left : List Token) (t : Token)
+pub more-step : (named : NamedThing) (old new : Items) (ts others left : List Token) (t : Token)
     (value : Value) → ts ≡ token.Bar ∷ others → others ≡ t ∷ left → value_of t ≡ Some value
     → new ≡ (old ⊕ value_items named value) ⊕ item items.Or → MoreTook named old new ts left
 more-step named old new ts others left t value p q is e =
@@ -43,7 +43,7 @@ more-step named old new ts others left t value p q is e =
       rest = rw (p, q, is) refl;
     }
 
-pub values-step : (named : Named) (negated : Bool) (old new : Items) (ts others : List Token)
+pub values-step : (named : NamedThing) (negated : Bool) (old new : Items) (ts others : List Token)
     (left : Bor (List Token)) (t : Token) (value : Value) → ts ≡ t ∷ others
     → value_of t ≡ Some value
     → new ≡ ((old ⊕ value_items named value) ⊕ (more_at named others).0) ⊕ negation negated

@@ -3,10 +3,10 @@
 use Rattle.std.proofs.Common.{◌≡◌, Bool, true, false, List, [], ◌∷◌, ◌++◌, length, append_assoc, Option, Some, refl, ap, ◌∙◌}
 use Rattle.bay_rules.specs.declared.draft.Pending.{Pending}
 use Rattle.bay_rules.specs.declared.draft.Pending.TheVariants as waits
-use Rattle.bay_rules.specs.declared.rule.Item.TheVariants as items
+use Rattle.bay_rules.specs.declared.rule.ConditionItem.TheVariants as items
 use Rattle.bay_rules.specs.declared.token.Link.{Link}
 use Rattle.bay_rules.specs.declared.token.Link.TheVariants.{And, Or, End}
-use Rattle.bay_rules.specs.declared.token.Named.{Named}
+use Rattle.bay_rules.specs.declared.token.NamedThing.{NamedThing}
 use Rattle.bay_rules.specs.declared.token.Token.{Token}
 use Rattle.bay_rules.specs.declared.token.Token.TheVariants as token
 use Rattle.bay_rules.specs.declared.token.Value.{Value}
@@ -35,7 +35,7 @@ pub data Ends : List Token → Type 0 where
 abbrev pub taken : Items → List Token → Taken
 taken c ts = (c, length ts)
 
-values-found : (named : Named) (ts : List Token) (c : Items) (rest : List Token)
+values-found : (named : NamedThing) (ts : List Token) (c : Items) (rest : List Token)
     → AreValues named ts c → Ends rest → more_at named (ts ++ rest) ≡ taken c ts
 values-found named ts c rest AreValues.none at_end = refl
 values-found named ts c rest AreValues.none at_link = refl
@@ -44,7 +44,7 @@ values-found named ts c rest AreValues.none at_when = refl
 values-found named ts c rest (AreValues.bar {t = t} {ts = us} {c = d} is-value more) ends =
     rw (is-value, values-found named us d rest more ends) refl
 
-first-found : (named : Named) (negated : Bool) (t : Token) (value : Value) (us : List Token)
+first-found : (named : NamedThing) (negated : Bool) (t : Token) (value : Value) (us : List Token)
     (c : Items) (rest : List Token) → value_of t ≡ Some value → AreValues named us c → Ends rest
     → values_at named negated (t ∷ (us ++ rest))
     ≡ Some (taken (value_items named value ⊕ c ⊕ negation negated) (t ∷ us))
@@ -52,7 +52,7 @@ first-found named negated t value us c rest is-value more ends =
     rw (is-value, values-found named us c rest more ends) refl
 
 -- a value at the front is no other part of a fact
-value-front : (named : Named) (t : Token) (value : Value) (ts : List Token)
+value-front : (named : NamedThing) (t : Token) (value : Value) (ts : List Token)
     → value_of t ≡ Some value
     → fact_at named (t ∷ ts) ≡ or_alone named (values_at named false (t ∷ ts))
 value-front named (token.Value v) value ts e = refl
@@ -62,13 +62,13 @@ value-front named token.Is value ts e = absurd cc
 value-front named token.Not value ts e = absurd cc
 value-front named other value ts e = refl
 
-value-behind : (named : Named) (t : Token) (value : Value) (ts : List Token)
+value-behind : (named : NamedThing) (t : Token) (value : Value) (ts : List Token)
     → value_of t ≡ Some value → is_at named (t ∷ ts) ≡ values_at named false (t ∷ ts)
 value-behind named (token.Value v) value ts e = refl
 value-behind named token.Not value ts e = absurd cc
 value-behind named other value ts e = refl
 
-pub fact-found : (named : Named) (ts : List Token) (c : Items) (rest : List Token)
+pub fact-found : (named : NamedThing) (ts : List Token) (c : Items) (rest : List Token)
     → IsFact named ts c → Ends rest → fact_at named (ts ++ rest) ≡ Some (taken c ts)
 fact-found named ts c rest IsFact.alone at_end = refl
 fact-found named ts c rest IsFact.alone at_link = refl

@@ -6,13 +6,13 @@ use Rattle.bay_config.specs.declared.bay.Bay.{Bay}
 use Rattle.bay_tree.specs.declared.leaf.Dbpos.{Dbpos}
 use Rattle.bay_rules.specs.declared.fault.RuleFault.{RuleFault}
 use Rattle.bay_rules.specs.declared.fault.RuleFault.TheVariants.{BadLine, UnknownName, BadValue, TooMany}
-use Rattle.bay_rules.specs.declared.rule.Item.{Item}
-use Rattle.bay_rules.specs.declared.rule.Item.TheVariants as items
+use Rattle.bay_rules.specs.declared.rule.ConditionItem.{ConditionItem}
+use Rattle.bay_rules.specs.declared.rule.ConditionItem.TheVariants as items
 use Rattle.bay_rules.specs.declared.rule.Relation.{Relation}
 use Rattle.bay_rules.specs.declared.rule.Relation.TheVariants.{Equal}
 use Rattle.bay_rules.specs.declared.rule.Rule.{Rule}
 use Rattle.bay_rules.specs.declared.statement.Statement.{Statement}
-use Rattle.bay_rules.specs.declared.token.Named.{Named}
+use Rattle.bay_rules.specs.declared.token.NamedThing.{NamedThing}
 use Rattle.bay_rules.specs.declared.token.Thing.{Thing}
 use Rattle.bay_rules.specs.declared.token.Thing.TheVariants as things
 use Rattle.bay_rules.specs.declared.token.Token.{Token}
@@ -28,12 +28,12 @@ use Rattle.bay_rules.proofs.SayingLemmas.{says-found}
 
 -- ---- truths
 
-after-append : (p : Process) (c d : List Item) (stack : List Bool)
+after-append : (p : Process) (c d : List ConditionItem) (stack : List Bool)
     → after_items p (c ++ d) stack ≡ after_items p d (after_items p c stack)
 after-append p [] d stack = refl
 after-append p (i ∷ c) d stack = after-append p c d (after_item p i stack)
 
-after-two : (p : Process) (c d e : List Item) (stack : List Bool) → IsCondition c → IsCondition d
+after-two : (p : Process) (c d e : List ConditionItem) (stack : List Bool) → IsCondition c → IsCondition d
     → after_items p ((c ++ d) ++ e) stack ≡ after_items p e (holds d p ∷ (holds c p ∷ stack))
 after-two p c d e stack is also =
     after-append p (c ++ d) e stack
@@ -109,18 +109,18 @@ number-sound (Some (things.Measure meter field)) n =
     measure-sound (Some (things.Measure meter field)) Equal n
 number-sound None n = tt
 
-value-sound : (named : Named) (value : Value) → IsSound (value_items named value)
+value-sound : (named : NamedThing) (value : Value) → IsSound (value_items named value)
 value-sound named (Position position) = switch-sound named.switch position
 value-sound named (Truth truth) = input-sound named.thing truth
 value-sound named (Number (Some n)) = number-sound named.thing n
 value-sound named (Number None) = tt
 
-relation-sound : (named : Named) (relation : Relation) (n : Option ℤ)
+relation-sound : (named : NamedThing) (relation : Relation) (n : Option ℤ)
     → IsSound (relation_items named relation n)
 relation-sound named relation None = tt
 relation-sound named relation (Some n) = measure-sound named.thing relation n
 
-values-sound : (named : Named) (ts : List Token) (c a : Items) → IsSound a → AreValues named ts c
+values-sound : (named : NamedThing) (ts : List Token) (c a : Items) → IsSound a → AreValues named ts c
     → IsSound (a ⊕ c)
 values-sound named ts c a is AreValues.none = rw (plus-none a) is
 values-sound named ts c a is (AreValues.bar {value = value} {ts = us} {c = d} e more) =
@@ -128,7 +128,7 @@ values-sound named ts c a is (AreValues.bar {value = value} {ts = us} {c = d} e 
     (values-sound named us d ((a ⊕ value_items named value) ⊕ item items.Or)
     (or-sound a (value_items named value) is (value-sound named value)) more)
 
-fact-sound : (named : Named) (ts : List Token) (c : Items) → IsFact named ts c → IsSound c
+fact-sound : (named : NamedThing) (ts : List Token) (c : Items) → IsFact named ts c → IsSound c
 fact-sound named ts c IsFact.alone = value-sound named (Truth true)
 fact-sound named ts c (IsFact.valued {negated = negated} t {value = value} {ts = us} {c = d} told e
     more) =

@@ -4,10 +4,10 @@ use Rattle.std.proofs.lemmas.Option.{same_Some}
 use Rattle.std.proofs.lemmas.List.{append-nil}
 use Rattle.bay_rules.specs.declared.draft.Pending.{Pending}
 use Rattle.bay_rules.specs.declared.draft.Pending.TheVariants as waits
-use Rattle.bay_rules.specs.declared.rule.Item.TheVariants as items
+use Rattle.bay_rules.specs.declared.rule.ConditionItem.TheVariants as items
 use Rattle.bay_rules.specs.declared.rule.Relation.{Relation}
 use Rattle.bay_rules.specs.declared.token.Link.TheVariants.{And, Or, End}
-use Rattle.bay_rules.specs.declared.token.Named.{Named}
+use Rattle.bay_rules.specs.declared.token.NamedThing.{NamedThing}
 use Rattle.bay_rules.specs.declared.token.Token.{Token}
 use Rattle.bay_rules.specs.declared.token.Token.TheVariants as token
 use Rattle.bay_rules.specs.declared.token.Value.{Value}
@@ -20,7 +20,7 @@ use Rattle.bay_rules.proofs.GrammarLemmas.{IsOpen, IsBase, open-settled}
 
 -- ---- each fact that is found is one
 
-values-read : (named : Named) (ts : List Token)
+values-read : (named : NamedThing) (ts : List Token)
     → AreValues named (take (more_at named ts).1 ts) (more_at named ts).0
 values-read named [] = AreValues.none
 values-read named (token.Bar ∷ []) = AreValues.none
@@ -35,10 +35,10 @@ values-read named (token.Bar ∷ (t ∷ ts)) = by-value (values-read named ts) (
 values-read named (other ∷ ts) = AreValues.none
 
 -- what was taken is a fact
-abbrev pub IsTaken : Named → List Token → List Token → Taken → Type 0
+abbrev pub IsTaken : NamedThing → List Token → List Token → Taken → Type 0
 IsTaken named told ts taken = IsFact named (told ++ take taken.1 ts) taken.0
 
-first-read : (named : Named) (told : List Token) (negated : Bool) (ts : List Token) (taken : Taken)
+first-read : (named : NamedThing) (told : List Token) (negated : Bool) (ts : List Token) (taken : Taken)
     → IsTold told negated → values_at named negated ts ≡ Some taken → IsTaken named told ts taken
 first-read named told negated [] taken how e = absurd cc
 first-read named told negated (t ∷ ts) taken how e = by-value (value_of t) refl
@@ -64,7 +64,7 @@ behind-some None taken e = absurd cc
 behind-some (Some y) taken e =
     record { first = y; was = refl; is = same_Some (y.0, suc y.1) taken e }
 
-number-read : (named : Named) (relation : Relation) (ts : List Token) (taken : Taken)
+number-read : (named : NamedThing) (relation : Relation) (ts : List Token) (taken : Taken)
     → number_at named relation ts ≡ Some taken
     → IsFact named (take (suc taken.1) (token.Relation relation ∷ ts)) taken.0
 number-read named relation [] taken e = absurd cc
@@ -77,7 +77,7 @@ number-read named relation (token.Value (Truth b) ∷ ts) taken e = absurd cc
 number-read named relation (other ∷ ts) taken e = absurd cc
 
 -- a fact behind one token
-one-behind : (named : Named) (t : Token) (ts : List Token) (x : Option Taken) (taken : Taken)
+one-behind : (named : NamedThing) (t : Token) (ts : List Token) (x : Option Taken) (taken : Taken)
     → behind x ≡ Some taken
     → ((y : Taken) → x ≡ Some y → IsFact named (take (suc y.1) (t ∷ ts)) y.0)
     → IsFact named (take taken.1 (t ∷ ts)) taken.0
@@ -85,7 +85,7 @@ one-behind named t ts x taken e read =
     let at = behind-some x taken e in
     subst (λ (k : Taken). IsFact named (take k.1 (t ∷ ts)) k.0) at.is (read at.first at.was)
 
-is-read : (named : Named) (ts : List Token) (taken : Taken) → is_at named ts ≡ Some taken
+is-read : (named : NamedThing) (ts : List Token) (taken : Taken) → is_at named ts ≡ Some taken
     → IsFact named (take (suc taken.1) (token.Is ∷ ts)) taken.0
 is-read named [] taken e = absurd cc
 is-read named (token.Not ∷ ts) taken e =
@@ -95,7 +95,7 @@ is-read named (token.Not ∷ ts) taken e =
 is-read named (other ∷ ts) taken e =
     first-read named (token.Is ∷ []) false (other ∷ ts) taken IsTold.is e
 
-alone-read : (named : Named) (ts : List Token) (x : Option Taken) (taken : Taken)
+alone-read : (named : NamedThing) (ts : List Token) (x : Option Taken) (taken : Taken)
     → values_at named false ts ≡ x → or_alone named x ≡ Some taken
     → IsFact named (take taken.1 ts) taken.0
 alone-read named ts None taken e f =
@@ -103,7 +103,7 @@ alone-read named ts None taken e f =
 alone-read named ts (Some y) taken e f =
     first-read named [] false ts taken IsTold.plain (e ∙ f)
 
-pub fact-read : (named : Named) (ts : List Token) (taken : Taken) → fact_at named ts ≡ Some taken
+pub fact-read : (named : NamedThing) (ts : List Token) (taken : Taken) → fact_at named ts ≡ Some taken
     → IsFact named (take taken.1 ts) taken.0
 fact-read named (token.Relation relation ∷ ts) taken e =
     one-behind named (token.Relation relation) ts (number_at named relation ts) taken e
@@ -316,7 +316,7 @@ nowhere : (us ts : List Token) (d : Items) (left : List Token) → ◌≡◌ {A 
     → IsRead (us ++ ts) d left
 nowhere us ts d left e = absurd cc
 
-took-follows : (s : State) (named : Named) (us ts : List Token) (x : Option Taken)
+took-follows : (s : State) (named : NamedThing) (us ts : List Token) (x : Option Taken)
     → fact_at named ts ≡ x → Waits s.pending s.items us
     → FollowsAt (took s x) (us ++ (token.Name named ∷ [])) ts
 took-follows s named us ts None e w = nowhere (us ++ (token.Name named ∷ [])) ts

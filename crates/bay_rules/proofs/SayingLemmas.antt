@@ -11,7 +11,7 @@ use Rattle.bay_rules.specs.declared.statement.Statement.{Statement}
 use Rattle.bay_rules.specs.declared.statement.Statement.TheVariants.{Looks, Rule}
 use Rattle.bay_rules.specs.declared.statement.Ways.{Ways}
 use Rattle.bay_rules.specs.declared.statement.Ways.TheVariants.{Opening, Closing, OpeningAndClosing, ClosingAndOpening}
-use Rattle.bay_rules.specs.declared.token.Named.{Named}
+use Rattle.bay_rules.specs.declared.token.NamedThing.{NamedThing}
 use Rattle.bay_rules.specs.declared.token.Token.{Token}
 use Rattle.bay_rules.specs.declared.token.Token.TheVariants as token
 use Rattle.bay_rules.specs.Facts.{Items}
@@ -227,7 +227,7 @@ whole-fact [] (suc k) e = refl
 whole-fact (t ∷ ts) zero e = sym e
 whole-fact (t ∷ ts) (suc k) e = ap (λ us. t ∷ us) (whole-fact ts k e)
 
-looks-read : (named : Named) (ts : List Token) (s : Statement) → looks_at named ts ≡ Some s
+looks-read : (named : NamedThing) (ts : List Token) (s : Statement) → looks_at named ts ≡ Some s
     → Says (token.Look ∷ (token.Name named ∷ ts)) s
 looks-read named ts s e =
     let x = fact_at named ts >>= λ (taken : Taken). alone taken.0 (drop taken.1 ts) in
@@ -240,7 +240,7 @@ looks-read named ts s e =
     (fact-read named ts at.found at.was) in
     subst (Says (token.Look ∷ (token.Name named ∷ ts))) (ap Looks whole.0 ∙ looks.is) (Says.look is)
 
-rule-says : (kind : RuleKind) (named : Named) (ts : List Token) (s : Statement) (ways : Ways)
+rule-says : (kind : RuleKind) (named : NamedThing) (ts : List Token) (s : Statement) (ways : Ways)
     (timed : Option Since) (when : Items) (us vs : List Token) → ts ≡ ways_tokens ways ++ (us ++ vs)
     → IsTimed kind us timed → IsWhen vs when
     → Rule (record { kind = kind; named = named; ways = ways; timed = timed; when = when }) ≡ s
@@ -249,7 +249,7 @@ rule-says kind named ts s ways timed when us vs p q r e =
     rw p (subst (Says (token.Kind kind ∷ (token.Name named ∷ (ways_tokens ways ++ (us ++ vs))))) e
     (Says.rule ways q r))
 
-rule-read : (kind : RuleKind) (named : Named) (ts : List Token) (s : Statement)
+rule-read : (kind : RuleKind) (named : NamedThing) (ts : List Token) (s : Statement)
     → rule_at kind named ts ≡ Some s → Says (token.Kind kind ∷ (token.Name named ∷ ts)) s
 rule-read kind named ts s e =
     let said = λ (ways : Ways × List Token) (timed : Option Since × List Token) (when : Items).

@@ -10,7 +10,7 @@ use Rattle.bay_rules.specs.declared.fault.RuleFault.TheVariants.{OutOfMemory, To
 use Rattle.bay_rules.specs.declared.rule.Rule.{Rule}
 use Rattle.bay_rules.specs.declared.statement.Statement.{Statement}
 use Rattle.bay_rules.specs.declared.statement.Statement.TheVariants.{Looks}
-use Rattle.bay_rules.specs.declared.token.Named.{Named}
+use Rattle.bay_rules.specs.declared.token.NamedThing.{NamedThing}
 use Rattle.bay_rules.specs.declared.token.Token.{Token}
 use Rattle.bay_rules.specs.Facts.{Items, ◌⊕◌}
 use Rattle.bay_rules.specs.Grammar.{Says}
@@ -23,7 +23,7 @@ use Rattle.bay_rules.proofs.ConditionLemmas.{none-plus}
 use Rattle.bay_rules.proofs.SayingLemmas.{says-found}
 
 -- values that are to be looked at, in an empty draft
-looks-took : (named : Named) (ts : List Token) (old new : Items) (rest : Bor (List Token))
+looks-took : (named : NamedThing) (ts : List Token) (old new : Items) (rest : Bor (List Token))
     → old ≡ Some [] → TookIf (fact_at named ts) old new ts (Some rest)
     → looks_at named ts ≡ option_map Looks (alone new rest.now)
 looks-took named ts old new rest empty took = by-taken (fact_at named ts) took
@@ -44,14 +44,14 @@ alone-more : (c : Items) (ts : List Token) → (length ts == 0) ≡ false → al
 alone-more c [] e = absurd (grind (arith, nat_tests))
 alone-more c (t ∷ ts) e = refl
 
-pub looks-some : (named : Named) (ts : List Token) (old new : Items) (x : Option (Bor (List Token)))
+pub looks-some : (named : NamedThing) (ts : List Token) (old new : Items) (x : Option (Bor (List Token)))
     (rest : Bor (List Token)) → old ≡ Some [] → TookIf (fact_at named ts) old new ts x
     → x ≡ Some rest → (length rest.now == 0) ≡ true → looks_at named ts ≡ Some (Looks new)
 looks-some named ts old new x rest empty took is e =
     looks-took named ts old new rest empty (rw is at took)
     ∙ ap (option_map Looks) (alone-empty new rest.now e)
 
-pub looks-none : (named : Named) (ts : List Token) (old new : Items) (x : Option (Bor (List Token)))
+pub looks-none : (named : NamedThing) (ts : List Token) (old new : Items) (x : Option (Bor (List Token)))
     (rest : Bor (List Token)) → old ≡ Some [] → TookIf (fact_at named ts) old new ts x
     → x ≡ Some rest → (length rest.now == 0) ≡ false → looks_at named ts ≡ None
 looks-none named ts old new x rest empty took is e =

@@ -1,11 +1,11 @@
 -- What a name with a value behind it says, in items.
 use Rattle.std.specs.Prelude.{ℤ, pos, Bool, true, false, not, List, [], ◌∷◌, ◌++◌, Option, None, Some, option_map, option_and_then, if◌then◌else◌}
 use Rattle.std.specs.Ordering.{int_eq}
-use Rattle.bay_rules.specs.declared.rule.Item.{Item}
-use Rattle.bay_rules.specs.declared.rule.Item.TheVariants as items
+use Rattle.bay_rules.specs.declared.rule.ConditionItem.{ConditionItem}
+use Rattle.bay_rules.specs.declared.rule.ConditionItem.TheVariants as items
 use Rattle.bay_rules.specs.declared.rule.Relation.{Relation}
 use Rattle.bay_rules.specs.declared.rule.Relation.TheVariants.{Equal}
-use Rattle.bay_rules.specs.declared.token.Named.{Named}
+use Rattle.bay_rules.specs.declared.token.NamedThing.{NamedThing}
 use Rattle.bay_rules.specs.declared.token.Thing.{Thing}
 use Rattle.bay_rules.specs.declared.token.Thing.TheVariants as things
 use Rattle.bay_rules.specs.declared.token.Value.{Value}
@@ -13,7 +13,7 @@ use Rattle.bay_rules.specs.declared.token.Value.TheVariants.{Position, Truth, Nu
 
 -- the items of a condition, in postfix order; none where a name can't have what stands behind it
 abbrev pub Items : Type 0
-Items = Option (List Item)
+Items = Option (List ConditionItem)
 
 -- those items, and behind them these
 infixl 10 ◌⊕◌
@@ -22,7 +22,7 @@ None ⊕ d = None
 (Some c) ⊕ None = None
 (Some c) ⊕ (Some d) = Some (c ++ d)
 
-abbrev pub item : Item → Items
+abbrev pub item : ConditionItem → Items
 item i = Some (i ∷ [])
 
 -- nothing, or a negation
@@ -57,12 +57,12 @@ number_items None n = None
 
 -- a name and a value: a position of the switch, a truth of the input, a number of either of the
 -- input and the measure
-abbrev pub value_items : Named → Value → Items
+abbrev pub value_items : NamedThing → Value → Items
 value_items named (Position position) =
     option_map (λ switch. items.Position switch position ∷ []) named.switch
 value_items named (Truth truth) = input_items named.thing truth
 value_items named (Number n) = option_and_then (number_items named.thing) n
 
 -- a name, a relation and a number
-abbrev pub relation_items : Named → Relation → Option ℤ → Items
+abbrev pub relation_items : NamedThing → Relation → Option ℤ → Items
 relation_items named relation n = option_and_then (measure_items named.thing relation) n

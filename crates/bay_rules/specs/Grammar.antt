@@ -1,7 +1,7 @@
 -- The grammar of a rule, over the tokens of its line.
 use Rattle.std.specs.Prelude.{◌≡◌, ℕ, ℤ, Bool, true, false, List, [], ◌∷◌, ◌++◌, Option, None, Some}
 use Rattle.bay_tree.specs.declared.leaf.Dbpos.TheVariants.{Off}
-use Rattle.bay_rules.specs.declared.rule.Item.TheVariants as items
+use Rattle.bay_rules.specs.declared.rule.ConditionItem.TheVariants as items
 use Rattle.bay_rules.specs.declared.rule.Relation.{Relation}
 use Rattle.bay_rules.specs.declared.rule.RuleKind.{RuleKind}
 use Rattle.bay_rules.specs.declared.statement.Since.{Since}
@@ -10,7 +10,7 @@ use Rattle.bay_rules.specs.declared.statement.Statement.TheVariants.{Silence, Lo
 use Rattle.bay_rules.specs.declared.statement.Ways.{Ways}
 use Rattle.bay_rules.specs.declared.statement.Ways.TheVariants.{Opening, Closing, OpeningAndClosing, ClosingAndOpening}
 use Rattle.bay_rules.specs.declared.token.Link.TheVariants.{And, Or, End}
-use Rattle.bay_rules.specs.declared.token.Named.{Named}
+use Rattle.bay_rules.specs.declared.token.NamedThing.{NamedThing}
 use Rattle.bay_rules.specs.declared.token.Token.{Token}
 use Rattle.bay_rules.specs.declared.token.Token.TheVariants as token
 use Rattle.bay_rules.specs.declared.token.Value.{Value}
@@ -24,9 +24,9 @@ value_of token.Open = Some (Position Off)
 value_of other = None
 
 -- further values of what is named, each of which may be the one
-pub data AreValues : Named → List Token → Items → Type 0 where
-  none : {named : Named} → AreValues named [] (Some [])
-  bar : {named : Named} {t : Token} {value : Value} {ts : List Token} {c : Items}
+pub data AreValues : NamedThing → List Token → Items → Type 0 where
+  none : {named : NamedThing} → AreValues named [] (Some [])
+  bar : {named : NamedThing} {t : Token} {value : Value} {ts : List Token} {c : Items}
       → value_of t ≡ Some value → AreValues named ts c
       → AreValues named (token.Bar ∷ t ∷ ts) (value_items named value ⊕ item items.Or ⊕ c)
 
@@ -39,13 +39,13 @@ pub data IsTold : List Token → Bool → Type 0 where
 
 -- a fact: an input alone, which is TRUE; what is named and its values; or a measure, a relation and
 -- a number
-pub data IsFact : Named → List Token → Items → Type 0 where
-  alone : {named : Named} → IsFact named [] (value_items named (Truth true))
-  valued : {named : Named} {told : List Token} {negated : Bool} (t : Token) {value : Value}
+pub data IsFact : NamedThing → List Token → Items → Type 0 where
+  alone : {named : NamedThing} → IsFact named [] (value_items named (Truth true))
+  valued : {named : NamedThing} {told : List Token} {negated : Bool} (t : Token) {value : Value}
       {ts : List Token} {c : Items} → IsTold told negated → value_of t ≡ Some value
       → AreValues named ts c
       → IsFact named (told ++ (t ∷ ts)) (value_items named value ⊕ c ⊕ negation negated)
-  related : {named : Named} {relation : Relation} {n : Option ℤ}
+  related : {named : NamedThing} {relation : Relation} {n : Option ℤ}
       → IsFact named (token.Relation relation ∷ token.Value (Number n) ∷ [])
       (relation_items named relation n)
 
@@ -58,7 +58,7 @@ pub data Level : Type 0 where
 
 -- the tokens are a part of a condition, and mean these items
 pub data Reads : Level → List Token → Items → Type 0 where
-  fact : {named : Named} {ts : List Token} {c : Items} → IsFact named ts c
+  fact : {named : NamedThing} {ts : List Token} {c : Items} → IsFact named ts c
       → Reads operand (token.Name named ∷ ts) c
   not : {ts : List Token} {c : Items} → Reads operand ts c
       → Reads operand (token.Not ∷ ts) (c ⊕ item items.Not)
@@ -93,9 +93,9 @@ pub data IsWhen : List Token → Items → Type 0 where
 -- what the tokens of a line say: nothing, values that are to be looked at, or a rule
 pub data Says : List Token → Statement → Type 0 where
   silence : Says [] Silence
-  look : {named : Named} {ts : List Token} {c : Items} → IsFact named ts c
+  look : {named : NamedThing} {ts : List Token} {c : Items} → IsFact named ts c
       → Says (token.Look ∷ token.Name named ∷ ts) (Looks c)
-  rule : {kind : RuleKind} {named : Named} (ways : Ways) {us vs : List Token}
+  rule : {kind : RuleKind} {named : NamedThing} (ways : Ways) {us vs : List Token}
       {timed : Option Since} {c : Items} → IsTimed kind us timed → IsWhen vs c
       → Says (token.Kind kind ∷ token.Name named ∷ (ways_tokens ways ++ (us ++ vs)))
       (Rule (record { kind = kind; named = named; ways = ways; timed = timed; when = c }))

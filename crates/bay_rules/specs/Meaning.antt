@@ -9,14 +9,14 @@ use Rattle.bay_rules.specs.declared.fault.RuleFault.TheVariants.{BadWord, BadLin
 use Rattle.bay_rules.specs.declared.pieces.Cut.TheVariants.{Line}
 use Rattle.bay_rules.specs.declared.rule.Rule.{Rule}
 use Rattle.bay_rules.specs.declared.rule.Timing.{Timing}
-use Rattle.bay_rules.specs.declared.statement.Said.{Said}
+use Rattle.bay_rules.specs.declared.statement.RuleLine.{RuleLine}
 use Rattle.bay_rules.specs.declared.statement.Since.{Since}
 use Rattle.bay_rules.specs.declared.statement.Statement.{Statement}
 use Rattle.bay_rules.specs.declared.statement.Statement.TheVariants as statement
 use Rattle.bay_rules.specs.declared.statement.Ways.{Ways}
 use Rattle.bay_rules.specs.declared.statement.Ways.TheVariants.{Opening, Closing, OpeningAndClosing, ClosingAndOpening}
 use Rattle.bay_rules.specs.declared.token.Link.TheVariants.{End}
-use Rattle.bay_rules.specs.declared.token.Named.{Named}
+use Rattle.bay_rules.specs.declared.token.NamedThing.{NamedThing}
 use Rattle.bay_rules.specs.declared.token.Token.{Token}
 use Rattle.bay_rules.specs.declared.token.Token.TheVariants as token
 use Rattle.bay_rules.specs.Grammar.{Says}
@@ -49,7 +49,7 @@ unfoldable pub line_tokens : Bay → List ℕ → Option (List Token)
 line_tokens bay line = tokens_of bay (pieces Line (before_first is_comment line))
 
 -- a name that nothing in the bay has
-abbrev pub is_nothing : Named → Bool
+abbrev pub is_nothing : NamedThing → Bool
 is_nothing named = is_none named.switch && is_none named.thing
 
 abbrev pub is_unknown : Token → Bool
@@ -77,7 +77,7 @@ timing_of (Some since) = since.condition >>= λ c. option_map
     (λ t. Some (record { condition = c; time = t })) since.time
 
 -- the rule that a line says, for opening; none where a name can't have what is said
-abbrev pub template_of : ℕ → Said → Option Rule
+abbrev pub template_of : ℕ → RuleLine → Option Rule
 template_of line said =
     said.named.switch >>= λ switch. timing_of said.timed >>= λ timed. option_map
     (λ when. record {

@@ -4,8 +4,8 @@ use Rattle.std.specs.Ordering.{int_eq}
 use Rattle.bay_tree.specs.declared.leaf.Dbpos.{Dbpos}
 use Rattle.bay_tree.specs.declared.leaf.Dbpos.TheVariants.{Intermediate, Off, On, Bad}
 use Rattle.bay_base.specs.declared.point.MeterField.{MeterField}
-use Rattle.bay_rules.specs.declared.rule.Item.{Item}
-use Rattle.bay_rules.specs.declared.rule.Item.TheVariants as items
+use Rattle.bay_rules.specs.declared.rule.ConditionItem.{ConditionItem}
+use Rattle.bay_rules.specs.declared.rule.ConditionItem.TheVariants as items
 use Rattle.bay_rules.specs.declared.rule.Relation.{Relation}
 use Rattle.bay_rules.specs.declared.rule.Relation.TheVariants.{Less, AtMost, Equal, Unequal, AtLeast, Greater}
 
@@ -45,7 +45,7 @@ joined f (b ∷ []) = []
 joined f (b ∷ a ∷ stack) = f a b ∷ stack
 
 -- the stack after an item
-abbrev pub after_item : Process → Item → List Bool → List Bool
+abbrev pub after_item : Process → ConditionItem → List Bool → List Bool
 after_item p items.True stack = true ∷ stack
 after_item p (items.Position switch position) stack =
     same_position (p.position switch) position ∷ stack
@@ -57,7 +57,7 @@ after_item p items.And stack = joined (λ a b. a && b) stack
 after_item p items.Or stack = joined (λ a b. a || b) stack
 
 -- the stack after several
-abbrev pub after_items : Process → List Item → List Bool → List Bool
+abbrev pub after_items : Process → List ConditionItem → List Bool → List Bool
 after_items p [] stack = stack
 after_items p (i ∷ is) stack = after_items p is (after_item p i stack)
 
@@ -66,5 +66,5 @@ top [] = false
 top (a ∷ stack) = a
 
 -- the condition that the items are holds of what the process last reported
-abbrev pub holds : List Item → Process → Bool
+abbrev pub holds : List ConditionItem → Process → Bool
 holds is p = top (after_items p is [])

@@ -3,10 +3,10 @@
 use Rattle.std.specs.Prelude.{ℕ, zero, suc, Bool, true, false, List, [], ◌∷◌, Option, None, Some, option_map}
 use Rattle.bay_rules.specs.declared.draft.Pending.{Pending}
 use Rattle.bay_rules.specs.declared.draft.Pending.TheVariants as waits
-use Rattle.bay_rules.specs.declared.rule.Item.TheVariants as items
+use Rattle.bay_rules.specs.declared.rule.ConditionItem.TheVariants as items
 use Rattle.bay_rules.specs.declared.rule.Relation.{Relation}
 use Rattle.bay_rules.specs.declared.token.Link.TheVariants.{And, Or, End}
-use Rattle.bay_rules.specs.declared.token.Named.{Named}
+use Rattle.bay_rules.specs.declared.token.NamedThing.{NamedThing}
 use Rattle.bay_rules.specs.declared.token.Token.{Token}
 use Rattle.bay_rules.specs.declared.token.Token.TheVariants as token
 use Rattle.bay_rules.specs.declared.token.Value.{Value}
@@ -19,24 +19,24 @@ abbrev pub Taken : Type 0
 Taken = Items × ℕ
 
 -- a further value and those behind it; none where a token is no value
-abbrev pub value_at : Named → Option Value → Taken → Taken
+abbrev pub value_at : NamedThing → Option Value → Taken → Taken
 value_at named None more = (Some [], 0)
 value_at named (Some value) more =
     (value_items named value ⊕ item items.Or ⊕ more.0, suc (suc more.1))
 
 -- the further values at the front
-abbrev pub more_at : Named → List Token → Taken
+abbrev pub more_at : NamedThing → List Token → Taken
 more_at named (token.Bar ∷ (t ∷ ts)) = value_at named (value_of t) (more_at named ts)
 more_at named other = (Some [], 0)
 
 -- the values at the front, where there is one
-abbrev pub first_at : Named → Bool → Option Value → List Token → Option Taken
+abbrev pub first_at : NamedThing → Bool → Option Value → List Token → Option Taken
 first_at named negated None ts = None
 first_at named negated (Some value) ts =
     let more = more_at named ts in
     Some (value_items named value ⊕ more.0 ⊕ negation negated, suc more.1)
 
-abbrev pub values_at : Named → Bool → List Token → Option Taken
+abbrev pub values_at : NamedThing → Bool → List Token → Option Taken
 values_at named negated [] = None
 values_at named negated (t ∷ ts) = first_at named negated (value_of t) ts
 
@@ -45,22 +45,22 @@ abbrev pub behind : Option Taken → Option Taken
 behind = option_map (λ taken. (taken.0, suc taken.1))
 
 -- an input alone, unless values follow
-abbrev pub or_alone : Named → Option Taken → Option Taken
+abbrev pub or_alone : NamedThing → Option Taken → Option Taken
 or_alone named (Some taken) = Some taken
 or_alone named None = Some (value_items named (Truth true), 0)
 
 -- values behind `is`, which `not` may follow
-abbrev pub is_at : Named → List Token → Option Taken
+abbrev pub is_at : NamedThing → List Token → Option Taken
 is_at named (token.Not ∷ ts) = behind (values_at named true ts)
 is_at named ts = values_at named false ts
 
 -- a number behind a relation
-abbrev pub number_at : Named → Relation → List Token → Option Taken
+abbrev pub number_at : NamedThing → Relation → List Token → Option Taken
 number_at named relation (token.Value (Number n) ∷ ts) = Some (relation_items named relation n, 1)
 number_at named relation ts = None
 
 -- the fact at the front, behind its name
-abbrev pub fact_at : Named → List Token → Option Taken
+abbrev pub fact_at : NamedThing → List Token → Option Taken
 fact_at named (token.Relation relation ∷ ts) = behind (number_at named relation ts)
 fact_at named (token.Is ∷ ts) = behind (is_at named ts)
 fact_at named (token.Not ∷ ts) = behind (values_at named true ts)

@@ -2,7 +2,7 @@
 -- the code finds it.
 use Rattle.std.specs.Prelude.{Bool, true, false, List, [], ◌∷◌, drop, Option, None, Some, option_map, if◌then◌else◌}
 use Rattle.bay_base.specs.Options.{◌>>=◌}
-use Rattle.bay_rules.specs.declared.rule.Item.TheVariants as items
+use Rattle.bay_rules.specs.declared.rule.ConditionItem.TheVariants as items
 use Rattle.bay_rules.specs.declared.rule.RuleKind.{RuleKind}
 use Rattle.bay_rules.specs.declared.rule.RuleKind.TheVariants.{Never, Always}
 use Rattle.bay_rules.specs.declared.statement.Since.{Since}
@@ -10,7 +10,7 @@ use Rattle.bay_rules.specs.declared.statement.Statement.{Statement}
 use Rattle.bay_rules.specs.declared.statement.Statement.TheVariants.{Silence, Looks, Rule}
 use Rattle.bay_rules.specs.declared.statement.Ways.{Ways}
 use Rattle.bay_rules.specs.declared.statement.Ways.TheVariants.{Opening, Closing, OpeningAndClosing, ClosingAndOpening}
-use Rattle.bay_rules.specs.declared.token.Named.{Named}
+use Rattle.bay_rules.specs.declared.token.NamedThing.{NamedThing}
 use Rattle.bay_rules.specs.declared.token.Token.{Token}
 use Rattle.bay_rules.specs.declared.token.Token.TheVariants as token
 use Rattle.bay_rules.specs.Facts.{Items, item}
@@ -63,12 +63,12 @@ when_at (token.When ∷ ts) = condition_at ts >>= λ found. alone found.0 found.
 when_at ts = None
 
 -- values that are to be looked at
-abbrev pub looks_at : Named → List Token → Option Statement
+abbrev pub looks_at : NamedThing → List Token → Option Statement
 looks_at named ts =
     option_map Looks (fact_at named ts >>= λ taken. alone taken.0 (drop taken.1 ts))
 
 -- a rule
-abbrev pub rule_at : RuleKind → Named → List Token → Option Statement
+abbrev pub rule_at : RuleKind → NamedThing → List Token → Option Statement
 rule_at kind named ts =
     ways_at ts >>= λ ways. timed_at kind ways.1 >>= λ timed. option_map
     (λ when. Rule (record {

@@ -1,8 +1,8 @@
 -- What the parts of a condition's reader come to, beside how the tokens are gone through.
 use Rattle.std.specs.Prelude.{◌≡◌, ℕ, Bool, true, false, List, ◌∷◌, drop, Option, None, Some}
 use Rattle.std.specs.Borrow.{Bor}
-use Rattle.bay_rules.specs.declared.condition.Turn.{Turn}
-use Rattle.bay_rules.specs.declared.condition.Turn.TheVariants.{On, Stop, Refuse}
+use Rattle.bay_rules.specs.declared.condition.Advance.{Advance}
+use Rattle.bay_rules.specs.declared.condition.Advance.TheVariants.{On, Stop, Refuse}
 use Rattle.bay_rules.specs.declared.token.Token.{Token}
 use Rattle.bay_rules.specs.Facts.{Items, ◌⊕◌}
 use Rattle.bay_rules.specs.Running.{Taken, State, Phase, expects, passes, over, Found, finish}
@@ -25,7 +25,7 @@ phase_of true = expects
 phase_of false = passes 0
 
 -- a turn over the first of some tokens goes where the definition goes
-abbrev pub Goes : Turn → State → Token → List Token → Phase × State → Type 0
+abbrev pub Goes : Advance → State → Token → List Token → Phase × State → Type 0
 Goes (On true rest) new t ts then = (then ≡ (expects, new)) × (rest.now ≡ ts)
 Goes (On false rest) new t ts then = (k : ℕ) × (then ≡ (passes k, new)) × (rest.now ≡ drop k ts)
 Goes Stop new t ts then = then ≡ (over (finish new (t ∷ ts)), new)

@@ -11,7 +11,7 @@ use Rattle.bay_config.specs.Key.{begins_with_letter, is_name_character}
 use Rattle.bay_rules.specs.declared.rule.Relation.TheVariants.{Less, AtMost, Equal, Unequal, AtLeast, Greater}
 use Rattle.bay_rules.specs.declared.rule.RuleKind.TheVariants.{Never, Always}
 use Rattle.bay_rules.specs.declared.token.Link.TheVariants.{And, Or, End}
-use Rattle.bay_rules.specs.declared.token.Named.{Named}
+use Rattle.bay_rules.specs.declared.token.NamedThing.{NamedThing}
 use Rattle.bay_rules.specs.declared.token.Thing.{Thing}
 use Rattle.bay_rules.specs.declared.token.Thing.TheVariants as things
 use Rattle.bay_rules.specs.declared.token.Token.{Token}
@@ -64,7 +64,7 @@ thing_of (sources.Meter meter field) = Some (things.Measure meter field)
 
 -- what a name stands for in a bay: the switch of this id, and the input or the measure of the point
 -- of this name
-abbrev pub named_in : Bay → List ℕ → Named
+abbrev pub named_in : Bay → List ℕ → NamedThing
 named_in bay name =
     record {
       switch = position (λ (s : Switch). same_name name s.id) bay.switches;

@@ -6,15 +6,15 @@ ghost use Rattle.bay_rules.specs.declared.token.Link.TheVariants.{End};
 ghost use Rattle.bay_rules.specs.declared.token.Token.TheVariants as token;
 ghost use Rattle.bay_rules.specs.Turns.{Took, TookIf, phase_of, Goes, FoundIf};
 
-use crate::draft::{Draft, Pending, Stack};
-use crate::rule::{Item, Relation};
-use crate::token::{Link, Named, Token, Value};
+use crate::draft::{Draft, Pending, PendingStack};
+use crate::rule::{ConditionItem, Relation};
+use crate::token::{Link, NamedThing, Token, Value};
 use bay_tree::leaf::Dbpos;
 use std::alloc::{AllocError, Global};
 
 /// What a turn comes to.
 #[derive(Clone, Copy)]
-pub enum Turn<'a> {
+pub enum Advance<'a> {
     /// It goes on with these tokens. An operand is expected, or stands before them.
     On { expects: bool, rest: &'a [Token] },
     /// The condition ends before the token.
@@ -35,7 +35,11 @@ fn value_of(token: Token) -> Option<Value>
 }
 
 // Reads the further values at the front, and returns what follows.
-fn more<'a>(draft: &mut Draft, named: Named, tokens: &'a [Token]) -> Result<&'a [Token], AllocError>
+fn more<'a>(
+    draft: &mut Draft,
+    named: NamedThing,
+    tokens: &'a [Token],
+) -> Result<&'a [Token], AllocError>
     ensures { IfOk result (λ rest. Took (more_at named tokens.entry.now) draft.old draft.new
         tokens.entry.now rest.now) }
 {
@@ -56,7 +60,7 @@ fn more<'a>(draft: &mut Draft, named: Named, tokens: &'a [Token]) -> Result<&'a 
 // Reads the values at the front, and returns what follows, or `None` if there is none.
 fn values<'a>(
     draft: &mut Draft,
-    named: Named,
+    named: NamedThing,
     negated: bool,
     tokens: &'a [Token],
 ) -> Result<Option<&'a [Token]>, AllocError>
@@ -78,7 +82,7 @@ fn values<'a>(
 // Reads values behind `is`, which `not` may follow.
 fn is_values<'a>(
     draft: &mut Draft,
-    named: Named,
+    named: NamedThing,
     tokens: &'a [Token],
 ) -> Result<Option<&'a [Token]>, AllocError>
     ensures { IfOk result (TookIf (is_at named tokens.entry.now) draft.old draft.new
@@ -93,7 +97,7 @@ fn is_values<'a>(
 // Reads a number behind a relation.
 fn number<'a>(
     draft: &mut Draft,
-    named: Named,
+    named: NamedThing,
     relation: Relation,
     tokens: &'a [Token],
 ) -> Result<Option<&'a [Token]>, AllocError>
@@ -110,7 +114,7 @@ fn number<'a>(
 // Reads values, or nothing: then an input is TRUE.
 fn values_or_none<'a>(
     draft: &mut Draft,
-    named: Named,
+    named: NamedThing,
     tokens: &'a [Token],
 ) -> Result<Option<&'a [Token]>, AllocError>
     ensures { IfOk result (TookIf (or_alone named (values_at named false tokens.entry.now))
@@ -126,7 +130,7 @@ fn values_or_none<'a>(
 /// Reads the fact at the front, behind its name, and returns what follows.
 pub fn fact<'a>(
     draft: &mut Draft,
-    named: Named,
+    named: NamedThing,
     tokens: &'a [Token],
 ) -> Result<Option<&'a [Token]>, AllocError>
     ensures { IfOk result (TookIf (fact_at named tokens.entry.now) draft.old draft.new
@@ -141,13 +145,13 @@ pub fn fact<'a>(
 }
 
 // Does what waits for an operand alone, which is complete.
-fn settle(draft: &mut Draft, stack: &mut Stack) -> Result<(), AllocError>
+fn settle(draft: &mut Draft, stack: &mut PendingStack) -> Result<(), AllocError>
     ensures { OnOk result (state stack.new draft.new ≡ settled stack.old draft.old) }
 {
     loop {
         match stack.top() {
-            Some(Pending::Not) => draft.push(Item::Not)?,
-            Some(Pending::And) => draft.push(Item::And)?,
+            Some(Pending::Not) => draft.push(ConditionItem::Not)?,
+            Some(Pending::And) => draft.push(ConditionItem::And)?,
             _ => return Ok(()),
         }
         stack.pop();
@@ -155,11 +159,11 @@ fn settle(draft: &mut Draft, stack: &mut Stack) -> Result<(), AllocError>
 }
 
 // Does what waits for operands that are joined by `and`.
-fn close(draft: &mut Draft, stack: &mut Stack) -> Result<(), AllocError>
+fn close(draft: &mut Draft, stack: &mut PendingStack) -> Result<(), AllocError>
     ensures { OnOk result (state stack.new draft.new ≡ closed (state stack.old draft.old)) }
 {
     if let Some(Pending::Or) = stack.top() {
-        draft.push(Item::Or)?;
+        draft.push(ConditionItem::Or)?;
         stack.pop();
     }
     Ok(())
@@ -168,10 +172,10 @@ fn close(draft: &mut Draft, stack: &mut Stack) -> Result<(), AllocError>
 // Reads a token where an operand is expected.
 fn operand<'a>(
     draft: &mut Draft,
-    stack: &mut Stack,
+    stack: &mut PendingStack,
     token: Token,
     rest: &'a [Token],
-) -> Result<Turn<'a>, AllocError>
+) -> Result<Advance<'a>, AllocError>
     ensures { IfOk result (λ turn. Goes turn (state stack.new draft.new) token rest.entry.now
         (next (phase_of true) (state stack.old draft.old) token rest.entry.now)) }
 {
@@ -179,33 +183,37 @@ fn operand<'a>(
         Token::Name(named) => match fact(draft, named, rest)? {
             Some(rest) => {
                 settle(draft, stack)?;
-                Ok(Turn::On {
+                Ok(Advance::On {
                     expects: false,
                     rest,
                 })
             }
-            None => Ok(Turn::Refuse),
+            None => Ok(Advance::Refuse),
         },
         Token::Not => {
             stack.push(Pending::Not)?;
-            Ok(Turn::On {
+            Ok(Advance::On {
                 expects: true,
                 rest,
             })
         }
         Token::Begin => {
             stack.push(Pending::Begin)?;
-            Ok(Turn::On {
+            Ok(Advance::On {
                 expects: true,
                 rest,
             })
         }
-        _ => Ok(Turn::Refuse),
+        _ => Ok(Advance::Refuse),
     }
 }
 
 // Reads a `)`.
-fn end<'a>(draft: &mut Draft, stack: &mut Stack, rest: &'a [Token]) -> Result<Turn<'a>, AllocError>
+fn end<'a>(
+    draft: &mut Draft,
+    stack: &mut PendingStack,
+    rest: &'a [Token],
+) -> Result<Advance<'a>, AllocError>
     ensures { IfOk result (λ turn. Goes turn (state stack.new draft.new) (token.Link End)
         rest.entry.now (ends (closed (state stack.old draft.old)))) }
 {
@@ -214,29 +222,29 @@ fn end<'a>(draft: &mut Draft, stack: &mut Stack, rest: &'a [Token]) -> Result<Tu
         Some(Pending::Begin) => {
             stack.pop();
             settle(draft, stack)?;
-            Ok(Turn::On {
+            Ok(Advance::On {
                 expects: false,
                 rest,
             })
         }
-        _ => Ok(Turn::Refuse),
+        _ => Ok(Advance::Refuse),
     }
 }
 
 // Reads a token behind an operand.
 fn behind<'a>(
     draft: &mut Draft,
-    stack: &mut Stack,
+    stack: &mut PendingStack,
     token: Token,
     rest: &'a [Token],
-) -> Result<Turn<'a>, AllocError>
+) -> Result<Advance<'a>, AllocError>
     ensures { IfOk result (λ turn. Goes turn (state stack.new draft.new) token rest.entry.now
         (next (phase_of false) (state stack.old draft.old) token rest.entry.now)) }
 {
     match token {
         Token::Link(Link::And) => {
             stack.push(Pending::And)?;
-            Ok(Turn::On {
+            Ok(Advance::On {
                 expects: true,
                 rest,
             })
@@ -244,24 +252,24 @@ fn behind<'a>(
         Token::Link(Link::Or) => {
             close(draft, stack)?;
             stack.push(Pending::Or)?;
-            Ok(Turn::On {
+            Ok(Advance::On {
                 expects: true,
                 rest,
             })
         }
         Token::Link(Link::End) => end(draft, stack, rest),
-        _ => Ok(Turn::Stop),
+        _ => Ok(Advance::Stop),
     }
 }
 
 // Reads a token.
 fn read_token<'a>(
     draft: &mut Draft,
-    stack: &mut Stack,
+    stack: &mut PendingStack,
     expects: bool,
     token: Token,
     rest: &'a [Token],
-) -> Result<Turn<'a>, AllocError>
+) -> Result<Advance<'a>, AllocError>
     ensures { IfOk result (λ turn. Goes turn (state stack.new draft.new) token rest.entry.now
         (next (phase_of expects) (state stack.old draft.old) token rest.entry.now)) }
 {
@@ -275,7 +283,7 @@ fn read_token<'a>(
 // Ends a condition before some tokens. Something may still wait.
 fn ended<'a>(
     draft: &mut Draft,
-    mut stack: Stack,
+    mut stack: PendingStack,
     rest: &'a [Token],
 ) -> Result<Option<&'a [Token]>, AllocError>
     ensures { IfOk result (FoundIf (finish (state stack draft.old) rest.entry.now) draft.new) }
@@ -297,20 +305,20 @@ pub fn condition<'a>(
     requires { draft.old ≡ Some [] }
     ensures { IfOk result (FoundIf (condition_at tokens.entry.now) draft.new) }
 {
-    let mut stack = Stack::new(alloc);
+    let mut stack = PendingStack::new(alloc);
     let mut expects = true;
     let mut rest = tokens;
     while let Some((token, others)) = rest.split_first() {
         match read_token(draft, &mut stack, expects, *token, others)? {
-            Turn::On {
+            Advance::On {
                 expects: next,
                 rest: behind,
             } => {
                 expects = next;
                 rest = behind;
             }
-            Turn::Stop => return ended(draft, stack, rest),
-            Turn::Refuse => return Ok(None),
+            Advance::Stop => return ended(draft, stack, rest),
+            Advance::Refuse => return Ok(None),
         }
     }
     if expects {

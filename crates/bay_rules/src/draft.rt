@@ -1,17 +1,17 @@
 // The items of a condition that is being read.
 ghost use Rattle.std.specs.Prelude.{◌≡◌, ◌∷◌, [], Some, None, OnOk, IfOk, option_map};
-ghost use Rattle.bay_rules.specs.declared.rule.Item.TheVariants as items;
+ghost use Rattle.bay_rules.specs.declared.rule.ConditionItem.TheVariants as items;
 ghost use Rattle.bay_rules.specs.Facts.{truth_of};
 
-use crate::rule::{Item, Relation};
-use crate::token::{Named, Thing, Value};
+use crate::rule::{ConditionItem, Relation};
+use crate::token::{NamedThing, Thing, Value};
 use std::alloc::{AllocError, Global};
 use std::marker::Model;
 
 /// Items in postfix order, as long as each name can have what stands behind it.
 #[derive(Drop)]
 pub struct Draft {
-    items: Vec<Item>,
+    items: Vec<ConditionItem>,
     fits: bool,
 }
 
@@ -49,7 +49,7 @@ impl Draft {
     }
 
     /// Appends an item.
-    pub fn push(&mut self, one: Item) -> Result<(), AllocError>
+    pub fn push(&mut self, one: ConditionItem) -> Result<(), AllocError>
         ensures { OnOk result (self.new ≡ self.old ⊕ item one) }
     {
         if self.fits {
@@ -63,7 +63,7 @@ impl Draft {
         ensures { OnOk result (self.new ≡ self.old ⊕ negation negated) }
     {
         if negated {
-            self.push(Item::Not)?;
+            self.push(ConditionItem::Not)?;
         }
         Ok(())
     }
@@ -81,7 +81,7 @@ impl Draft {
     {
         match thing {
             Some(Thing::Input(input)) => {
-                self.push(Item::Input { input })?;
+                self.push(ConditionItem::Input { input })?;
                 self.push_negation(!truth)?;
             }
             _ => self.refuse(),
@@ -99,7 +99,7 @@ impl Draft {
         ensures { OnOk result (self.new ≡ self.old ⊕ measure_items thing relation value) }
     {
         match thing {
-            Some(Thing::Measure { meter, field }) => self.push(Item::Measure {
+            Some(Thing::Measure { meter, field }) => self.push(ConditionItem::Measure {
                 meter,
                 field,
                 relation,
@@ -125,12 +125,12 @@ impl Draft {
     }
 
     /// Appends that what is named has this value.
-    pub fn push_value(&mut self, named: Named, value: Value) -> Result<(), AllocError>
+    pub fn push_value(&mut self, named: NamedThing, value: Value) -> Result<(), AllocError>
         ensures { OnOk result (self.new ≡ self.old ⊕ value_items named value) }
     {
         match value {
             Value::Position(position) => match named.switch {
-                Some(switch) => self.push(Item::Position { switch, position })?,
+                Some(switch) => self.push(ConditionItem::Position { switch, position })?,
                 None => self.refuse(),
             },
             Value::Truth(truth) => self.push_input(named.thing, truth)?,
@@ -141,17 +141,17 @@ impl Draft {
     }
 
     /// Appends that what is named has this value, or that what stands before holds.
-    pub fn push_other(&mut self, named: Named, value: Value) -> Result<(), AllocError>
+    pub fn push_other(&mut self, named: NamedThing, value: Value) -> Result<(), AllocError>
         ensures { OnOk result (self.new ≡ self.old ⊕ value_items named value ⊕ item items.Or) }
     {
         self.push_value(named, value)?;
-        self.push(Item::Or)
+        self.push(ConditionItem::Or)
     }
 
     /// Appends that the measured value that is named stands so to a number.
     pub fn push_relation(
         &mut self,
-        named: Named,
+        named: NamedThing,
         relation: Relation,
         number: Option<i32>,
     ) -> Result<(), AllocError>
@@ -165,7 +165,7 @@ impl Draft {
     }
 
     /// Returns the items, or `None` if a name can't have what stands behind it.
-    pub fn into_items(self) -> Option<Vec<Item>>
+    pub fn into_items(self) -> Option<Vec<ConditionItem>>
         ensures { option_map (λ items. items.items) result ≡ self }
     {
         if self.fits { Some(self.items) } else { None }
@@ -183,11 +183,11 @@ pub enum Pending {
 
 /// What waits, the last first.
 #[derive(Drop)]
-pub struct Stack {
+pub struct PendingStack {
     pending: Vec<Pending>,
 }
 
-impl Model for Stack {
+impl Model for PendingStack {
     ghost use Rattle.std.specs.Prelude.{List, reverse};
     ghost use Rattle.bay_rules.specs.declared.draft.Pending.{Pending};
 
@@ -196,14 +196,14 @@ impl Model for Stack {
     ghost view = { λ s. reverse s.pending.items };
 }
 
-impl Stack {
+impl PendingStack {
     ghost use Rattle.bay_rules.specs.Running.{first_of, rest_of};
 
     /// Begins with nothing. Does not allocate.
     pub fn new(alloc: Global) -> Self
         ensures { result ≡ [] }
     {
-        Stack {
+        PendingStack {
             pending: Vec::new(alloc),
         }
     }

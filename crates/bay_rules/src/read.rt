@@ -8,8 +8,8 @@ ghost use Rattle.bay_rules.specs.Meaning as spec;
 ghost use Rattle.bay_rules.specs.Reading.{Pushes, Tells, rest_lines};
 
 use crate::fault::RuleFault;
-use crate::rule::{Item, Rule, Timing};
-use crate::statement::{Said, Since, Statement, Ways, statement_of};
+use crate::rule::{ConditionItem, Rule, Timing};
+use crate::statement::{RuleLine, Since, Statement, Ways, statement_of};
 use crate::token::{Link, Token};
 use crate::words::tokens_of;
 use bay_base::listing::Listing;
@@ -74,7 +74,7 @@ fn timing(timed: Option<Since>) -> Option<Option<Timing>>
 
 // Returns a rule to open a switch, as its line says it, or `None` if a name can't have what is
 // said.
-fn template(line: usize, said: Said) -> Option<Rule>
+fn template(line: usize, said: RuleLine) -> Option<Rule>
     ensures { result ≡ spec.template_of line said }
 {
     let switch = said.named.switch?;
@@ -91,7 +91,10 @@ fn template(line: usize, said: Said) -> Option<Rule>
 }
 
 // Copies the items of a condition.
-fn copied(alloc: Global, items: &Listing<Item>) -> Result<Listing<Item>, AllocError>
+fn copied(
+    alloc: Global,
+    items: &Listing<ConditionItem>,
+) -> Result<Listing<ConditionItem>, AllocError>
     ensures { IfOk result (λ copy. copy ≡ items.now) }
 {
     Ok(Listing::new(items.as_slice().to_vec(alloc)?))
@@ -161,7 +164,7 @@ fn push_ways(
 fn push_said(
     alloc: Global,
     line: usize,
-    said: Said,
+    said: RuleLine,
     rules: &mut Vec<Rule>,
 ) -> Result<bool, AllocError>
     ensures { IfOk result

@@ -28,7 +28,7 @@ pub enum Relation {
 /// truth on a stack, `Not` takes one from it, `And` and `Or` take two, and each of them puts its
 /// own there. One is left at the end.
 #[derive(Clone, Copy, Debug, PartialEq, Eq)]
-pub enum Item {
+pub enum ConditionItem {
     /// Always TRUE.
     True,
     /// The switch at this index of the bay has this position.
@@ -56,7 +56,7 @@ pub enum Item {
 #[derive(Debug, Drop)]
 pub struct Timing {
     /// The condition that holds without a break, in postfix order.
-    pub condition: Listing<Item>,
+    pub condition: Listing<ConditionItem>,
     /// How long it has to hold, in milliseconds, 1 to 2,147,483,647.
     pub time: u32,
 }
@@ -72,7 +72,7 @@ pub struct Rule {
     /// The operation that is meant.
     pub operation: Operation,
     /// In which states the rule is asked, in postfix order.
-    pub when: Listing<Item>,
+    pub when: Listing<ConditionItem>,
     /// The time of the rule, if it has one.
     pub timed: Option<Timing>,
 }

@@ -5,8 +5,8 @@ ghost use Rattle.bay_rules.specs.Sayings as spec;
 
 use crate::condition::{condition, fact};
 use crate::draft::Draft;
-use crate::rule::{Item, RuleKind};
-use crate::token::{Named, Token};
+use crate::rule::{ConditionItem, RuleKind};
+use crate::token::{NamedThing, Token};
 use std::alloc::{AllocError, Global};
 
 /// The directions of a switch that a rule is for, in the order of the text.
@@ -28,9 +28,9 @@ pub struct Since {
 
 /// A rule as its line says it.
 #[derive(Drop)]
-pub struct Said {
+pub struct RuleLine {
     pub kind: RuleKind,
-    pub named: Named,
+    pub named: NamedThing,
     pub ways: Ways,
     pub timed: Option<Since>,
     pub when: Draft,
@@ -42,7 +42,7 @@ pub enum Statement {
     Silence,
     /// Values that are to be looked at.
     Looks(Draft),
-    Rule(Said),
+    Rule(RuleLine),
 }
 
 // Reads the directions at the front, and returns what follows.
@@ -85,7 +85,7 @@ fn read_when(alloc: Global, tokens: &[Token]) -> Result<Option<Draft>, AllocErro
 {
     let mut draft = Draft::new(alloc);
     match tokens {
-        [] => draft.push(Item::True)?,
+        [] => draft.push(ConditionItem::True)?,
         [Token::When, rest @ ..] => match condition(alloc, &mut draft, rest)? {
             Some([]) => {}
             _ => return Ok(None),
@@ -98,7 +98,7 @@ fn read_when(alloc: Global, tokens: &[Token]) -> Result<Option<Draft>, AllocErro
 // Reads values that are to be looked at.
 fn read_looks(
     alloc: Global,
-    named: Named,
+    named: NamedThing,
     tokens: &[Token],
 ) -> Result<Option<Statement>, AllocError>
     ensures { IfOk result (λ r. r ≡ looks_at named tokens.now) }
@@ -148,7 +148,7 @@ fn read_timed<'a>(
 fn read_rule(
     alloc: Global,
     kind: RuleKind,
-    named: Named,
+    named: NamedThing,
     tokens: &[Token],
 ) -> Result<Option<Statement>, AllocError>
     ensures { IfOk result (λ r. r ≡ rule_at kind named tokens.now) }
@@ -160,7 +160,7 @@ fn read_rule(
         return Ok(None);
     };
     match read_when(alloc, rest)? {
-        Some(when) => Ok(Some(Statement::Rule(Said {
+        Some(when) => Ok(Some(Statement::Rule(RuleLine {
             kind,
             named,
             ways,

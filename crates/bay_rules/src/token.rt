@@ -30,7 +30,7 @@ pub enum Thing {
 
 /// What a name stands for: a switch, an input or a measure, or a switch and one of these.
 #[derive(Clone, Copy)]
-pub struct Named {
+pub struct NamedThing {
     pub switch: Option<usize>,
     pub thing: Option<Thing>,
 }
@@ -61,5 +61,5 @@ pub enum Token {
     Value(Value),
     /// A time in milliseconds, or `None` for one that no timer has.
     Time(Option<u32>),
-    Name(Named),
+    Name(NamedThing),
 }

@@ -11,7 +11,7 @@ ghost use Rattle.bay_rules.specs.Meaning as meaning;
 use crate::numbers::{number, time};
 use crate::pieces::{Cut, cut_piece};
 use crate::rule::{Relation, RuleKind};
-use crate::token::{Link, Named, Thing, Token, Value};
+use crate::token::{Link, NamedThing, Thing, Token, Value};
 use bay_base::names::same_letters;
 use bay_config::bay::{Bay, Point, Source, Switch};
 use bay_tree::leaf::Dbpos;
@@ -129,10 +129,10 @@ fn thing_named(points: &[Point], name: &[u8]) -> Option<Thing>
 }
 
 // Returns what a name stands for.
-fn named(bay: &Bay, name: &[u8]) -> Named
+fn named(bay: &Bay, name: &[u8]) -> NamedThing
     ensures { result ≡ named_in bay.now name.now }
 {
-    Named {
+    NamedThing {
         switch: switch_named(bay.switches.as_slice(), name),
         thing: thing_named(bay.points.as_slice(), name),
     }

@@ -9,7 +9,7 @@ ghost use Rattle.bay_serve.specs.Turns as spec;
 use bay_device::device::Device;
 use bay_device::event::{ASSOCIATIONS, Event, Step};
 use bay_device::fault::StepFault;
-use bay_lines::kept::Kept;
+use bay_lines::kept::BoundedBuffer;
 use std::alloc::{AllocError, AllocFailed, Global};
 use std::marker::Model;
 
@@ -17,7 +17,7 @@ use std::marker::Model;
 const ROOM: usize = 262_144;
 
 // What is still to be sent to one client.
-type Queue = Kept<ROOM>;
+type Queue = BoundedBuffer<ROOM>;
 
 // The parts of a server.
 #[derive(Drop)]

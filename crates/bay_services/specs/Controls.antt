@@ -15,7 +15,7 @@ use Rattle.bay_control.specs.Causes as cause
 use Rattle.bay_control.specs.declared.cause.AddCause.{AddCause}
 use Rattle.bay_control.specs.declared.cause.AddCause.TheVariants.{TimeLimitOver}
 use Rattle.bay_control.specs.declared.request.Ask.{Ask}
-use Rattle.bay_control.specs.declared.request.Origin as control
+use Rattle.bay_control.specs.declared.request.Originator as control
 use Rattle.bay_control.specs.declared.request.View.{View}
 use Rattle.bay_mms.specs.Data.{Datum, structure, text, integer, unsigned, no_data, datum}
 use Rattle.bay_mms.specs.Controls.{Control, Operate, Origin, origin_datum, operate_datum}
@@ -51,7 +51,7 @@ operation_of true = Close
 operation_of false = Open
 
 -- who asks, by what was written
-abbrev pub origin_of : Origin → control.Origin
+abbrev pub origin_of : Origin → control.Originator
 origin_of o = record { cat = o.or_cat; ident = o.or_ident }
 
 -- what is asked for by what was written

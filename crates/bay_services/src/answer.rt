@@ -2,7 +2,7 @@
 use crate::target::ControlPart;
 use bay_ber::outgoing::Outgoing;
 use bay_control::cause::AddCause;
-use bay_control::request::Origin;
+use bay_control::request::Originator;
 use bay_nodes::switch::Operation;
 
 /// A command to operate a switch.
@@ -18,7 +18,7 @@ pub struct Command {
 pub struct Asked {
     /// What the switch is told to do (ctlVal).
     pub operation: Operation,
-    pub origin: Origin,
+    pub origin: Originator,
     /// The number of the control (ctlNum).
     pub ctl_num: u8,
 }

@@ -25,8 +25,8 @@ use bay_base::text::Text;
 use bay_ber::outgoing::Outgoing;
 use bay_control::cause::AddCause;
 use bay_control::controls::Controls;
-use bay_control::request::{Ask, Identity, Origin};
-use bay_mms::control::{Cancel, Operate, Origin as Originator, cancel_of, operate_of};
+use bay_control::request::{Ask, Identity, Originator};
+use bay_mms::control::{Cancel, Operate, Origin, cancel_of, operate_of};
 use bay_mms::data::Data;
 use bay_mms::fault::DataAccessError;
 use bay_mms::report::{
@@ -43,7 +43,7 @@ const DENIED: DataAccessError = DataAccessError::ObjectAccessDenied;
 
 // A part of a switch's control, with the row that names it.
 #[derive(Clone, Copy)]
-struct Part {
+struct SwitchRow {
     /// The index of the switch in the bay file, from 0.
     switch: usize,
     row: Handle,
@@ -74,11 +74,11 @@ fn operation_of(ctl_val: bool) -> Operation
 }
 
 // Who asks.
-fn origin_of(origin: &Originator<'_>) -> Origin
+fn origin_of(origin: &Origin<'_>) -> Originator
     requires { length origin.now.or_ident.now ≤ 64 }
     ensures { result ≡ spec_controls.origin_of (originating origin.now) }
 {
-    Origin {
+    Originator {
         cat: origin.or_cat,
         ident: Identity::new(origin.or_ident),
     }
@@ -148,7 +148,7 @@ impl Invocation<'_> {
     // Adds the report that a control is refused.
     fn report_refusal(
         &self,
-        part: Part,
+        part: SwitchRow,
         control: &Cancel<'_>,
         why: AddCause,
         reports: &mut Vec<Outgoing>,
@@ -182,7 +182,7 @@ impl Invocation<'_> {
     // Records that a control is refused.
     fn refuse(
         &self,
-        part: Part,
+        part: SwitchRow,
         control: &Cancel<'_>,
         why: AddCause,
         written: &mut Written,
@@ -205,7 +205,7 @@ impl Invocation<'_> {
     // Records a decision, and its result in the response.
     fn put_decision(
         &self,
-        part: Part,
+        part: SwitchRow,
         written_to: ControlPart,
         control: &Cancel<'_>,
         answer: Result<(), AddCause>,
@@ -237,7 +237,7 @@ impl Invocation<'_> {
     // Does a select with value that was written.
     fn write_select_with(
         &self,
-        part: Part,
+        part: SwitchRow,
         given: &Data<'_>,
         controls: &mut Controls,
         written: &mut Written,
@@ -266,7 +266,7 @@ impl Invocation<'_> {
     // Does a cancel that was written.
     fn write_cancel(
         &self,
-        part: Part,
+        part: SwitchRow,
         given: &Data<'_>,
         controls: &mut Controls,
         written: &mut Written,
@@ -380,7 +380,7 @@ impl Invocation<'_> {
             self.client.now,
         );
         let to = ControlPart::Operate;
-        let part = Part { switch, row };
+        let part = SwitchRow { switch, row };
         self.put_decision(part, to, &operate.control, answer, written)?;
         self.accept(switch, row, &operate, answer, written)
     }
@@ -403,7 +403,7 @@ impl Invocation<'_> {
             Some(target) => target,
             None => return written.response.failure(DENIED),
         };
-        let part = Part {
+        let part = SwitchRow {
             switch: target.switch,
             row,
         };

@@ -9,7 +9,7 @@ ghost use Rattle.bay_serving.specs.LogLines as spec;
 use bay_base::listing::Listing;
 use bay_control::cause::AddCause;
 use bay_device::device::Device;
-use bay_io::calls::{Part, Sink};
+use bay_io::calls::{LinePart, Sink};
 use bay_io::writer::WatchedWriter;
 use bay_lines::shown::Shown;
 use bay_nodes::switch::Operation;
@@ -98,19 +98,19 @@ fn log_written<'a, W: Sink>(
         (written_line moment id.now ident.now decision.now asked.now) writer.new }
 {
     writer.log(&[
-        Part::Number(moment),
-        Part::Text(b" association "),
-        Part::Number(u64::from(decision.association)),
-        Part::Text(service_words(decision.part)),
-        Part::Text(id),
-        Part::Text(position_words(asked.operation)),
-        Part::Text(sign(asked.origin.cat)),
-        Part::Number(u64::from(asked.origin.cat.unsigned_abs())),
-        Part::Text(b" orIdent="),
-        Part::Text(ident),
-        Part::Text(b" ctlNum="),
-        Part::Number(u64::from(asked.ctl_num)),
-        Part::Text(verdict_words(decision.answer)),
+        LinePart::Number(moment),
+        LinePart::Text(b" association "),
+        LinePart::Number(u64::from(decision.association)),
+        LinePart::Text(service_words(decision.part)),
+        LinePart::Text(id),
+        LinePart::Text(position_words(asked.operation)),
+        LinePart::Text(sign(asked.origin.cat)),
+        LinePart::Number(u64::from(asked.origin.cat.unsigned_abs())),
+        LinePart::Text(b" orIdent="),
+        LinePart::Text(ident),
+        LinePart::Text(b" ctlNum="),
+        LinePart::Number(u64::from(asked.ctl_num)),
+        LinePart::Text(verdict_words(decision.answer)),
     ]);
 }
 
@@ -120,12 +120,12 @@ fn log_selected<W: Sink>(writer: &mut WatchedWriter<W>, moment: u64, id: &[u8], 
         writer.new }
 {
     writer.log(&[
-        Part::Number(moment),
-        Part::Text(b" association "),
-        Part::Number(u64::from(decision.association)),
-        Part::Text(service_words(decision.part)),
-        Part::Text(id),
-        Part::Text(verdict_words(decision.answer)),
+        LinePart::Number(moment),
+        LinePart::Text(b" association "),
+        LinePart::Number(u64::from(decision.association)),
+        LinePart::Text(service_words(decision.part)),
+        LinePart::Text(id),
+        LinePart::Text(verdict_words(decision.answer)),
     ]);
 }
 

@@ -10,7 +10,7 @@ ghost use Rattle.bay_serve.specs.declared.fault.ServeFault.TheVariants.{BadLine}
 use crate::control_lines::log_controls;
 use crate::host::BindFault;
 use bay_device::device::Device;
-use bay_io::calls::{Part, Sink};
+use bay_io::calls::{LinePart, Sink};
 use bay_io::writer::WatchedWriter;
 use bay_lines::shown::Shown;
 use bay_port::news::{News, Parting};
@@ -23,11 +23,11 @@ pub fn log_unbound<W: Sink>(writer: &mut WatchedWriter<W>, port: u16, fault: Bin
     ensures { Logs W.contents W.does writer.old (unbound_log port fault) writer.new }
 {
     writer.log(&[
-        Part::Text(b"bayctl: fault 121: port "),
-        Part::Number(u64::from(port)),
-        Part::Text(b": "),
-        Part::Text(fault.reason()),
-        Part::Text(b"\n"),
+        LinePart::Text(b"bayctl: fault 121: port "),
+        LinePart::Number(u64::from(port)),
+        LinePart::Text(b": "),
+        LinePart::Text(fault.reason()),
+        LinePart::Text(b"\n"),
     ]);
 }
 
@@ -36,12 +36,12 @@ fn log_both_ports<W: Sink>(writer: &mut WatchedWriter<W>, moment: u64, port: u16
     ensures { Logs W.contents W.does writer.old (ports_log moment port (Some process)) writer.new }
 {
     writer.log(&[
-        Part::Number(moment),
-        Part::Text(b" clients on 127.0.0.1:"),
-        Part::Number(u64::from(port)),
-        Part::Text(b", process on 127.0.0.1:"),
-        Part::Number(u64::from(process)),
-        Part::Text(b"\n"),
+        LinePart::Number(moment),
+        LinePart::Text(b" clients on 127.0.0.1:"),
+        LinePart::Number(u64::from(port)),
+        LinePart::Text(b", process on 127.0.0.1:"),
+        LinePart::Number(u64::from(process)),
+        LinePart::Text(b"\n"),
     ]);
 }
 
@@ -57,10 +57,10 @@ pub fn log_ports<W: Sink>(
     match process {
         Some(process) => log_both_ports(writer, moment, port, process),
         None => writer.log(&[
-            Part::Number(moment),
-            Part::Text(b" clients on 127.0.0.1:"),
-            Part::Number(u64::from(port)),
-            Part::Text(b"\n"),
+            LinePart::Number(moment),
+            LinePart::Text(b" clients on 127.0.0.1:"),
+            LinePart::Number(u64::from(port)),
+            LinePart::Text(b"\n"),
         ]),
     }
 }
@@ -103,20 +103,20 @@ fn log_open<W: Sink>(writer: &mut WatchedWriter<W>, moment: u64, opened: (u16, S
     let (association, from) = opened;
     let octets = from.ip().octets();
     writer.log(&[
-        Part::Number(moment),
-        Part::Text(b" association "),
-        Part::Number(u64::from(association)),
-        Part::Text(b" open from "),
-        Part::Number(u64::from(octets[0])),
-        Part::Text(b"."),
-        Part::Number(u64::from(octets[1])),
-        Part::Text(b"."),
-        Part::Number(u64::from(octets[2])),
-        Part::Text(b"."),
-        Part::Number(u64::from(octets[3])),
-        Part::Text(b":"),
-        Part::Number(u64::from(from.port())),
-        Part::Text(b"\n"),
+        LinePart::Number(moment),
+        LinePart::Text(b" association "),
+        LinePart::Number(u64::from(association)),
+        LinePart::Text(b" open from "),
+        LinePart::Number(u64::from(octets[0])),
+        LinePart::Text(b"."),
+        LinePart::Number(u64::from(octets[1])),
+        LinePart::Text(b"."),
+        LinePart::Number(u64::from(octets[2])),
+        LinePart::Text(b"."),
+        LinePart::Number(u64::from(octets[3])),
+        LinePart::Text(b":"),
+        LinePart::Number(u64::from(from.port())),
+        LinePart::Text(b"\n"),
     ]);
 }
 
@@ -139,12 +139,12 @@ fn log_refusal<W: Sink>(writer: &mut WatchedWriter<W>, moment: u64, code: u8, sh
     ensures { Logs W.contents W.does writer.old (refused_line moment code shown.now) writer.new }
 {
     writer.log(&[
-        Part::Number(moment),
-        Part::Text(b" refused "),
-        Part::Number(u64::from(code)),
-        Part::Text(b": "),
-        Part::Text(shown.as_slice()),
-        Part::Text(b"\n"),
+        LinePart::Number(moment),
+        LinePart::Text(b" refused "),
+        LinePart::Number(u64::from(code)),
+        LinePart::Text(b": "),
+        LinePart::Text(shown.as_slice()),
+        LinePart::Text(b"\n"),
     ]);
 }
 
@@ -170,14 +170,14 @@ fn log_closed<W: Sink>(writer: &mut WatchedWriter<W>, moment: u64, closed: (u16,
 {
     let (association, closing) = closed;
     writer.log(&[
-        Part::Number(moment),
-        Part::Text(b" association "),
-        Part::Number(u64::from(association)),
-        Part::Text(b" closed "),
-        Part::Number(u64::from(closing.code())),
-        Part::Text(b": "),
-        Part::Text(closing_words(closing)),
-        Part::Text(b"\n"),
+        LinePart::Number(moment),
+        LinePart::Text(b" association "),
+        LinePart::Number(u64::from(association)),
+        LinePart::Text(b" closed "),
+        LinePart::Number(u64::from(closing.code())),
+        LinePart::Text(b": "),
+        LinePart::Text(closing_words(closing)),
+        LinePart::Text(b"\n"),
     ]);
 }
 
@@ -196,10 +196,10 @@ fn log_memory<W: Sink>(writer: &mut WatchedWriter<W>, moment: u64, association: 
     ensures { Logs W.contents W.does writer.old (memory_line moment association) writer.new }
 {
     writer.log(&[
-        Part::Number(moment),
-        Part::Text(b" association "),
-        Part::Number(u64::from(association)),
-        Part::Text(b" closed memory\n"),
+        LinePart::Number(moment),
+        LinePart::Text(b" association "),
+        LinePart::Number(u64::from(association)),
+        LinePart::Text(b" closed memory\n"),
     ]);
 }
 
@@ -236,11 +236,11 @@ fn log_bad_line<W: Sink>(writer: &mut WatchedWriter<W>, number: usize, shown: &S
     ensures { Logs W.contents W.does writer.old (unserved_log BadLine number shown.now) writer.new }
 {
     writer.log(&[
-        Part::Text(b"bayctl: fault 120 line "),
-        Part::Number(number as u64),
-        Part::Text(b": "),
-        Part::Text(shown.as_slice()),
-        Part::Text(b"\n"),
+        LinePart::Text(b"bayctl: fault 120 line "),
+        LinePart::Number(number as u64),
+        LinePart::Text(b": "),
+        LinePart::Text(shown.as_slice()),
+        LinePart::Text(b"\n"),
     ]);
 }
 
@@ -255,7 +255,7 @@ pub fn log_unserved<W: Sink>(
 {
     match fault {
         ServeFault::BadLine => log_bad_line(writer, number, shown),
-        ServeFault::MomentTooLarge => writer.log(&[Part::Text(
+        ServeFault::MomentTooLarge => writer.log(&[LinePart::Text(
             b"bayctl: fault 114: the clock is past the last moment\n",
         )]),
     }
@@ -265,7 +265,10 @@ pub fn log_unserved<W: Sink>(
 pub fn log_used_up<W: Sink>(writer: &mut WatchedWriter<W>, moment: u64)
     ensures { Logs W.contents W.does writer.old (used_up_log moment) writer.new }
 {
-    writer.log(&[Part::Number(moment), Part::Text(b" all turns are served\n")]);
+    writer.log(&[
+        LinePart::Number(moment),
+        LinePart::Text(b" all turns are served\n"),
+    ]);
 }
 
 // Returns why the connection of the process was closed, in words.
@@ -285,12 +288,12 @@ fn log_parting<W: Sink>(writer: &mut WatchedWriter<W>, moment: u64, why: &Partin
     ensures { Logs W.contents W.does writer.old (news_log moment (Closed why.now)) writer.new }
 {
     writer.log(&[
-        Part::Number(moment),
-        Part::Text(b" process closed "),
-        Part::Number(u64::from(why.code())),
-        Part::Text(b": "),
-        Part::Text(parting_words(why)),
-        Part::Text(b"\n"),
+        LinePart::Number(moment),
+        LinePart::Text(b" process closed "),
+        LinePart::Number(u64::from(why.code())),
+        LinePart::Text(b": "),
+        LinePart::Text(parting_words(why)),
+        LinePart::Text(b"\n"),
     ]);
 }
 
@@ -299,7 +302,7 @@ pub fn log_news<W: Sink>(writer: &mut WatchedWriter<W>, moment: u64, news: &News
     ensures { Logs W.contents W.does writer.old (news_log moment news.now) writer.new }
 {
     match news {
-        News::Opened => writer.log(&[Part::Number(moment), Part::Text(b" process open\n")]),
+        News::Opened => writer.log(&[LinePart::Number(moment), LinePart::Text(b" process open\n")]),
         News::Closed(why) => log_parting(writer, moment, why),
     }
 }

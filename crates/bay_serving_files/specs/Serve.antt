@@ -32,7 +32,7 @@ use Rattle.bay_serving_laws.specs.Service.{DoneTurn, IsService, turns_in}
 use Rattle.bay_serving_laws.specs.Texts.{ArePrinted}
 use Rattle.bay_serving_files.specs.declared.serve.Bound.{Bound}
 use Rattle.bay_serving_files.specs.declared.serve.Loaded.{Loaded}
-use Rattle.bay_serving_files.specs.declared.serve.Named.{Named}
+use Rattle.bay_serving_files.specs.declared.serve.NamedFiles.{NamedFiles}
 use Rattle.bay_serving_files.specs.declared.serve.Numbers.{Numbers}
 use Rattle.bay_serving_files.specs.declared.serve.Unserved.{Unserved}
 use Rattle.bay_serving_files.specs.declared.serve.Unserved.TheVariants as unserved
@@ -45,7 +45,7 @@ pub record FileNames : Type 0 where
   pub trace : Option (List ℕ)
 
 -- the same, as the code has them
-abbrev pub names_of : Named → FileNames
+abbrev pub names_of : NamedFiles → FileNames
 names_of named = record {
   bay = named.bay.now;
   form = named.form;

@@ -40,7 +40,7 @@ pub struct Numbers {
 /// The names of the files that are served: the bay, a program or an image, and the trace of the
 /// process.
 #[derive(Clone, Copy)]
-pub struct Named<'a> {
+pub struct NamedFiles<'a> {
     pub bay: &'a str,
     pub form: Form,
     pub program: &'a str,
@@ -130,7 +130,7 @@ fn tell_unserved<W: Sink>(
 // Reads the bay, then the program or the image, then the trace, if it is named, and loads them.
 fn load_files<'a, F: FileSystem>(
     alloc: Global,
-    named: Named<'a>,
+    named: NamedFiles<'a>,
     files: &F,
 ) -> Result<Loaded, Unserved<'a>>
     ensures ok { IfOk result
@@ -280,7 +280,7 @@ fn serve_loaded<L: Link + Drop, H: Host<L>, W: Sink>(
 /// that left the switch's interlocking value TRUE, since which the process has not changed.
 pub fn serve<F: FileSystem, L: Link + Drop, H: Host<L>, W: Sink>(
     alloc: Global,
-    named: Named<'_>,
+    named: NamedFiles<'_>,
     files: &F,
     host: &mut H,
     numbers: Numbers,

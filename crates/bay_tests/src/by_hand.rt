@@ -10,7 +10,8 @@ use bay_config::bay::{Point, Source, SwitchPoint};
 use il_check::check::check;
 use il_check::fault::CheckFault;
 use il_text::program::{
-    Declaration, DeclaredType, Instruction, Item, Literal, Operand, Operator, Program, Scope,
+    Declaration, DeclaredType, Instruction, Item, Literal, Operand, Operator, Program,
+    VariableScope,
 };
 use std::alloc::{AllocError, Global};
 use std::test::Fail;
@@ -122,7 +123,7 @@ const LONG: Literal = Literal::Time(2_147_483_648);
 fn beginning<'a>(alloc: Global, initial: Literal) -> Result<Program<'a>, AllocError> {
     let declaration = Declaration {
         line: 1,
-        scope: Scope::Local,
+        scope: VariableScope::Local,
         name: "t",
         kind: DeclaredType::Elementary(ElementaryType::Time),
         initial: Some(initial),
@@ -160,7 +161,7 @@ fn fault_of_name(alloc: Global, name: &str) -> Result<Option<CheckFault>, Fail> 
     let points = vec![in alloc; point]?;
     let declaration = Declaration {
         line: 1,
-        scope: Scope::External,
+        scope: VariableScope::External,
         name,
         kind: DeclaredType::Elementary(ElementaryType::Bool),
         initial: None,

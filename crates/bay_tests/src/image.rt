@@ -1,6 +1,6 @@
 // Values and instructions, with rows whose values come from the format and the standard.
 use bay_base::types::ElementaryType;
-use il_image::arithmetic::{Comparison, Operation, Width, compare, compute, wrap};
+use il_image::arithmetic::{ArithmeticOperation, Comparison, Width, compare, compute, wrap};
 use il_image::instr::Instr;
 use il_image::kind::{CellKind, is_within, join};
 use il_image::opcode::{Connective, SlotUse, TimerUse, When, Widening};
@@ -30,11 +30,26 @@ const INSTRS: [(&[u8], Instr); 37] = [
     (&[0x0C], Instr::Combine(Connective::And)),
     (&[0x0D], Instr::Combine(Connective::Or)),
     (&[0x0E], Instr::Combine(Connective::Xor)),
-    (&[0x0F, 0x02], Instr::Compute(Operation::Add, Width::Int)),
-    (&[0x10, 0x03], Instr::Compute(Operation::Sub, Width::Dint)),
-    (&[0x11, 0x05], Instr::Compute(Operation::Mul, Width::Lint)),
-    (&[0x12, 0x02], Instr::Compute(Operation::Div, Width::Int)),
-    (&[0x13, 0x03], Instr::Compute(Operation::Mod, Width::Dint)),
+    (
+        &[0x0F, 0x02],
+        Instr::Compute(ArithmeticOperation::Add, Width::Int),
+    ),
+    (
+        &[0x10, 0x03],
+        Instr::Compute(ArithmeticOperation::Sub, Width::Dint),
+    ),
+    (
+        &[0x11, 0x05],
+        Instr::Compute(ArithmeticOperation::Mul, Width::Lint),
+    ),
+    (
+        &[0x12, 0x02],
+        Instr::Compute(ArithmeticOperation::Div, Width::Int),
+    ),
+    (
+        &[0x13, 0x03],
+        Instr::Compute(ArithmeticOperation::Mod, Width::Dint),
+    ),
     (&[0x14], Instr::Compare(Comparison::Gt)),
     (&[0x15], Instr::Compare(Comparison::Ge)),
     (&[0x16], Instr::Compare(Comparison::Eq)),
@@ -70,27 +85,33 @@ const NO_INSTRS: [&[u8]; 9] = [
     &[0x23, 0, 0, 0, 0, 0, 0, 0],
 ];
 
-const RESULTS: [(Operation, Width, i64, i64, i64); 14] = [
-    (Operation::Add, Width::Int, 32_767, 1, -32_768),
+const RESULTS: [(ArithmeticOperation, Width, i64, i64, i64); 14] = [
+    (ArithmeticOperation::Add, Width::Int, 32_767, 1, -32_768),
     (
-        Operation::Add,
+        ArithmeticOperation::Add,
         Width::Dint,
         2_147_483_647,
         1,
         -2_147_483_648,
     ),
-    (Operation::Add, Width::Lint, i64::MAX, 1, i64::MIN),
-    (Operation::Sub, Width::Int, -32_768, 1, 32_767),
-    (Operation::Mul, Width::Int, 300, 300, 24_464),
-    (Operation::Mul, Width::Dint, 65_536, 65_536, 0),
-    (Operation::Div, Width::Int, -32_768, -1, -32_768),
-    (Operation::Div, Width::Lint, i64::MIN, -1, i64::MIN),
-    (Operation::Div, Width::Int, -7, 2, -3),
-    (Operation::Div, Width::Dint, 7, -2, -3),
-    (Operation::Mod, Width::Int, -7, 2, -1),
-    (Operation::Mod, Width::Dint, 7, -2, 1),
-    (Operation::Mod, Width::Lint, i64::MIN, -1, 0),
-    (Operation::Sub, Width::Lint, i64::MIN, 1, i64::MAX),
+    (ArithmeticOperation::Add, Width::Lint, i64::MAX, 1, i64::MIN),
+    (ArithmeticOperation::Sub, Width::Int, -32_768, 1, 32_767),
+    (ArithmeticOperation::Mul, Width::Int, 300, 300, 24_464),
+    (ArithmeticOperation::Mul, Width::Dint, 65_536, 65_536, 0),
+    (ArithmeticOperation::Div, Width::Int, -32_768, -1, -32_768),
+    (
+        ArithmeticOperation::Div,
+        Width::Lint,
+        i64::MIN,
+        -1,
+        i64::MIN,
+    ),
+    (ArithmeticOperation::Div, Width::Int, -7, 2, -3),
+    (ArithmeticOperation::Div, Width::Dint, 7, -2, -3),
+    (ArithmeticOperation::Mod, Width::Int, -7, 2, -1),
+    (ArithmeticOperation::Mod, Width::Dint, 7, -2, 1),
+    (ArithmeticOperation::Mod, Width::Lint, i64::MIN, -1, 0),
+    (ArithmeticOperation::Sub, Width::Lint, i64::MIN, 1, i64::MAX),
 ];
 
 // Whether an instruction is encoded as these octets, and they decode to it between a DROP and a

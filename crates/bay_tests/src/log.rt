@@ -3,7 +3,7 @@ use crate::memory_link::MemoryLink;
 use crate::process::{WORDS, host_of};
 use crate::serve::{ready, served_by};
 use crate::session::{CONNECT, REQUEST, octets_of};
-use bay_io::calls::{Part, Sink};
+use bay_io::calls::{LinePart, Sink};
 use bay_io::writer::WatchedWriter;
 use bay_main::host::{BindFault, Host};
 use bay_serve::link::Link;
@@ -22,13 +22,13 @@ struct Recorder<'a> {
 
 impl Recorder<'_> {
     // Keeps a part of a line.
-    fn keep(&self, part: Part<'_>) -> io::Result<()> {
+    fn keep(&self, part: LinePart<'_>) -> io::Result<()> {
         let Ok(mut logged) = self.logged.try_borrow_mut() else {
             return Err(io::Error::from(ErrorKind::Other));
         };
         match part {
-            Part::Text(text) => logged.extend_from_slice(text)?,
-            Part::Number(number) => {
+            LinePart::Text(text) => logged.extend_from_slice(text)?,
+            LinePart::Number(number) => {
                 let digits = format!(in self.alloc; "{number}")?;
                 logged.extend_from_slice(digits.as_bytes())?;
             }
@@ -46,7 +46,7 @@ impl Sink for Recorder<'_> {
         Ok(())
     }
 
-    fn log_line(&mut self, parts: &[Part<'_>]) {
+    fn log_line(&mut self, parts: &[LinePart<'_>]) {
         for part in parts {
             let _ = self.keep(*part);
         }

@@ -1,5 +1,5 @@
 // Output whose readers take nothing for a while.
-use bay_io::calls::{Part, Sink};
+use bay_io::calls::{LinePart, Sink};
 use bay_output::output::Output;
 use bay_output::queue::Queue;
 use std::cell::{Cell, RefCell};
@@ -72,11 +72,15 @@ fn a_log_that_nobody_reads(rt: HostRuntime) -> Result<(), Fail> {
         },
     );
     let mut output = Output::new(out, err, None);
-    output.log_line(&[Part::Text(b"first "), Part::Number(1), Part::Text(b"\n")]);
-    output.log_line(&[Part::Text(&PIECE)]);
-    output.log_line(&[Part::Text(&PIECE)]);
+    output.log_line(&[
+        LinePart::Text(b"first "),
+        LinePart::Number(1),
+        LinePart::Text(b"\n"),
+    ]);
+    output.log_line(&[LinePart::Text(&PIECE)]);
+    output.log_line(&[LinePart::Text(&PIECE)]);
     is_open.set(true);
-    output.log_line(&[Part::Text(b"last\n")]);
+    output.log_line(&[LinePart::Text(b"last\n")]);
     drop(output);
     let all = taken.into_inner();
     assert!(rt; all.as_slice() == b"first 1\n2 lines of the log were lost\nlast\n".as_slice());

@@ -1,8 +1,8 @@
 -- A task and a job without their places in memory.
 use Rattle.std.specs.Prelude.{string_bytes, option_map, List, ℕ}
 use Rattle.std.specs.Borrow.{Bor}
-use Rattle.bay_words.specs.declared.task.Program.{Program}
-use Rattle.bay_words.specs.declared.task.Program.TheVariants.{Logic, Image}
+use Rattle.bay_words.specs.declared.task.ProgramFile.{ProgramFile}
+use Rattle.bay_words.specs.declared.task.ProgramFile.TheVariants.{Logic, Image}
 use Rattle.bay_words.specs.declared.task.Asked.{Asked}
 use Rattle.bay_words.specs.declared.task.Task.{Task}
 use Rattle.bay_words.specs.declared.task.Task.TheVariants.{Check, Replay, Serve, Compile, Audit}
@@ -10,7 +10,7 @@ use Rattle.bay_words.specs.declared.words.Job.{Job}
 use Rattle.bay_words.specs.Jobs.{JobData}
 
 -- a program and a task, without where their texts lie
-abbrev pub program_view : Program (Bor (List ℕ)) → Program (List ℕ)
+abbrev pub program_view : ProgramFile (Bor (List ℕ)) → ProgramFile (List ℕ)
 program_view (Logic name) = Logic name.now
 program_view (Image name) = Image name.now
 

@@ -10,8 +10,8 @@ use Rattle.clap.specs.declared.builder.ArgAction.TheVariants.{Set, SetTrue}
 use Rattle.clap.specs.declared.builder.value_parser.ValueParser.TheVariants as vp
 use Rattle.bay_words.specs.declared.words.Verb.{Verb}
 use Rattle.bay_words.specs.declared.words.Verb.TheVariants as verb
-use Rattle.bay_words.specs.declared.task.Program.{Program}
-use Rattle.bay_words.specs.declared.task.Program.TheVariants.{Logic, Image}
+use Rattle.bay_words.specs.declared.task.ProgramFile.{ProgramFile}
+use Rattle.bay_words.specs.declared.task.ProgramFile.TheVariants.{Logic, Image}
 use Rattle.bay_words.specs.declared.task.Asked.{Asked}
 use Rattle.bay_words.specs.declared.task.Task.{Task}
 use Rattle.bay_words.specs.declared.task.Task.TheVariants.{Check, Replay, Serve, Compile, Audit}
@@ -110,14 +110,14 @@ abbrev pub turns_in : List Row → Option ℕ
 turns_in rows = option_and_then (number_of 0 4294967295) (first_of (codes "turns") rows)
 
 -- the one or the other, and not both
-abbrev pub either : Option Text → Option Text → Option (Program Text)
+abbrev pub either : Option Text → Option Text → Option (ProgramFile Text)
 either (Some logic) None = Some (Logic logic)
 either (Some logic) (Some image) = None
 either None (Some image) = Some (Image image)
 either None None = None
 
 -- the program in Instruction List or the compiled one
-abbrev pub program_in : List Row → Option (Program Text)
+abbrev pub program_in : List Row → Option (ProgramFile Text)
 program_in rows = either (first_of (codes "logic") rows) (first_of (codes "image") rows)
 
 -- what `check` asks for: its bay and its program
@@ -137,7 +137,7 @@ tells_of process None = Some false
 tells_of process (Some word) =
     if is_some process && bytes_eq word (codes "releases") then Some true else None
 
-abbrev pub serve_task : Text → Program Text → ℕ → ℕ → Option Text → Option ℕ → Bool
+abbrev pub serve_task : Text → ProgramFile Text → ℕ → ℕ → Option Text → Option ℕ → Bool
     → Option (Task Text)
 serve_task bay program port turns trace process tells =
     if is_apart port process then Some (Serve bay program port turns trace process tells) else None

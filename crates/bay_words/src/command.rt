@@ -107,7 +107,13 @@ fn with_program<'a>(alloc: Global, command: Command<'a>) -> Result<Command<'a>, 
         (λ c. (fields_of c).has_globals ≡ (fields_of command.entry).has_globals) }
 {
     let command = command.after_help("Exactly one of --logic and --image is wanted.");
-    let command = with_text(alloc, command, "logic", "F", "Program in Instruction List")?;
+    let command = with_text(
+        alloc,
+        command,
+        "logic",
+        "F",
+        "ProgramFile in Instruction List",
+    )?;
     let image = "Compiled program, in place of --logic";
     let command = with_text(alloc, command, "image", "F", image)?;
     Ok(command)
@@ -156,7 +162,7 @@ fn compile_command<'a>(alloc: Global) -> Result<Command<'a>, AllocError>
 {
     let command = Command::new(alloc, "compile").about("Compile a program for a bay");
     let command = with_needed_file(alloc, command, "bay", "Bay file")?;
-    let command = with_needed_file(alloc, command, "logic", "Program in Instruction List")?;
+    let command = with_needed_file(alloc, command, "logic", "ProgramFile in Instruction List")?;
     let out = "File for the compiled program";
     let command = with_needed_file(alloc, command, "out", out)?;
     let command = with_log(alloc, command)?;

@@ -2,7 +2,7 @@
 
 /// A program in Instruction List, or a compiled one.
 #[derive(Clone, Copy, Debug, PartialEq, Eq)]
-pub enum Program<T> {
+pub enum ProgramFile<T> {
     Logic(T),
     Image(T),
 }
@@ -21,7 +21,7 @@ pub enum Task<T> {
     /// Loads a bay with a program and reports the result.
     Check {
         bay: T,
-        program: Program<T>,
+        program: ProgramFile<T>,
     },
     /// Replays a scenario.
     Replay,
@@ -30,7 +30,7 @@ pub enum Task<T> {
     /// on a port of its own, if it has one, which may be told of releases.
     Serve {
         bay: T,
-        program: Program<T>,
+        program: ProgramFile<T>,
         port: u16,
         turns: u32,
         trace: Option<T>,
@@ -40,7 +40,7 @@ pub enum Task<T> {
     /// Answers a text of rules for a bay with a program.
     Audit {
         bay: T,
-        program: Program<T>,
+        program: ProgramFile<T>,
         rules: T,
     },
     /// Compiles a program to a file.

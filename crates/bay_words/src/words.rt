@@ -7,7 +7,7 @@ ghost use Rattle.bay_words.specs.Jobs as spec;
 ghost use Rattle.bay_words.specs.JobView.{asked_view, job_view, program_view, task_view};
 
 use crate::command::job_command;
-use crate::task::{Asked, Program, Task};
+use crate::task::{Asked, ProgramFile, Task};
 use clap::error::ErrorKind;
 use clap::{ArgMatches, Error};
 use std::alloc::{AllocError, Global};
@@ -113,12 +113,12 @@ fn turns_in(found: &ArgMatches<'_>) -> Option<u32>
 }
 
 // Returns the program or the image that was named, if exactly one of the two was.
-fn program_from<'a>(found: &ArgMatches<'a>) -> Option<Program<&'a str>>
+fn program_from<'a>(found: &ArgMatches<'a>) -> Option<ProgramFile<&'a str>>
     ensures { option_map program_view result ≡ program_in (rows_of (found_of found.now)) }
 {
     match (value_of(found, "logic"), value_of(found, "image")) {
-        (Some(logic), None) => Some(Program::Logic(logic)),
-        (None, Some(image)) => Some(Program::Image(image)),
+        (Some(logic), None) => Some(ProgramFile::Logic(logic)),
+        (None, Some(image)) => Some(ProgramFile::Image(image)),
         (Some(_), Some(_)) => None,
         (None, None) => None,
     }

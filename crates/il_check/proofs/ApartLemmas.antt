@@ -4,15 +4,15 @@ use Rattle.std.proofs.lemmas.Bool.{or_parts, or_from, false_from_ne_true}
 use Rattle.std.specs.List.{list_any, cons_option}
 use Rattle.std.specs.Str.{bytes_eq}
 use Rattle.std.proofs.lemmas.Slice.Eq.{bytes_eq-Decides}
-use Rattle.bay_base.specs.Names.{upper, same_name}
+use Rattle.bay_base.specs.NameTable.{upper, same_name}
 use Rattle.bay_base.proofs.NameLemmas.{upper-upper}
 use Rattle.bay_base.specs.declared.types.ElementaryType.{ElementaryType}
 use Rattle.bay_base.specs.declared.point.Point.{Point}
 use Rattle.il_text.specs.Listing as text
 use Rattle.il_text.specs.declared.program.DeclaredType.{DeclaredType}
 use Rattle.il_text.specs.declared.program.DeclaredType.TheVariants as type
-use Rattle.il_text.specs.declared.program.Scope.{Scope}
-use Rattle.il_text.specs.declared.program.Scope.TheVariants as scope
+use Rattle.il_text.specs.declared.program.VariableScope.{VariableScope}
+use Rattle.il_text.specs.declared.program.VariableScope.TheVariants as scope
 use Rattle.il_image.specs.declared.value.Value.{Value}
 use Rattle.il_check.specs.Declaring.{meanings_of, looked_up, declarations_faults, declaration_faults, externals_of, variables_of, external_in, external_at, variable_in, variable_at, initial_in, meaning_at, counts_of, point_of}
 use Rattle.il_check.specs.Faults.{fault_if}
@@ -161,7 +161,7 @@ external-at-other x name kind (Some p) es e f =
     or_from (same_name x (upper name)) (list_any (same_name x) (map (λ e. e.name) es)) e f
 
 -- a name is none of those that a declaration adds
-external-other : (x : List ℕ) (points : List Point) (d : text.Declared) (s : Scope)
+external-other : (x : List ℕ) (points : List Point) (d : text.Declared) (s : VariableScope)
     (k : DeclaredType) (es : List External) → same_name x (upper d.name) ≡ false
     → list_any (same_name x) (map (λ e. e.name) es) ≡ false
     → list_any (same_name x) (map (λ e. e.name) (cons_option (external_in points d s k) es))
@@ -180,7 +180,7 @@ variable-at-other x name None vs e f = f
 variable-at-other x name (Some v) vs e f =
     or_from (same_name x (upper name)) (list_any (same_name x) (map (λ v. v.name) vs)) e f
 
-variable-other : (x : List ℕ) (d : text.Declared) (s : Scope) (k : DeclaredType)
+variable-other : (x : List ℕ) (d : text.Declared) (s : VariableScope) (k : DeclaredType)
     (vs : List Variable) → same_name x (upper d.name) ≡ false
     → list_any (same_name x) (map (λ v. v.name) vs) ≡ false
     → list_any (same_name x) (map (λ v. v.name) (cons_option (variable_in d s k) vs)) ≡ false
@@ -222,7 +222,7 @@ variable-step : (name : List ℕ) (v : Option Value) (ns : List (List ℕ)) (vs 
 variable-step name None ns vs e f d = d
 variable-step name (Some v) ns vs e f d = inserted (upper name) ns (map (λ v. v.name) vs) e f d
 
-one-step : (points : List Point) (d : text.Declared) (s : Scope) (k : DeclaredType)
+one-step : (points : List Point) (d : text.Declared) (s : VariableScope) (k : DeclaredType)
     (es : List External) (vs : List Variable)
     → list_any (same_name (upper d.name)) (map (λ e. e.name) es) ≡ false
     → list_any (same_name (upper d.name)) (map (λ v. v.name) vs) ≡ false

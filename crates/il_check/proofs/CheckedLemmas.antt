@@ -3,7 +3,7 @@ use Rattle.std.proofs.Common.{◌≡◌, ℕ, List, [], ◌++◌, map, Option, N
 use Rattle.std.proofs.Math.Path.{fun_ext}
 use Rattle.std.specs.BTreeMap.{get_by_text}
 use Rattle.bay_base.specs.Exact.{unless_refused}
-use Rattle.bay_base.specs.Names.{upper}
+use Rattle.bay_base.specs.NameTable.{upper}
 use Rattle.bay_base.specs.declared.point.Point.{Point}
 use Rattle.il_text.specs.Listing as text
 use Rattle.il_text.specs.Views.{plain_program, declared_of, entry_of}
@@ -13,16 +13,16 @@ use Rattle.il_text.specs.declared.program.Program as program
 use Rattle.il_check.specs.Checking.{faults_of, checked_program, checked_of}
 use Rattle.il_check.specs.Declaring.{names_in, labels_from, looked_up, meanings_of, variables_of, timers_of, declarations_faults}
 use Rattle.il_check.specs.Faults.{first_fault_of, least_fault}
-use Rattle.il_check.specs.Given.{Names}
+use Rattle.il_check.specs.Given.{NameTable}
 use Rattle.il_check.specs.LabelsView.{StandsAs}
 use Rattle.il_check.specs.NamesView.{names_of}
-use Rattle.il_check.specs.Program.{Checked, Item}
+use Rattle.il_check.specs.Program.{Checked, ProgramItem}
 use Rattle.il_check.specs.DeclarationsView.{StandsFor}
 use Rattle.il_check.specs.WellTyped.{Progress, first, no_reach, items_faults, items_left}
 use Rattle.il_check.specs.declared.declare.Declarations.{Declarations}
 use Rattle.il_check.specs.declared.labels.Labels.{Labels}
 use Rattle.il_check.specs.declared.given.Meaning.{Meaning}
-use Rattle.il_check.specs.declared.names.Names as code
+use Rattle.il_check.specs.declared.names.NameTable as code
 use Rattle.il_check.specs.declared.fault.CheckFault.{CheckFault}
 use Rattle.il_check.specs.declared.typed.External.{External}
 use Rattle.il_check.specs.declared.typed.Variable.{Variable}
@@ -33,7 +33,7 @@ use Rattle.il_check.proofs.NotedLemmas.{noted-append, least_fault-none, append-n
 
 -- what is known once all is read
 pub record IsRead (points : List Point) (program : text.PlainProgram) (d : Declarations)
-    (l : Labels) (names : code.Names) (items : List Item) (answer : Option CheckFault)
+    (l : Labels) (names : code.NameTable) (items : List ProgramItem) (answer : Option CheckFault)
     : Type 0 where
   pub stands : StandsFor points program.declarations d
   pub declared : d.found ≡ least_fault (declarations_faults points [] program.declarations)
@@ -46,7 +46,7 @@ pub record IsRead (points : List Point) (program : text.PlainProgram) (d : Decla
       (items_faults (names_of names) program.items (first l.arrivals.items))
 
 module _ (points : List Point) (program : text.PlainProgram) (d : Declarations) (l : Labels)
-    (names : code.Names) (items : List Item) (answer : Option CheckFault)
+    (names : code.NameTable) (items : List ProgramItem) (answer : Option CheckFault)
     (read : IsRead points program d l names items answer) where
   meanings-same : (let f : List ℕ
       → Option Meaning = λ name. get_by_text names.meanings (upper name) in
@@ -65,7 +65,7 @@ module _ (points : List Point) (program : text.PlainProgram) (d : Declarations) 
 
   names-same : names_of names ≡ names_in points program
   names-same =
-      let with_both : (List ℕ → Option Meaning) → (List ℕ → Option ℕ) → Names =
+      let with_both : (List ℕ → Option Meaning) → (List ℕ → Option ℕ) → NameTable =
       λ m n. record { meaning = m; label = n } in
       ap (λ (m : List ℕ → Option Meaning). with_both m
       (λ name. get_by_text names.labels (upper name))) meanings-same
@@ -78,7 +78,7 @@ module _ (points : List Point) (program : text.PlainProgram) (d : Declarations) 
   found-is : answer ≡ least_fault (faults_of points program)
   found-is =
       read.found
-      ∙ ap (λ (n : Names). first_fault_of d.found
+      ∙ ap (λ (n : NameTable). first_fault_of d.found
       (items_faults n program.items (first l.arrivals.items)))
       names-same
       ∙ ap (λ (s : Progress). first_fault_of d.found
@@ -101,7 +101,7 @@ module _ (points : List Point) (program : text.PlainProgram) (d : Declarations) 
       (first (map (λ x. no_reach) (labels_from 0 program.items)))
   items-same none =
       read.items_read none
-      ∙ ap (λ (n : Names). items_left n program.items (first l.arrivals.items)) names-same
+      ∙ ap (λ (n : NameTable). items_left n program.items (first l.arrivals.items)) names-same
       ∙ ap (λ (s : Progress). items_left (names_in points program) program.items s) started
 
   -- no declaration has a fault where none is found
@@ -118,10 +118,10 @@ module _ (points : List Point) (program : text.PlainProgram) (d : Declarations) 
         items = items;
       })
   passed none =
-      let left : List Item =
+      let left : List ProgramItem =
       items_left (names_in points program) program.items
       (first (map (λ x. no_reach) (labels_from 0 program.items))) in
-      let with_all : List External → List Variable → List Timer → List Item → Checked =
+      let with_all : List External → List Variable → List Timer → List ProgramItem → Checked =
       λ es vs ts is. record { externals = es; variables = vs; timers = ts; items = is } in
       ap (λ (o : Option CheckFault). unless_refused o (checked_program points program))
       (sym found-is ∙ none)
@@ -132,7 +132,7 @@ module _ (points : List Point) (program : text.PlainProgram) (d : Declarations) 
       left) (sym read.stands.variables)
       ∙ ap (λ (ts : List Timer). with_all d.externals.items d.variables.items ts left)
       (sym read.stands.timers)
-      ∙ ap (λ (is : List Item). with_all d.externals.items d.variables.items d.timers.items is)
+      ∙ ap (λ (is : List ProgramItem). with_all d.externals.items d.variables.items d.timers.items is)
       (sym (items-same none)))
 
   -- without a fault, the names of the slots differ
@@ -147,7 +147,7 @@ module _ (points : List Point) (program : text.PlainProgram) (d : Declarations) 
       (all-apart points program.declarations (declared-right none)))
 
 pub is_read : (points : List Point) (p : program.Program) (declarations : List Declaration)
-    (first_items items : List source.Item) (d : Declarations) (l : Labels) (left : List Item)
+    (first_items items : List source.Item) (d : Declarations) (l : Labels) (left : List ProgramItem)
     (answer : Option CheckFault)
     → declarations ≡ p.declarations.items → first_items ≡ p.items.items → items ≡ p.items.items
     → StandsFor points (map declared_of declarations) d

@@ -3,7 +3,7 @@ use Rattle.std.proofs.Common.{◌≡◌, ℕ, zero, suc, ◌+◌, pos, true, fal
 use Rattle.std.proofs.lemmas.Option.{same_Some, cond_some}
 use Rattle.std.proofs.lemmas.Bool.{not-false}
 use Rattle.std.specs.List.{cons_option}
-use Rattle.bay_base.specs.Names.{upper}
+use Rattle.bay_base.specs.NameTable.{upper}
 use Rattle.bay_base.specs.Types.{same_type}
 use Rattle.bay_base.specs.declared.types.ElementaryType.{ElementaryType}
 use Rattle.bay_base.specs.declared.types.ElementaryType.TheVariants as elementary
@@ -13,8 +13,8 @@ use Rattle.il_text.specs.declared.program.DeclaredType.{DeclaredType}
 use Rattle.il_text.specs.declared.program.DeclaredType.TheVariants as type
 use Rattle.il_text.specs.declared.program.Literal.{Literal}
 use Rattle.il_text.specs.declared.program.Literal.TheVariants as literal
-use Rattle.il_text.specs.declared.program.Scope.{Scope}
-use Rattle.il_text.specs.declared.program.Scope.TheVariants as scope
+use Rattle.il_text.specs.declared.program.VariableScope.{VariableScope}
+use Rattle.il_text.specs.declared.program.VariableScope.TheVariants as scope
 use Rattle.il_image.specs.Values.{default_value, number_of, type_of}
 use Rattle.il_image.specs.declared.value.Value.{Value}
 use Rattle.il_image.specs.declared.value.Value.TheVariants as value
@@ -107,7 +107,7 @@ module _ (points : List Point) (d : text.Declared)
     more,
   )
 
-  one-declared : (stands : Scope) (kind : DeclaredType) (es : List External) (vs : List Variable)
+  one-declared : (stands : VariableScope) (kind : DeclaredType) (es : List External) (vs : List Variable)
       (ts : List Timer) → is_external stands && is_none (point_of points d.name) ≡ false
       → is_typed stands kind (point_of points d.name) d.initial ≡ true → later es vs ts
       → IsDeclaredAs points d stands kind (cons_option (external_in points d stands kind) es)

@@ -6,7 +6,7 @@ use Rattle.std.proofs.lemmas.List.{length-append}
 use Rattle.std.specs.List.{cons_option, list_all}
 use Rattle.std.specs.Prelude.{◌==◌}
 use Rattle.bay_base.specs.Exact.{unless_refused}
-use Rattle.bay_base.specs.Names.{upper}
+use Rattle.bay_base.specs.NameTable.{upper}
 use Rattle.bay_base.specs.Types.{same_type}
 use Rattle.bay_base.specs.declared.types.ElementaryType.{ElementaryType}
 use Rattle.bay_base.specs.declared.types.ElementaryType.TheVariants as elementary
@@ -26,11 +26,11 @@ use Rattle.il_image.proofs.ValueLemmas.{value_is}
 use Rattle.il_check.specs.Checking.{initial_standing, faults_of, checked_program, checked_of}
 use Rattle.il_check.specs.Declaring.{names_in, declarations_faults}
 use Rattle.il_check.specs.Faults.{least_fault}
-use Rattle.il_check.specs.Given.{Names, given_of, literal_given, variable_given, output_given, place_given, source_given, called_of, arguments_given, argument_given, resolution_of}
+use Rattle.il_check.specs.Given.{NameTable, given_of, literal_given, variable_given, output_given, place_given, source_given, called_of, arguments_given, argument_given, resolution_of}
 use Rattle.il_check.specs.Keeping.{slot_name, timer_name, label_names, IsValueOf, IsOperandOf, IsTargetOf, IsOperationOf, IsArgumentOf, AreArgumentsOf, IsEntryOf, AreEntriesOf, IsItemOf, AreItemsOf, Keeps}
 use Rattle.il_check.specs.Labelling.{IsRight, IsRightEntry, AreRightEntries}
 use Rattle.il_check.specs.OwnPlaces.{MeanOwnPlaces}
-use Rattle.il_check.specs.Program.{Entry, operation, block, Entries, no_entries, Item, transfer, plain, Checked, entry_before}
+use Rattle.il_check.specs.Program.{Entry, operation, block, Entries, no_entries, ProgramItem, transfer, plain, Checked, entry_before}
 use Rattle.il_check.specs.Rules.{operand_in, number_in, load_type, input_type, type_after, works, fits, combines_unset}
 use Rattle.il_check.specs.Typing.{load_operation, load_in, target_slot, store_operation, combine_operation, operation_in, typed_argument, one_argument, two_arguments, arguments_in, call_with, call_in, jump_in, entry_in, or_entry, item_in, block_in}
 use Rattle.il_check.specs.WellTyped.{Progress, type_behind, type_behind_all, items_faults, entry_left, entries_left, items_left, behind}
@@ -77,7 +77,7 @@ with-room : {A : Type 0} (room : ℕ) (x y : A) → 0 < room → cond (room == 0
 with-room zero x y some = absurd (omega arith)
 with-room (suc room) x y some = ap (λ (b : Bool). cond b x y) (no-zero room)
 
-module _ (c : Checked) (names : Names) (items : List text.Entry)
+module _ (c : Checked) (names : NameTable) (items : List text.Entry)
     (own : MeanOwnPlaces names c items) (meant : AreNamed c names) where
   named-slot : (name : List ℕ) (s : Slot) (kind : ElementaryType) (w : Bool)
       → names.meaning name ≡ Some (meaning.Variable s kind w)
@@ -374,8 +374,8 @@ module _ (c : Checked) (names : Names) (items : List text.Entry)
       (typed_argument (argument_given names b)) xs refl refl e
 
   -- what is left of an instruction
-  record KeptItem (e : text.Entry) (o : Option Item) : Type 0 where
-    what : Item
+  record KeptItem (e : text.Entry) (o : Option ProgramItem) : Type 0 where
+    what : ProgramItem
     is : o ≡ Some what
     keeps : IsItemOf c (label_names items) e what
 
@@ -444,11 +444,11 @@ module _ (c : Checked) (names : Names) (items : List text.Entry)
 
   -- ---- items
 
-  one-more : (e : text.Entry) (es : List text.Entry) (o : Option Item) (xs : List Item)
+  one-more : (e : text.Entry) (es : List text.Entry) (o : Option ProgramItem) (xs : List ProgramItem)
       → KeptItem e o → AreItemsOf c (label_names items) es xs
       → AreItemsOf c (label_names items) (e ∷ es) (cons_option o xs)
   one-more e es o xs k more =
-      subst (λ (x : Option Item). AreItemsOf c (label_names items) (e ∷ es) (cons_option x xs))
+      subst (λ (x : Option ProgramItem). AreItemsOf c (label_names items) (e ∷ es) (cons_option x xs))
       (sym k.is) (k.keeps, more)
 
   block-item : (line : ℕ) (operator : Operator) (negated : Bool) (inner : text.Entries) (end : ℕ)

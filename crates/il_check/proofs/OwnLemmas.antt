@@ -7,22 +7,22 @@ use Rattle.std.specs.List.{cons_option, filter_map}
 use Rattle.std.specs.Str.{bytes_eq}
 use Rattle.std.proofs.lemmas.Slice.Eq.{bytes_eq-Decides}
 use Rattle.bay_base.specs.Exact.{unless_refused}
-use Rattle.bay_base.specs.Names.{upper}
+use Rattle.bay_base.specs.NameTable.{upper}
 use Rattle.bay_base.proofs.NameLemmas.{upper-upper}
 use Rattle.bay_base.specs.declared.types.ElementaryType.{ElementaryType}
 use Rattle.bay_base.specs.declared.point.Point.{Point}
 use Rattle.il_text.specs.Listing as text
 use Rattle.il_text.specs.declared.program.DeclaredType.{DeclaredType}
 use Rattle.il_text.specs.declared.program.DeclaredType.TheVariants as type
-use Rattle.il_text.specs.declared.program.Scope.{Scope}
-use Rattle.il_text.specs.declared.program.Scope.TheVariants as scope
+use Rattle.il_text.specs.declared.program.VariableScope.{VariableScope}
+use Rattle.il_text.specs.declared.program.VariableScope.TheVariants as scope
 use Rattle.il_image.specs.Values.{type_of}
 use Rattle.il_image.specs.declared.value.Value.{Value}
 use Rattle.il_check.specs.Checking.{checked_of, checked_program, faults_of}
 use Rattle.il_check.specs.Declaring.{counts_of, declaration_faults, declarations_faults, external_at, external_in, externals_of, initial_in, is_external, is_typed, is_writable, labels_from, looked_up, meaning_at, meanings_of, names_in, point_of, timer_in, timers_of, variable_at, variable_in, variables_of}
 use Rattle.il_check.specs.Faults.{least_fault}
 use Rattle.il_check.specs.OwnPlaces.{IsOwn, MeanOwnPlaces}
-use Rattle.il_check.specs.Program.{Checked, Item}
+use Rattle.il_check.specs.Program.{Checked, ProgramItem}
 use Rattle.il_check.specs.declared.fault.CheckFault.{CheckFault}
 use Rattle.il_check.specs.declared.given.Meaning.{Meaning}
 use Rattle.il_check.specs.declared.given.Meaning.TheVariants as meaning
@@ -169,7 +169,7 @@ adds-timer a t = record {
   ];
 }
 
-abbrev added_by : List Point → text.Declared → Scope → DeclaredType → Lists
+abbrev added_by : List Point → text.Declared → VariableScope → DeclaredType → Lists
 added_by points d s k =
     record {
       externals = option_to_list (external_in points d s k);
@@ -177,7 +177,7 @@ added_by points d s k =
       timers = option_to_list (timer_in d k);
     }
 
-adds-one : (points : List Point) (d : text.Declared) (s : Scope) (k : DeclaredType) (a : Lists)
+adds-one : (points : List Point) (d : text.Declared) (s : VariableScope) (k : DeclaredType) (a : Lists)
     → is_external s && is_none (point_of points d.name) ≡ false
     → is_typed s k (point_of points d.name) d.initial ≡ true
     → Adds a (added_by points d s k) (upper d.name)
@@ -391,13 +391,13 @@ upper-variable name None v h = absurd cc
 upper-variable name (Some w) v h =
     subst (λ (x : Variable). upper x.name ≡ x.name) (same_Some _ v h) (upper-upper name)
 
-external-upper : (points : List Point) (d : text.Declared) (s : Scope) (k : DeclaredType)
+external-upper : (points : List Point) (d : text.Declared) (s : VariableScope) (k : DeclaredType)
     (e : External) → external_in points d s k ≡ Some e → upper e.name ≡ e.name
 external-upper points d scope.External (type.Elementary kind) e h =
     upper-external d.name kind (point_of points d.name) e h
 external-upper points d s k e h = absurd cc
 
-variable-upper : (d : text.Declared) (s : Scope) (k : DeclaredType) (v : Variable)
+variable-upper : (d : text.Declared) (s : VariableScope) (k : DeclaredType) (v : Variable)
     → variable_in d s k ≡ Some v → upper v.name ≡ v.name
 variable-upper d scope.Local (type.Elementary kind) v h =
     upper-variable d.name (initial_in kind d.initial) v h
@@ -438,7 +438,7 @@ are-upper points ds = record {
       (λ d t h. timer-upper d d.kind t h);
 }
 
-with_items : (l : Lists) (items : List Item) (key : List ℕ) (m : Meaning)
+with_items : (l : Lists) (items : List ProgramItem) (key : List ℕ) (m : Meaning)
     → IsOwn (program_of l) key m
     → IsOwn (record {
       externals = l.externals;

@@ -2,14 +2,14 @@
 use Rattle.std.proofs.Common.{◌≡◌, ℕ, Bool, is_some, List, ◌++◌, Option, Some, None, refl, ap, ◌∙◌}
 use Rattle.std.specs.Option.{option_to_list}
 use Rattle.std.specs.BTreeMap.{get_by_text}
-use Rattle.bay_base.specs.Names.{upper}
+use Rattle.bay_base.specs.NameTable.{upper}
 use Rattle.bay_base.specs.declared.types.ElementaryType.{ElementaryType}
 use Rattle.bay_base.specs.declared.point.Point.{Point}
 use Rattle.il_text.specs.Listing as text
 use Rattle.il_text.specs.declared.program.DeclaredType.{DeclaredType}
 use Rattle.il_text.specs.declared.program.DeclaredType.TheVariants as type
-use Rattle.il_text.specs.declared.program.Scope.{Scope}
-use Rattle.il_text.specs.declared.program.Scope.TheVariants as scope
+use Rattle.il_text.specs.declared.program.VariableScope.{VariableScope}
+use Rattle.il_text.specs.declared.program.VariableScope.TheVariants as scope
 use Rattle.il_image.specs.declared.value.Value.{Value}
 use Rattle.il_check.specs.Faults.{first_fault_of}
 use Rattle.il_check.specs.NamesView.{with_value}
@@ -26,7 +26,7 @@ same-external : (name : List ℕ) (kind : ElementaryType) (point : Option Point)
 same-external name kind None = refl
 same-external name kind (Some p) = refl
 
-external-same : (points : List Point) (d : text.Declared) (as_declared : Scope)
+external-same : (points : List Point) (d : text.Declared) (as_declared : VariableScope)
     (kind : DeclaredType)
     → external_added (upper d.name) as_declared kind (point_of points d.name)
     ≡ external_in points d as_declared kind
@@ -41,7 +41,7 @@ same-variable : (name : List ℕ) (value : Option Value)
 same-variable name None = refl
 same-variable name (Some v) = refl
 
-variable-same : (d : text.Declared) (as_declared : Scope) (kind : DeclaredType)
+variable-same : (d : text.Declared) (as_declared : VariableScope) (kind : DeclaredType)
     → variable_added (upper d.name) d as_declared kind ≡ variable_in d as_declared kind
 variable-same d scope.Local (type.Elementary kind) =
     same-variable d.name (initial_in kind d.initial)

@@ -8,7 +8,7 @@ use Rattle.il_text.specs.declared.program.Condition.{Condition}
 use Rattle.il_text.specs.declared.program.Condition.TheVariants.{Always, IfTrue, IfFalse}
 use Rattle.il_image.proofs.KindLemmas.{same-is}
 use Rattle.il_check.specs.Labelling.{IsRight, coming_behind_action}
-use Rattle.il_check.specs.Program.{Checked, Item}
+use Rattle.il_check.specs.Program.{Checked, ProgramItem}
 use Rattle.il_check.specs.Rules as rules
 use Rattle.il_check.specs.Rules.{operand_in, fits, works, is_conditional, input_type, argument_fits, arguments_fit, is_wrong, is_unset}
 use Rattle.il_check.specs.TypedProgram.{IsArgument, AreArguments, Decides, has_label, IsTransfer, target_of, coming_behind_condition, coming_behind_transfer}
@@ -92,13 +92,13 @@ behind-same IfTrue t = refl
 behind-same IfFalse t = refl
 
 -- a jump, a return or a call that is left, above these items
-pub record IsMoved (c : Checked) (below : List Item) (r : Resolved) (t : Option ElementaryType)
+pub record IsMoved (c : Checked) (below : List ProgramItem) (r : Resolved) (t : Option ElementaryType)
     (x : Transfer) : Type 0 where
   pub right : IsTransfer c below x t
   pub target : target_of x ≡ rules.target_of r
   pub goes : coming_behind_transfer x t ≡ coming_behind_action r t
 
-call-case : (c : Checked) (below : List Item) (n : ℕ) (args : GivenArguments)
+call-case : (c : Checked) (below : List ProgramItem) (n : ℕ) (args : GivenArguments)
     (w : Option TypedArguments) (t : Option ElementaryType) (x : Transfer) → n < length c.timers
     → AreGiven c args → arguments_in args ≡ w → call_with n w ≡ Some x
     → IsMoved c below (Call (called.Timer n) args) t x
@@ -107,7 +107,7 @@ call-case c below n args (Some xs) t x timer given is e =
     subst (IsMoved c below (Call (called.Timer n) args) t) (same_Some (go.Call n xs) x e)
     (record { right = (timer, arguments-typed c args xs given is); target = refl; goes = refl })
 
-pub transfer-typed : (c : Checked) (below : List Item) (passed : ℕ) (r : Resolved)
+pub transfer-typed : (c : Checked) (below : List ProgramItem) (passed : ℕ) (r : Resolved)
     (t : Option ElementaryType) (x : Transfer) → IsFound c r → IsRight passed r t
     → ((n : ℕ) → rules.target_of r ≡ Some n → has_label below n ≡ true)
     → transfer_in r ≡ Some x → IsMoved c below r t x

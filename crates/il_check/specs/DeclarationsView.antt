@@ -2,14 +2,14 @@
 use Rattle.std.specs.Prelude.{◌≡◌, ℕ, List, ◌++◌, Option, None, Some, is_some, vec_len}
 use Rattle.std.specs.Option.{option_to_list}
 use Rattle.std.specs.BTreeMap.{get_by_text}
-use Rattle.bay_base.specs.Names.{upper}
+use Rattle.bay_base.specs.NameTable.{upper}
 use Rattle.bay_base.specs.declared.types.ElementaryType.{ElementaryType}
 use Rattle.bay_base.specs.declared.point.Point.{Point}
 use Rattle.il_text.specs.Listing as text
 use Rattle.il_text.specs.declared.program.DeclaredType.{DeclaredType}
 use Rattle.il_text.specs.declared.program.DeclaredType.TheVariants as type
-use Rattle.il_text.specs.declared.program.Scope.{Scope}
-use Rattle.il_text.specs.declared.program.Scope.TheVariants as scope
+use Rattle.il_text.specs.declared.program.VariableScope.{VariableScope}
+use Rattle.il_text.specs.declared.program.VariableScope.TheVariants as scope
 use Rattle.il_image.specs.declared.value.Value.{Value}
 use Rattle.il_check.specs.Faults.{first_fault_of}
 use Rattle.il_check.specs.NamesView.{with_value}
@@ -40,12 +40,12 @@ variable_named name None = None
 variable_named name (Some v) = Some (record { name = name; initial = v })
 
 -- what a declaration, whose name in upper case is given, adds to externals, variables and timers
-abbrev pub external_added : List ℕ → Scope → DeclaredType → Option Point → Option External
+abbrev pub external_added : List ℕ → VariableScope → DeclaredType → Option Point → Option External
 external_added name scope.External (type.Elementary kind) point = external_named name kind point
 external_added name declared_as kind point = None
 
 -- a variable, where a local name has an elementary type and a value that fits it
-abbrev pub variable_added : List ℕ → text.Declared → Scope → DeclaredType → Option Variable
+abbrev pub variable_added : List ℕ → text.Declared → VariableScope → DeclaredType → Option Variable
 variable_added name d scope.Local (type.Elementary kind) =
     variable_named name (initial_in kind d.initial)
 variable_added name d declared_as kind = None

@@ -3,7 +3,7 @@ use Rattle.std.specs.Prelude.{ℕ, ◌+◌, Bool, true, false, not, ◌&&◌, na
 use Rattle.std.specs.Char.{to_ascii_uppercase}
 use Rattle.std.specs.List.{list_all}
 use Rattle.std.specs.Str.{bytes_eq}
-use Rattle.bay_base.specs.Names.{upper, same_name}
+use Rattle.bay_base.specs.NameTable.{upper, same_name}
 use Rattle.bay_base.specs.Types.{same_type}
 use Rattle.bay_base.specs.declared.types.ElementaryType.{ElementaryType}
 use Rattle.bay_base.specs.declared.point.Point.{Point}
@@ -12,14 +12,14 @@ use Rattle.il_text.specs.declared.program.DeclaredType.{DeclaredType}
 use Rattle.il_text.specs.declared.program.DeclaredType.TheVariants.{Elementary, Timer}
 use Rattle.il_text.specs.declared.program.Literal.{Literal}
 use Rattle.il_text.specs.declared.program.Literal.TheVariants as literal
-use Rattle.il_text.specs.declared.program.Scope.{Scope}
-use Rattle.il_text.specs.declared.program.Scope.TheVariants.{Local, External}
+use Rattle.il_text.specs.declared.program.VariableScope.{VariableScope}
+use Rattle.il_text.specs.declared.program.VariableScope.TheVariants.{Local, External}
 use Rattle.il_image.specs.declared.value.Value.{Value}
 use Rattle.il_image.specs.Images.{is_name_octet}
 use Rattle.il_image.specs.Values.{default_value, type_of}
 use Rattle.il_image.specs.Machine.{most_slots, most_timers}
 use Rattle.il_check.specs.Faults.{fault_if}
-use Rattle.il_check.specs.Given.{Names, typed_value}
+use Rattle.il_check.specs.Given.{NameTable, typed_value}
 use Rattle.il_check.specs.Rules.{number_in}
 use Rattle.il_check.specs.declared.typed.External as given
 use Rattle.il_check.specs.declared.typed.Variable.{Variable}
@@ -31,7 +31,7 @@ use Rattle.il_check.specs.declared.fault.CheckFault.{CheckFault}
 use Rattle.il_check.specs.declared.fault.CheckFault.TheVariants.{UnknownName, DuplicateName, TypeMismatch, TooMany}
 
 -- the declaration stands in a VAR_EXTERNAL block
-abbrev pub is_external : Scope → Bool
+abbrev pub is_external : VariableScope → Bool
 is_external Local = false
 is_external External = true
 
@@ -76,7 +76,7 @@ is_kind_of None kind = true
 is_kind_of (Some p) kind = same_type p.kind kind
 
 -- an external has its point's type; a variable's literal fits it; a timer is no point
-abbrev pub is_typed : Scope → DeclaredType → Option Point → Option Literal → Bool
+abbrev pub is_typed : VariableScope → DeclaredType → Option Point → Option Literal → Bool
 is_typed Local (Elementary kind) point given = is_some (initial_in kind given)
 is_typed Local (Timer kind) point given = true
 is_typed External (Elementary kind) point given = is_kind_of point kind
@@ -94,7 +94,7 @@ external_at name kind (Some p) =
     Some (record { name = upper name; kind = kind; writable = p.writable; source = p.source })
 
 -- what a declaration adds to the externals, the variables and the timers
-abbrev pub external_in : List Point → text.Declared → Scope → DeclaredType → Option given.External
+abbrev pub external_in : List Point → text.Declared → VariableScope → DeclaredType → Option given.External
 external_in points d External (Elementary kind) = external_at d.name kind (point_of points d.name)
 external_in points d scope kind = None
 
@@ -104,7 +104,7 @@ variable_at name None = None
 variable_at name (Some v) = Some (record { name = upper name; initial = v })
 
 -- a local name with an elementary type and a value that fits it
-abbrev pub variable_in : text.Declared → Scope → DeclaredType → Option Variable
+abbrev pub variable_in : text.Declared → VariableScope → DeclaredType → Option Variable
 variable_in d Local (Elementary kind) = variable_at d.name (initial_in kind d.initial)
 variable_in d scope kind = None
 
@@ -138,7 +138,7 @@ counts_of points declared = record {
 }
 
 -- what a name means that is declared behind so many others
-abbrev pub meaning_at : Counts → Scope → DeclaredType → Option Point → Meaning
+abbrev pub meaning_at : Counts → VariableScope → DeclaredType → Option Point → Meaning
 meaning_at counts Local (Elementary kind) point =
     meaning.Variable (slot.Variable counts.variables) kind true
 meaning_at counts External (Elementary kind) point =
@@ -170,7 +170,7 @@ labels_from number (text.action line a ∷ es) = labels_from number es
 labels_from number (text.block line operator negated items end ∷ es) = labels_from number es
 
 -- the names of a program
-abbrev pub names_in : List Point → text.PlainProgram → Names
+abbrev pub names_in : List Point → text.PlainProgram → NameTable
 names_in points program = record {
   meaning = λ name. looked_up (meanings_of points program.declarations) (upper name);
   label = λ name. looked_up (labels_from 0 program.items) (upper name);

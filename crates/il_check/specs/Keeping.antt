@@ -1,7 +1,7 @@
 -- What a checked program says, beside the text's program that it was made of: the same, declaration
 -- for declaration and item for item.
 use Rattle.std.specs.Prelude.{◌≡◌, ℕ, pos, List, [], ◌∷◌, slice_get, Option, Some, None, option_map}
-use Rattle.bay_base.specs.Names.{upper}
+use Rattle.bay_base.specs.NameTable.{upper}
 use Rattle.bay_base.specs.declared.types.ElementaryType.{ElementaryType}
 use Rattle.bay_base.specs.declared.types.ElementaryType.TheVariants as elementary
 use Rattle.bay_base.specs.declared.point.Point.{Point}
@@ -11,13 +11,13 @@ use Rattle.il_text.specs.declared.program.DeclaredType.TheVariants as type
 use Rattle.il_text.specs.declared.program.Input.{Input}
 use Rattle.il_text.specs.declared.program.Literal.{Literal}
 use Rattle.il_text.specs.declared.program.Literal.TheVariants as literal
-use Rattle.il_text.specs.declared.program.Scope.{Scope}
-use Rattle.il_text.specs.declared.program.Scope.TheVariants as scope
+use Rattle.il_text.specs.declared.program.VariableScope.{VariableScope}
+use Rattle.il_text.specs.declared.program.VariableScope.TheVariants as scope
 use Rattle.il_image.specs.declared.value.Value.{Value}
 use Rattle.il_image.specs.declared.value.Value.TheVariants as value
 use Rattle.il_image.specs.Values.{number_of, type_of}
 use Rattle.il_check.specs.Declaring.{point_of}
-use Rattle.il_check.specs.Program.{Entry, operation, block, Entries, no_entries, entry, Item, label, transfer, plain, Checked}
+use Rattle.il_check.specs.Program.{Entry, operation, block, Entries, no_entries, entry, ProgramItem, label, transfer, plain, Checked}
 use Rattle.il_check.specs.declared.typed.External.{External}
 use Rattle.il_check.specs.declared.typed.Variable.{Variable}
 use Rattle.il_check.specs.declared.typed.Timer.{Timer}
@@ -88,7 +88,7 @@ pub record IsVariableOf (d : text.Declared) (kind : ElementaryType) (v : Variabl
 
 -- A declaration of this scope and type is the first external, variable or timer, before what the
 -- later ones are.
-abbrev pub IsDeclaredAs : List Point → text.Declared → Scope → DeclaredType → List External
+abbrev pub IsDeclaredAs : List Point → text.Declared → VariableScope → DeclaredType → List External
     → List Variable → List Timer → (List External → List Variable → List Timer → Type 0) → Type 0
 IsDeclaredAs points d scope.External (type.Elementary kind) (e ∷ es) vs ts later =
     IsExternalOf points d kind e × later es vs ts
@@ -168,14 +168,14 @@ abbrev mutual
   AreEntriesOf c es xs = ⊥
 
 -- The item is that of the text, a label by the place of its name among the labels.
-abbrev pub IsItemOf : Checked → List (List ℕ) → text.Entry → Item → Type 0
+abbrev pub IsItemOf : Checked → List (List ℕ) → text.Entry → ProgramItem → Type 0
 IsItemOf c labels (text.label line name) (label n) = slice_get labels n ≡ Some (upper name)
 IsItemOf c labels (text.action line a) (transfer x) = IsTransferOf c labels a x
 IsItemOf c labels e (plain x) = IsEntryOf c e x
 IsItemOf c labels e x = ⊥
 
 -- Each item is, in their order; none is left out, and none is added.
-abbrev pub AreItemsOf : Checked → List (List ℕ) → List text.Entry → List Item → Type 0
+abbrev pub AreItemsOf : Checked → List (List ℕ) → List text.Entry → List ProgramItem → Type 0
 AreItemsOf c labels [] [] = Unit {0}
 AreItemsOf c labels (e ∷ es) (x ∷ xs) = IsItemOf c labels e x × AreItemsOf c labels es xs
 AreItemsOf c labels es xs = ⊥

@@ -2,12 +2,12 @@
 use Rattle.std.specs.Prelude.{ℕ, ◌&&◌, is_none, List, Option, Some, if◌then◌else◌}
 use Rattle.std.specs.BTreeMap.{get_by_text}
 use Rattle.std.specs.Str.{bytes_eq}
-use Rattle.bay_base.specs.Names.{upper}
+use Rattle.bay_base.specs.NameTable.{upper}
 use Rattle.il_check.specs.Given as spec
-use Rattle.il_check.specs.declared.names.Names.{Names}
+use Rattle.il_check.specs.declared.names.NameTable.{NameTable}
 
 -- names are looked up in upper case
-abbrev pub names_of : Names → spec.Names
+abbrev pub names_of : NameTable → spec.NameTable
 names_of n =
     record {
       meaning = λ name. get_by_text n.meanings (upper name);

@@ -21,10 +21,10 @@ mutual
     entry : Entry → Entries → Entries
 
 -- a label by its number; a jump, a return or a call; an entry
-pub data Item : Type 0 where
-  label : ℕ → Item
-  transfer : Transfer → Item
-  plain : Entry → Item
+pub data ProgramItem : Type 0 where
+  label : ℕ → ProgramItem
+  transfer : Transfer → ProgramItem
+  plain : Entry → ProgramItem
 
 -- externals, variables and timers in the order of their declarations, and the items in that of the
 -- text
@@ -32,7 +32,7 @@ pub record Checked : Type 0 where
   pub externals : List External
   pub variables : List Variable
   pub timers : List Timer
-  pub items : List Item
+  pub items : List ProgramItem
 
 -- a list of entries as such
 abbrev pub entries_of : List Entry → Entries

@@ -18,7 +18,7 @@ abbrev pub entry_view : TypedEntry → plain.Entry
 entry_view = fold-TypedEntry plain.Entry entry_step
 
 -- an item
-abbrev pub item_view : TypedItem → plain.Item
+abbrev pub item_view : TypedItem → plain.ProgramItem
 item_view (Label number) = plain.label number
 item_view (Transfer t) = plain.transfer t
 item_view (Entry e) = plain.plain (entry_view e)

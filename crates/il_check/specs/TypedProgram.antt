@@ -11,7 +11,7 @@ use Rattle.il_image.specs.Values.{number_of, type_of}
 use Rattle.il_image.specs.Machine.{most_slots, most_timers}
 use Rattle.il_check.specs.Given.{output_type}
 use Rattle.il_check.specs.Labelling.{Labelling, Coming, Carried, carry_of, beginning, Falls, Jumps, with_target, behind_label}
-use Rattle.il_check.specs.Program.{Entry, operation, block, Entries, no_entries, entry, Item, label, transfer, plain, Checked}
+use Rattle.il_check.specs.Program.{Entry, operation, block, Entries, no_entries, entry, ProgramItem, label, transfer, plain, Checked}
 use Rattle.il_check.specs.Rules.{may_negate, is_plain, works, gives, divides, input_type, converted_from, converted_to}
 use Rattle.il_check.specs.declared.typed.External.{External}
 use Rattle.il_check.specs.declared.typed.Variable.{Variable}
@@ -119,14 +119,14 @@ Decides IfTrue t = t ≡ Some elementary.Bool
 Decides IfFalse t = t ≡ Some elementary.Bool
 
 -- one of the items is the label with this number
-abbrev pub has_label : List Item → ℕ → Bool
+abbrev pub has_label : List ProgramItem → ℕ → Bool
 has_label [] number = false
 has_label (label n ∷ is) number = (n == number) || has_label is number
 has_label (transfer t ∷ is) number = has_label is number
 has_label (plain e ∷ is) number = has_label is number
 
 -- A jump goes to a label below.
-abbrev pub IsTransfer : Checked → List Item → Transfer → Option ElementaryType → Type 0
+abbrev pub IsTransfer : Checked → List ProgramItem → Transfer → Option ElementaryType → Type 0
 IsTransfer c below (go.Jump condition number) t =
     Decides condition t × (has_label below number ≡ true)
 IsTransfer c below (go.Return condition) t = Decides condition t
@@ -168,7 +168,7 @@ IsLabel labels n k = (n ≡ k.passed) × (k.passed < most_labels) × Falls label
 
 -- A jump, return or call is reached by a result of this type, is right on it, and brings it where
 -- it jumps.
-abbrev pub TransferFlows : Checked → Labelling → List Item → Transfer → Option ElementaryType
+abbrev pub TransferFlows : Checked → Labelling → List ProgramItem → Transfer → Option ElementaryType
     → Carried → Type 0
 TransferFlows c labels below x t k =
     (k.now ≡ Some t) × IsTransfer c below x t × Jumps labels (target_of x) t
@@ -180,7 +180,7 @@ abbrev pub EntryFlows : Checked → Entry → Option ElementaryType → Option E
 EntryFlows c e t u k = (k.now ≡ Some t) × IsEntry c e t u × (entry_depth e ≤ most_nested)
 
 -- Each item is reached and right on what is known before it.
-abbrev pub AreItems : Checked → Labelling → List Item → Carried → Type 0
+abbrev pub AreItems : Checked → Labelling → List ProgramItem → Carried → Type 0
 AreItems c labels [] k = Unit {0}
 AreItems c labels (label n ∷ is) k =
     IsLabel labels n k × AreItems c labels is (behind_label labels k)

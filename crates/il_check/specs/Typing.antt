@@ -4,7 +4,7 @@ use Rattle.bay_base.specs.declared.types.ElementaryType.{ElementaryType}
 use Rattle.il_text.specs.declared.program.Operator.{Operator}
 use Rattle.il_text.specs.declared.program.StoreKind.{StoreKind}
 use Rattle.il_text.specs.declared.program.Condition.{Condition}
-use Rattle.il_check.specs.Program.{Entry, operation, block, Entries, Item, transfer, plain}
+use Rattle.il_check.specs.Program.{Entry, operation, block, Entries, ProgramItem, transfer, plain}
 use Rattle.il_check.specs.Rules.{operand_in, load_type, input_type}
 use Rattle.il_check.specs.declared.typed.TypedOperand.{TypedOperand}
 use Rattle.il_check.specs.declared.typed.TypedOperand.TheVariants as operand
@@ -121,12 +121,12 @@ abbrev pub entry_in : Resolved → Option ElementaryType → Option Entry
 entry_in r result = option_map operation (operation_in r result)
 
 -- a jump, return or call, or else an entry, if there is one
-abbrev pub or_entry : Option Transfer → Option Entry → Option Item
+abbrev pub or_entry : Option Transfer → Option Entry → Option ProgramItem
 or_entry (Some t) e = Some (transfer t)
 or_entry None e = option_map plain e
 
 -- what is left of an instruction as an item
-abbrev pub item_in : Resolved → Option ElementaryType → Option Item
+abbrev pub item_in : Resolved → Option ElementaryType → Option ProgramItem
 item_in r result = or_entry (transfer_in r) (entry_in r result)
 
 -- a parenthesis whose operator works on a result of this type

@@ -3,7 +3,7 @@ ghost use Rattle.std.specs.Prelude.{◌≡◌, ℕ, List, [], ◌∷◌, ◌++�
 ghost use Rattle.std.specs.BTreeMap.{get_by_text};
 ghost use Rattle.std.specs.List.{list_all};
 ghost use Rattle.std.specs.Option.{option_to_list};
-ghost use Rattle.bay_base.specs.Names as names;
+ghost use Rattle.bay_base.specs.NameTable as names;
 ghost use Rattle.il_text.specs.Views.{declared_of};
 ghost use Rattle.il_check.specs.Faults.{first_fault_of, least_fault};
 ghost use Rattle.il_check.specs.NamesView.{with_value};
@@ -18,11 +18,11 @@ use crate::resolve::typed_value;
 use crate::rules::number_in;
 use crate::typed::{External, Slot, Timer, Variable};
 use bay_base::names::same_name;
+use bay_base::point::Point;
 use bay_base::text::Text;
 use bay_base::types::{ElementaryType, TimerKind};
-use bay_base::point::Point;
 use il_image::value::Value;
-use il_text::program::{Declaration, DeclaredType, Literal, Scope};
+use il_text::program::{Declaration, DeclaredType, Literal, VariableScope};
 use std::alloc::{AllocError, Global};
 use std::collections::BTreeMap;
 
@@ -89,12 +89,12 @@ fn point_of<'a>(points: &'a [Point], name: &str) -> Option<&'a Point>
 }
 
 // Whether a declaration stands in a VAR_EXTERNAL block.
-fn is_external(scope: Scope) -> bool
+fn is_external(scope: VariableScope) -> bool
     ensures { result ≡ spec.is_external scope }
 {
     match scope {
-        Scope::Local => false,
-        Scope::External => true,
+        VariableScope::Local => false,
+        VariableScope::External => true,
     }
 }
 
@@ -144,12 +144,12 @@ fn is_typed(declaration: Declaration<'_>, point: Option<&Point>) -> bool
         (option_copied point.entry) declaration.entry.initial }
 {
     match (declaration.scope, declaration.kind) {
-        (Scope::Local, DeclaredType::Elementary(kind)) => {
+        (VariableScope::Local, DeclaredType::Elementary(kind)) => {
             initial_in(kind, declaration.initial).is_some()
         }
-        (Scope::Local, DeclaredType::Timer(_)) => true,
-        (Scope::External, DeclaredType::Elementary(kind)) => is_kind_of(point, kind),
-        (Scope::External, DeclaredType::Timer(_)) => point.is_none(),
+        (VariableScope::Local, DeclaredType::Timer(_)) => true,
+        (VariableScope::External, DeclaredType::Elementary(kind)) => is_kind_of(point, kind),
+        (VariableScope::External, DeclaredType::Timer(_)) => point.is_none(),
     }
 }
 
@@ -214,17 +214,22 @@ impl Declarations {
     }
 
     // Returns what the name declared next will mean.
-    fn next_meaning(&self, scope: Scope, kind: DeclaredType, point: Option<&Point>) -> Meaning
+    fn next_meaning(
+        &self,
+        scope: VariableScope,
+        kind: DeclaredType,
+        point: Option<&Point>,
+    ) -> Meaning
         ensures { result ≡ spec.meaning_at (counts_in self.now) scope kind
             (option_copied point.entry) }
     {
         match (scope, kind) {
-            (Scope::Local, DeclaredType::Elementary(kind)) => Meaning::Variable {
+            (VariableScope::Local, DeclaredType::Elementary(kind)) => Meaning::Variable {
                 slot: Slot::Variable(self.variables.len()),
                 kind,
                 writable: true,
             },
-            (Scope::External, DeclaredType::Elementary(kind)) => Meaning::Variable {
+            (VariableScope::External, DeclaredType::Elementary(kind)) => Meaning::Variable {
                 slot: Slot::External(self.externals.len()),
                 kind,
                 writable: is_writable(point),
@@ -293,8 +298,11 @@ impl Declarations {
         match declaration.kind {
             DeclaredType::Timer(kind) => self.add_timer(name, kind),
             DeclaredType::Elementary(kind) => match declaration.scope {
-                Scope::External => self.add_external(name, kind, point),
-                Scope::Local => self.add_variable(name, initial_in(kind, declaration.initial)),
+                VariableScope::External => self.add_external(name, kind, point),
+                VariableScope::Local => self.add_variable(
+                    name,
+                    initial_in(kind, declaration.initial),
+                ),
             },
         }
     }

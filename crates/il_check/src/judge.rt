@@ -30,7 +30,7 @@ const MAX_LABELS: usize = 256;
 /// The position of an instruction: whether it is reachable, how many labels precede it, and how
 /// many levels of parentheses may still open there.
 #[derive(Clone, Copy)]
-pub(crate) struct Context {
+pub(crate) struct InstructionPlace {
     pub(crate) is_reached: bool,
     pub(crate) passed: usize,
     pub(crate) room: usize,
@@ -40,7 +40,7 @@ pub(crate) struct Context {
 // and whether it jumps back.
 fn note_typing(
     found: Option<CheckFault>,
-    context: Context,
+    context: InstructionPlace,
     line: usize,
     resolved: Resolved,
     kind: Option<ElementaryType>,
@@ -86,7 +86,7 @@ fn note_others(
 /// Returns the fault to report after an instruction.
 pub(crate) fn note_instruction(
     found: Option<CheckFault>,
-    context: Context,
+    context: InstructionPlace,
     line: usize,
     resolved: Resolved,
     kind: Option<ElementaryType>,
@@ -113,7 +113,7 @@ pub(crate) fn note_opening(
 
 /// The operator of a parenthesis, and the type of the parenthesis's result.
 #[derive(Clone, Copy)]
-pub(crate) struct Closing {
+pub(crate) struct ClosedParenthesis {
     pub(crate) operator: Operator,
     pub(crate) negated: bool,
     pub(crate) inner: Option<ElementaryType>,
@@ -125,13 +125,13 @@ pub(crate) fn note_closing(
     found: Option<CheckFault>,
     is_reached: bool,
     line: usize,
-    closing: Closing,
+    closing: ClosedParenthesis,
     kind: Option<ElementaryType>,
 ) -> Option<CheckFault>
     ensures { result ≡ first_fault_of found
         (spec.closing_faults is_reached line closing.operator closing.negated closing.inner kind) }
 {
-    let Closing {
+    let ClosedParenthesis {
         operator,
         negated,
         inner,

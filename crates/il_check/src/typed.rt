@@ -1,9 +1,9 @@
 // A checked program: each name is resolved to what it means, and each literal has its type.
 ghost use Rattle.std.specs.Prelude.{◌≡◌};
 
+use bay_base::point::Source;
 use bay_base::text::Text;
 use bay_base::types::{ElementaryType, TimerKind};
-use bay_base::point::Source;
 use il_image::value::Value;
 use il_text::program::{Condition, Conversion, Input, Operator, Output, StoreKind};
 

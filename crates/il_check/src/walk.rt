@@ -15,8 +15,10 @@ ghost use Rattle.il_check.specs.Limits.{most_nested};
 
 use crate::fault::CheckFault;
 use crate::given::Resolved;
-use crate::judge::{Closing, Context, note_closing, note_instruction, note_label, note_opening};
-use crate::names::Names;
+use crate::judge::{
+    ClosedParenthesis, InstructionPlace, note_closing, note_instruction, note_label, note_opening,
+};
+use crate::names::NameTable;
 use crate::note::note_if;
 use crate::reach::{Reach, join, unreached};
 use crate::rules::{given_type, goes_on, target_of, type_after};
@@ -65,8 +67,8 @@ impl Judge {
     // Resolves the names of an instruction and notes its faults.
     fn instruction(
         &mut self,
-        names: &Names,
-        context: Context,
+        names: &NameTable,
+        context: InstructionPlace,
         line: usize,
         instruction: Instruction<'_>,
         kind: Option<ElementaryType>,
@@ -87,8 +89,8 @@ impl Judge {
     // set.
     fn operate(
         &mut self,
-        names: &Names,
-        context: Context,
+        names: &NameTable,
+        context: InstructionPlace,
         line: usize,
         instruction: Instruction<'_>,
         kind: Option<ElementaryType>,
@@ -116,8 +118,8 @@ impl Judge {
     #[cycle(entries)]
     fn entries(
         &mut self,
-        names: &Names,
-        context: Context,
+        names: &NameTable,
+        context: InstructionPlace,
         items: &[Item<'_>],
     ) -> Result<Passed, AllocError>
         ensures kind { IfOk result
@@ -148,8 +150,8 @@ impl Judge {
     #[tactic(auto, using(crate::proofs::EntryLemmas::entry_rules))]
     fn entry(
         &mut self,
-        names: &Names,
-        context: Context,
+        names: &NameTable,
+        context: InstructionPlace,
         item: &Item<'_>,
         kind: Option<ElementaryType>,
     ) -> Result<EntryLeft, AllocError>
@@ -195,8 +197,8 @@ impl Judge {
     #[cycle(entries)]
     fn block(
         &mut self,
-        names: &Names,
-        context: Context,
+        names: &NameTable,
+        context: InstructionPlace,
         parenthesis: Parenthesis,
         items: &[Item<'_>],
         kind: Option<ElementaryType>,
@@ -222,13 +224,13 @@ impl Judge {
             self.found = note_if(self.found, true, CheckFault::TooMany { line });
             return Ok(block_of(operator, negated, Vec::new(self.alloc), kind));
         }
-        let within = Context {
+        let within = InstructionPlace {
             is_reached: context.is_reached,
             passed: context.passed,
             room: context.room - 1,
         };
         let inner = self.entries(names, within, items)?;
-        let closing = Closing {
+        let closing = ClosedParenthesis {
             operator,
             negated,
             inner: inner.kind,
@@ -313,11 +315,11 @@ pub(crate) struct Walk {
 
 impl Walk {
     // Returns the context of the next item, which is in no parenthesis.
-    fn context(&self) -> Context
+    fn context(&self) -> InstructionPlace
         ensures { result ≡ record
             { is_reached = self.now.reach.is_reached; passed = self.now.passed; room = most_nested } }
     {
-        Context {
+        InstructionPlace {
             is_reached: self.reach.is_reached,
             passed: self.passed,
             room: MAX_DEPTH,
@@ -447,7 +449,7 @@ impl Judge {
     // Checks a label.
     fn label(
         &mut self,
-        names: &Names,
+        names: &NameTable,
         line: usize,
         name: &str,
         walk: &mut Walk,
@@ -472,7 +474,7 @@ impl Judge {
     // Checks an instruction outside parentheses.
     fn act(
         &mut self,
-        names: &Names,
+        names: &NameTable,
         line: usize,
         instruction: Instruction<'_>,
         walk: &mut Walk,
@@ -496,7 +498,12 @@ impl Judge {
     }
 
     // Checks a parenthesis that is not inside another.
-    fn enclose(&mut self, names: &Names, item: &Item<'_>, walk: &mut Walk) -> Result<(), AllocError>
+    fn enclose(
+        &mut self,
+        names: &NameTable,
+        item: &Item<'_>,
+        walk: &mut Walk,
+    ) -> Result<(), AllocError>
         ensures standing { OnOk result (standing_of walk.new
             ≡ record {
               now = record {
@@ -524,7 +531,12 @@ impl Judge {
 
     // Checks one item.
     #[tactic(auto, using(crate::proofs::EntryLemmas::entry_rules))]
-    fn item(&mut self, names: &Names, item: &Item<'_>, walk: &mut Walk) -> Result<(), AllocError>
+    fn item(
+        &mut self,
+        names: &NameTable,
+        item: &Item<'_>,
+        walk: &mut Walk,
+    ) -> Result<(), AllocError>
         requires { walk.old.passed < usize.MAX }
         ensures standing { OnOk result
             (standing_of walk.new ≡ spec.behind (names_of names.now) (entry_of item.now)
@@ -549,7 +561,7 @@ impl Judge {
     /// Checks all items of a program. No typed items are left if a fault is found.
     pub(crate) fn items(
         &mut self,
-        names: &Names,
+        names: &NameTable,
         items: &[Item<'_>],
         arrivals: Vec<Reach>,
     ) -> Result<Vec<TypedItem>, AllocError>

@@ -7,7 +7,7 @@ use Rattle.std.specs.Option.{unwrap_or}
 use Rattle.il_image.specs.Images.{Each, all_spelled}
 use Rattle.il_image.specs.Spelling.{spelling}
 use Rattle.il_image.specs.declared.instr.Instr.{Instr}
-use Rattle.il_check.specs.Program.{Item, label}
+use Rattle.il_check.specs.Program.{ProgramItem, label}
 use Rattle.il_compile.specs.Behind.{IsBehind, IsSettled, octets_bound}
 use Rattle.il_compile.specs.declared.behind.Behind.{Behind}
 use Rattle.il_compile.specs.Code.{octets, octets_before, items_code}
@@ -35,7 +35,7 @@ nothing-left line behind first e f = ap (λ l. l ++ behind) (sym e) ∙ f
 -- ---- the items behind
 
 -- an item whose code has no jump
-pub item-behind : (n : ℕ) (i : Item) (is : List Item) (a instrs more : List Instr) (size all : ℕ)
+pub item-behind : (n : ℕ) (i : ProgramItem) (is : List ProgramItem) (a instrs more : List Instr) (size all : ℕ)
     (places : ℕ → Option ℕ) → IsBehind n is instrs size places
     → items_code n (i ∷ is) ≡ a ++ items_code n is
     → ((l : ℕ) → octets_before n l (i ∷ is) ≡ octets a + octets_before n l is)
@@ -51,7 +51,7 @@ item-behind n i is a instrs more size all places b same before rev counted =
     }
 
 -- a label stands where the items behind it begin
-pub label-behind : (n l : ℕ) (is : List Item) (instrs : List Instr) (size : ℕ)
+pub label-behind : (n l : ℕ) (is : List ProgramItem) (instrs : List Instr) (size : ℕ)
     (places new : ℕ → Option ℕ) → IsBehind n is instrs size places
     → ((m : ℕ) → new m ≡ (if l == m then Some size else places m))
     → IsBehind n (label l ∷ is) instrs size new
@@ -69,7 +69,7 @@ label-behind n l is instrs size places new b e = record {
 }
 
 -- a jump over so many octets
-pub jump-behind : (n : ℕ) (i : Item) (is : List Item) (jump right : Instr)
+pub jump-behind : (n : ℕ) (i : ProgramItem) (is : List ProgramItem) (jump right : Instr)
     (instrs more : List Instr) (size all : ℕ) (places : ℕ → Option ℕ)
     → IsBehind n is instrs size places
     → length (spelling jump) ≡ 3 → length (spelling right) ≡ 3
@@ -98,7 +98,7 @@ on_success (Ok x) a b c d f = f a b c d
 on_success (Err e) a b c d f = tt
 
 -- instructions that were put before the items behind
-pub put-settled : (n : ℕ) (i : Item) (is : List Item) (a : List Instr) (old : Behind)
+pub put-settled : (n : ℕ) (i : ProgramItem) (is : List ProgramItem) (a : List Instr) (old : Behind)
     (line : List Instr) (new : Behind) → IsSettled n is old
     → items_code n (i ∷ is) ≡ a ++ items_code n is
     → ((l : ℕ) → octets_before n l (i ∷ is) ≡ octets a + octets_before n l is)
@@ -118,7 +118,7 @@ put-settled n i is a old line new s same before put rev counted empty places =
     }
 
 -- a jump that was put before them
-pub put-leap : (n : ℕ) (i : Item) (is : List Item) (jump right : Instr) (old : Behind)
+pub put-leap : (n : ℕ) (i : ProgramItem) (is : List ProgramItem) (jump right : Instr) (old : Behind)
     (line : List Instr) (new : Behind) → IsSettled n is old
     → length (spelling jump) ≡ 3 → length (spelling right) ≡ 3
     → items_code n (i ∷ is) ≡ right ∷ items_code n is
@@ -141,13 +141,13 @@ put-leap n i is jump right old line new s three also same before fits put rev co
     }
 
 -- the distance to a label, and to the end
-pub to-label : (n l size : ℕ) (is : List Item) (instrs : List Instr) (places : ℕ → Option ℕ)
+pub to-label : (n l size : ℕ) (is : List ProgramItem) (instrs : List Instr) (places : ℕ → Option ℕ)
     → IsBehind n is instrs size places → octets (items_code n is) ≤ most_octets
     → min (size - unwrap_or (places l) 0) 0xFFFF ≡ octets_before n l is
 to-label n l size is instrs places b short = let c = b.counted in let k =
     b.known short l in omega arith
 
-pub to-end : (n size : ℕ) (is : List Item) (instrs : List Instr) (places : ℕ → Option ℕ)
+pub to-end : (n size : ℕ) (is : List ProgramItem) (instrs : List Instr) (places : ℕ → Option ℕ)
     → IsBehind n is instrs size places → octets (items_code n is) ≤ most_octets
     → min size 0xFFFF ≡ octets (items_code n is)
 to-end n size is instrs places b short = let c = b.counted in omega arith
@@ -168,7 +168,7 @@ each-drop P f (suc n) [] h = tt
 each-drop P f (suc n) (x ∷ l) h = each-drop P f n l h.1
 
 -- the code behind an item is no longer than an image
-pub bounded : (n : ℕ) (is : List Item) (b : Behind) → IsSettled n is b → b.octets ≤ octets_bound
+pub bounded : (n : ℕ) (is : List ProgramItem) (b : Behind) → IsSettled n is b → b.octets ≤ octets_bound
 bounded n is b s = let c = s.behind.counted in omega arith
 
 pub shorter : (a b c : ℕ) → a ≤ b → a - c ≤ b

@@ -19,8 +19,8 @@ use Rattle.il_text.specs.Listing as text
 use Rattle.il_text.specs.declared.program.DeclaredType.{DeclaredType}
 use Rattle.il_text.specs.declared.program.DeclaredType.TheVariants as type
 use Rattle.il_text.specs.declared.program.Literal.{Literal}
-use Rattle.il_text.specs.declared.program.Scope.{Scope}
-use Rattle.il_text.specs.declared.program.Scope.TheVariants as scope
+use Rattle.il_text.specs.declared.program.VariableScope.{VariableScope}
+use Rattle.il_text.specs.declared.program.VariableScope.TheVariants as scope
 use Rattle.il_image.specs.Images.{Each, Image}
 use Rattle.il_image.specs.Spelling.{IsInstr}
 use Rattle.il_image.specs.declared.instr.Instr.{Instr}
@@ -129,7 +129,7 @@ bound-at points name kind (Some p) es e t rest =
       rest,
     )
 
-bound-in : (points : List Point) (d : text.Declared) (s : Scope) (k : DeclaredType)
+bound-in : (points : List Point) (d : text.Declared) (s : VariableScope) (k : DeclaredType)
     (given : Option Literal) (es : List External)
     → is_typed s k (declared_point points d.name) given ≡ true → Each (IsBound points) es
     → Each (IsBound points) (cons_option (external_in points d s k) es)

@@ -14,7 +14,7 @@ use Rattle.il_image.specs.declared.value.Value.{Value}
 use Rattle.il_image.specs.declared.value.Value.TheVariants.{Truth}
 use Rattle.il_image.proofs.BegunLemmas.{loose_run as run}
 use Rattle.il_check.specs.Labelling.{Labelling, Coming, Becomes, Falls, carry_of, is_named, with_target, coming_behind_label}
-use Rattle.il_check.specs.Program.{Checked, Item, label, transfer, plain}
+use Rattle.il_check.specs.Program.{Checked, ProgramItem, label, transfer, plain}
 use Rattle.il_check.specs.TypedProgram.{AreItems, IsTyped, coming_behind_condition, has_label, target_of}
 use Rattle.il_check.specs.declared.typed.Transfer.{Transfer}
 use Rattle.il_check.specs.declared.typed.Transfer.TheVariants as go
@@ -50,12 +50,12 @@ still-named (Some k) named l h =
     elim (k == l) as (λ b. b || is_named named l ≡ true) [ true ↦ refl | false ↦ h ]
 
 -- where a run goes on in the items: at the first, or behind a label
-abbrev skipped : ℕ → Option ℕ → List Item → ℕ
+abbrev skipped : ℕ → Option ℕ → List ProgramItem → ℕ
 skipped n None is = 0
 skipped n (Some l) is = octets_before n l is
 
 -- what is known of the result there
-abbrev Comes : Labelling → Option ℕ → List Item → List ℕ → Coming → Option Value → Value → Type 0
+abbrev Comes : Labelling → Option ℕ → List ProgramItem → List ℕ → Coming → Option Value → Value → Type 0
 Comes labels None is named coming result cell =
     (t : Option ElementaryType) × (coming ≡ Some t) × Agrees t result cell
 Comes labels (Some l) is named coming result cell =
@@ -66,7 +66,7 @@ module _ (c : Checked) (labels : Labelling) (now : ℕ) where
   externals = length c.externals
 
   -- the items mean something, and their code halts with it wherever it stands
-  record Finishes (sought : Option ℕ) (is : List Item) (s : State) (cell : Value) : Type 0 where
+  record Finishes (sought : Option ℕ) (is : List ProgramItem) (s : State) (cell : Value) : Type 0 where
     state : State
     means : mean_from now sought is s ≡ Some state
     typed : HasTypes c state.memory
@@ -79,7 +79,7 @@ module _ (c : Checked) (labels : Labelling) (now : ℕ) where
   joined-code a b = append_assoc a b (Halt ∷ [])
 
   -- an item that is passed over
-  passed-over : (l : ℕ) (a : List Instr) (size : ℕ) (i : Item) (is : List Item) (s : State)
+  passed-over : (l : ℕ) (a : List Instr) (size : ℕ) (i : ProgramItem) (is : List ProgramItem) (s : State)
       (cell : Value) → octets a ≡ size
       → items_code externals (i ∷ is) ≡ a ++ items_code externals is
       → octets_before externals l (i ∷ is) ≡ size + octets_before externals l is
@@ -100,7 +100,7 @@ module _ (c : Checked) (labels : Labelling) (now : ℕ) where
   }
 
   -- an item that does its part and goes on
-  went-on : (a : List Instr) (i : Item) (is : List Item) (s behind : State) (cell new : Value)
+  went-on : (a : List Instr) (i : ProgramItem) (is : List ProgramItem) (s behind : State) (cell new : Value)
       → items_code externals (i ∷ is) ≡ a ++ items_code externals is
       → DoesAll now a (holding (cell ∷ []) s.memory) (holding (new ∷ []) behind.memory)
       → mean_from now None (i ∷ is) s ≡ mean_from now None is behind
@@ -125,7 +125,7 @@ module _ (c : Checked) (labels : Labelling) (now : ℕ) where
   }
 
   -- a label that is sought, and one that is not
-  found-label : (n l : ℕ) (is : List Item) (s : State) (cell : Value) → (n == l) ≡ true
+  found-label : (n l : ℕ) (is : List ProgramItem) (s : State) (cell : Value) → (n == l) ≡ true
       → Finishes None is s cell → Finishes (Some l) (label n ∷ is) s cell
   found-label n l is s cell e f = record {
     state = f.state;
@@ -139,7 +139,7 @@ module _ (c : Checked) (labels : Labelling) (now : ℕ) where
         (f.ends code p h);
   }
 
-  other-label : (n l : ℕ) (is : List Item) (s : State) (cell : Value) → (n == l) ≡ false
+  other-label : (n l : ℕ) (is : List ProgramItem) (s : State) (cell : Value) → (n == l) ≡ false
       → Finishes (Some l) is s cell → Finishes (Some l) (label n ∷ is) s cell
   other-label n l is s cell e f = record {
     state = f.state;
@@ -153,7 +153,7 @@ module _ (c : Checked) (labels : Labelling) (now : ℕ) where
         (f.ends code p h);
   }
 
-  next-label : (n : ℕ) (is : List Item) (s : State) (cell : Value) → Finishes None is s cell
+  next-label : (n : ℕ) (is : List ProgramItem) (s : State) (cell : Value) → Finishes None is s cell
       → Finishes None (label n ∷ is) s cell
   next-label n is s cell f =
       record {
@@ -174,7 +174,7 @@ module _ (c : Checked) (labels : Labelling) (now : ℕ) where
       (e (p + length (spelling when)) ∙ ap (λ q. Goes (at q a)) z)
 
   -- what is behind a jump that is not taken
-  fell : (condition : Condition) (x : Transfer) (d : ℕ) (is : List Item) (s : State) (cell : Value)
+  fell : (condition : Condition) (x : Transfer) (d : ℕ) (is : List ProgramItem) (s : State) (cell : Value)
       (t : Option ElementaryType) (j : Jumps condition now t s.result cell) → j.leaves ≡ false
       → transfer_code externals x d ≡ Jump (when_of condition) d ∷ []
       → items_code externals (transfer x ∷ is)
@@ -203,7 +203,7 @@ module _ (c : Checked) (labels : Labelling) (now : ℕ) where
   }
 
   -- a jump that is taken
-  took : (condition : Condition) (x : Transfer) (d : ℕ) (is : List Item) (s state : State)
+  took : (condition : Condition) (x : Transfer) (d : ℕ) (is : List ProgramItem) (s state : State)
       (cell : Value) (t : Option ElementaryType) (j : Jumps condition now t s.result cell)
       → j.leaves ≡ true
       → items_code externals (transfer x ∷ is)
@@ -235,7 +235,7 @@ module _ (c : Checked) (labels : Labelling) (now : ℕ) where
 
   -- ---- all items
 
-  items-finish : (is : List Item) (sought : Option ℕ) (passed : ℕ) (named : List ℕ)
+  items-finish : (is : List ProgramItem) (sought : Option ℕ) (passed : ℕ) (named : List ℕ)
       (coming : Coming) (s : State) (cell : Value)
       → AreItems c labels is (carry_of passed named coming)
       → Comes labels sought is named coming s.result cell → HasTypes c s.memory

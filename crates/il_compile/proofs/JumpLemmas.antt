@@ -2,12 +2,12 @@
 use Rattle.std.proofs.Common.{◌≡◌, ℕ, ◌==◌, Bool, true, false, if◌then◌else◌, List, [], ◌∷◌, Option, Some, None, refl, ap, ◌∙◌}
 use Rattle.bay_base.specs.Options.{◌>>=◌}
 use Rattle.il_text.specs.declared.program.Condition.{Condition}
-use Rattle.il_check.specs.Program.{Item, label, transfer, plain}
+use Rattle.il_check.specs.Program.{ProgramItem, label, transfer, plain}
 use Rattle.il_check.specs.declared.typed.Transfer.TheVariants as go
 use Rattle.il_compile.specs.Laws.{items_behind, mean_behind}
 use Rattle.il_compile.specs.Meaning.{State, goes, mean_from}
 
-sought : (now l : ℕ) (is : List Item) (s : State)
+sought : (now l : ℕ) (is : List ProgramItem) (s : State)
     → mean_from now (Some l) is s ≡ mean_behind now (items_behind l is) s
 sought now l [] s = refl
 sought now l (label n ∷ is) s =
@@ -17,7 +17,7 @@ sought now l (label n ∷ is) s =
 sought now l (transfer t ∷ is) s = sought now l is s
 sought now l (plain e ∷ is) s = sought now l is s
 
-leaps : (now l : ℕ) (is : List Item) (s : State) (o : Option Bool) (b : Bool) → o ≡ Some b
+leaps : (now l : ℕ) (is : List ProgramItem) (s : State) (o : Option Bool) (b : Bool) → o ≡ Some b
     → (o >>= (λ (x : Bool). if x then mean_from now (Some l) is s else mean_from now None is s))
     ≡ (if b then mean_from now (Some l) is s else mean_from now None is s)
 leaps now l is s o b e =
@@ -25,13 +25,13 @@ leaps now l is s o b e =
     >>= (λ (x : Bool). if x then mean_from now (Some l) is s else mean_from now None is s)) e
 
 -- a jump that is taken goes on at its label
-pub taken : (now : ℕ) (condition : Condition) (l : ℕ) (is : List Item) (s : State)
+pub taken : (now : ℕ) (condition : Condition) (l : ℕ) (is : List ProgramItem) (s : State)
     → goes condition s.result ≡ Some true
     → mean_from now None (transfer (go.Jump condition l) ∷ is) s
     ≡ mean_behind now (items_behind l is) s
 taken now condition l is s e = leaps now l is s (goes condition s.result) true e ∙ sought now l is s
 
-pub not_taken : (now : ℕ) (condition : Condition) (l : ℕ) (is : List Item) (s : State)
+pub not_taken : (now : ℕ) (condition : Condition) (l : ℕ) (is : List ProgramItem) (s : State)
     → goes condition s.result ≡ Some false
     → mean_from now None (transfer (go.Jump condition l) ∷ is) s ≡ mean_from now None is s
 not_taken now condition l is s e = leaps now l is s (goes condition s.result) false e

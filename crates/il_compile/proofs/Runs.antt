@@ -4,7 +4,7 @@ use Rattle.bay_base.specs.declared.types.ElementaryType.{ElementaryType}
 use Rattle.bay_base.specs.declared.types.ElementaryType.TheVariants as elementary
 use Rattle.il_text.specs.declared.program.Condition.{Condition}
 use Rattle.il_text.specs.declared.program.Condition.TheVariants.{Always, IfTrue, IfFalse}
-use Rattle.il_image.specs.Machine.{State as Machine, Turn, Goes, Halts, Traps, Ending, Halted, act, ending_of, turn_of}
+use Rattle.il_image.specs.Machine.{State as Machine, StepResult, Goes, Halts, Traps, Ending, Halted, act, ending_of, turn_of}
 use Rattle.il_image.specs.Spelling.{spelling}
 use Rattle.il_image.specs.declared.instr.Instr.{Instr}
 use Rattle.il_image.specs.declared.instr.Instr.TheVariants.{Halt, Jump}
@@ -37,7 +37,7 @@ pub record Ends (code : List ℕ) (now : ℕ) (m : Machine) (slots : List Value)
   pub by : (steps : ℕ) → run code now taken m steps ≡ Halted slots timers (steps + taken)
 
 -- more steps change nothing of a run that has halted
-on-halted : (x : Turn) (s : Machine) (steps : ℕ) (f g : Machine → Ending) (slots : List Value)
+on-halted : (x : StepResult) (s : Machine) (steps : ℕ) (f g : Machine → Ending) (slots : List Value)
     (timers : List TimerState) (n : ℕ)
     → ((m : Machine) → f m ≡ Halted slots timers n → g m ≡ Halted slots timers n)
     → ending_of x s steps f ≡ Halted slots timers n → ending_of x s steps g ≡ Halted slots timers n

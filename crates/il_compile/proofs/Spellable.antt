@@ -15,7 +15,7 @@ use Rattle.il_image.specs.declared.instr.Instr.TheVariants.{Halt, Timer, Jump}
 use Rattle.il_image.specs.declared.opcode.TimerUse.TheVariants.{Run}
 use Rattle.il_image.specs.Machine.{most_slots, most_timers}
 use Rattle.il_check.specs.Labelling.{Labelling, Carried, beginning}
-use Rattle.il_check.specs.Program.{Checked, Entry, operation, block, Entries, no_entries, entry, Item, label, transfer, plain}
+use Rattle.il_check.specs.Program.{Checked, Entry, operation, block, Entries, no_entries, entry, ProgramItem, label, transfer, plain}
 use Rattle.il_check.specs.TypedProgram.{slot_type, IsOperand, IsOperation, IsEntry, AreEntries, IsArgument, AreArguments, AreItems, IsTyped}
 use Rattle.il_check.specs.declared.typed.SimpleOperation.{SimpleOperation}
 use Rattle.il_check.specs.declared.typed.SimpleOperation.TheVariants as op
@@ -123,7 +123,7 @@ module _ (c : Checked) (few : length c.externals + length c.variables ≤ most_s
       each-both IsInstr (argument_code (length c.externals) n a)
       (argument_code (length c.externals) n b) (argument-is n a lt h.0) (argument-is n b lt h.1)
 
-  items-spellable : (labels : Labelling) (is : List Item) (k : Carried) → AreItems c labels is k
+  items-spellable : (labels : Labelling) (is : List ProgramItem) (k : Carried) → AreItems c labels is k
       → AreSpellable (length c.externals) is
   items-spellable labels [] k h = tt
   items-spellable labels (label n ∷ is) k h = (tt, items-spellable labels is _ h.1)
@@ -160,7 +160,7 @@ mutual
       (entries-are n es h.1)
 
 -- a label is no further away than the end
-no-further : (n l : ℕ) (is : List Item) → octets_before n l is ≤ octets (items_code n is)
+no-further : (n l : ℕ) (is : List ProgramItem) → octets_before n l is ≤ octets (items_code n is)
 no-further n l [] = omega arith
 no-further n l (label k ∷ is) =
     elim (k == l) as (λ b. (if b then 0 else octets_before n l is) ≤ octets (items_code n is))
@@ -172,7 +172,7 @@ no-further n l (transfer t ∷ is) =
 no-further n l (plain e ∷ is) = let h =
     no-further n l is in omega (arith, octets-both (entry_code n e) (items_code n is))
 
-pub items-are : (n : ℕ) (is : List Item) → AreSpellable n is
+pub items-are : (n : ℕ) (is : List ProgramItem) → AreSpellable n is
     → octets (items_code n is) ≤ most_octets
     → Each IsInstr (items_code n is)
 items-are n [] h short = tt

@@ -8,7 +8,7 @@ use Rattle.il_image.specs.Machine.{State, Goes, Traps, WrongKind, ZeroDivisor, a
 use Rattle.il_image.specs.Arithmetic.{computation_of, comparison_holds, logic_of, wider_value}
 use Rattle.il_image.specs.Timers.{after_call}
 use Rattle.il_image.specs.Values.{number_of, type_of}
-use Rattle.il_image.specs.declared.arithmetic.Operation.{Operation}
+use Rattle.il_image.specs.declared.arithmetic.ArithmeticOperation.{ArithmeticOperation}
 use Rattle.il_image.specs.declared.arithmetic.Width.{Width}
 use Rattle.il_image.specs.declared.arithmetic.Width.TheVariants as width
 use Rattle.il_image.specs.declared.instr.Instr.{Instr}
@@ -86,7 +86,7 @@ module _ (now : ℕ) (slots : List Value) (timers : List TimerState) where
   wider DintToLint (Long z) x cells e p next = let same : Wide z ≡ x = cc in rw same refl
   wider w v x cells e p next = absurd cc
 
-  computed-by : (o : Operation) (w : Width) (a b : ℤ) (c : Value) (cells : List Value) (p next : ℕ)
+  computed-by : (o : ArithmeticOperation) (w : Width) (a b : ℤ) (c : Value) (cells : List Value) (p next : ℕ)
       (s : State) (zero : Bool) → zero ≡ (divides o && int_eq b (pos 0))
       → (if zero then None else Some (value_of_width w (computation_of o w a b))) ≡ Some c
       → (if zero then Traps ZeroDivisor

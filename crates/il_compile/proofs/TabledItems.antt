@@ -16,7 +16,7 @@ use Rattle.il_image.specs.declared.kind.CellKind.TheVariants.{Any}
 use Rattle.il_image.specs.declared.opcode.TimerUse.TheVariants.{Run}
 use Rattle.il_image.proofs.KindLemmas.{within-along, within-any, within-self}
 use Rattle.il_check.specs.Labelling.{Becomes, Coming, Falls, Labelling, carry_of, coming_behind_label, is_named}
-use Rattle.il_check.specs.Program.{Checked, Item, label, plain, transfer}
+use Rattle.il_check.specs.Program.{Checked, ProgramItem, label, plain, transfer}
 use Rattle.il_check.specs.TypedProgram.{AreItems, Decides, coming_behind_condition}
 use Rattle.il_check.specs.declared.typed.Transfer.{Transfer}
 use Rattle.il_check.specs.declared.typed.Transfer.TheVariants as go
@@ -158,7 +158,7 @@ same-coming now t u e f = let g : Some t ≡ Some u = sym e ∙ f in cc
 module _ (c : Checked) (labels : Labelling) where
   -- the rows of the items and of HALT: what comes enters the first, what a label has the first
   -- behind it, and all the last
-  pub record Tail (is : List Item) (named : List ℕ) (now : Coming) : Type 0 where
+  pub record Tail (is : List ProgramItem) (named : List ℕ) (now : Coming) : Type 0 where
     pub rows : List Row
     pub same : instrs_of rows ≡ items_code (length c.externals) is ++ Halt ∷ []
     pub right : AreRight (image_of c) rows
@@ -190,7 +190,7 @@ module _ (c : Checked) (labels : Labelling) where
   }
 
   -- an item without jumps
-  straight-tail : (i : Item) (is : List Item) (a : List Instr) (named : List ℕ) (now : Coming)
+  straight-tail : (i : ProgramItem) (is : List ProgramItem) (a : List Instr) (named : List ℕ) (now : Coming)
       (t u : Option ElementaryType) (top : CellKind) → now ≡ Some t
       → items_code (length c.externals) (i ∷ is) ≡ a ++ items_code (length c.externals) is
       → ((l : ℕ) → octets_before (length c.externals) l (i ∷ is)
@@ -225,7 +225,7 @@ module _ (c : Checked) (labels : Labelling) where
       }
 
   -- a jump over so many octets
-  jump-tail : (x : Transfer) (condition : Condition) (n : ℕ) (is : List Item) (named more : List ℕ)
+  jump-tail : (x : Transfer) (condition : Condition) (n : ℕ) (is : List ProgramItem) (named more : List ℕ)
       (now : Coming) (t : Option ElementaryType) → now ≡ Some t
       → items_code (length c.externals) (transfer x ∷ is)
       ≡ Jump (when_of condition) n ∷ items_code (length c.externals) is
@@ -274,7 +274,7 @@ module _ (c : Checked) (labels : Labelling) where
       either-way true b e = refl
       either-way false b e = rw e refl
 
-  label-tail : (n passed : ℕ) (is : List Item) (named : List ℕ) (now : Coming) → n ≡ passed
+  label-tail : (n passed : ℕ) (is : List ProgramItem) (named : List ℕ) (now : Coming) → n ≡ passed
       → Falls labels passed now
       → Tail is named (coming_behind_label labels (carry_of passed named now))
       → Tail (label n ∷ is) named now
@@ -302,7 +302,7 @@ module _ (c : Checked) (labels : Labelling) where
     keeps = next.keeps;
   }
 
-  pub tail : (is : List Item) (passed : ℕ) (named : List ℕ) (now : Coming)
+  pub tail : (is : List ProgramItem) (passed : ℕ) (named : List ℕ) (now : Coming)
       → AreItems c labels is (carry_of passed named now) → Tail is named now
   tail [] passed named now ok = end-tail named now
   tail (label n ∷ is) passed named now ok =

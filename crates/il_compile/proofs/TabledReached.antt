@@ -10,7 +10,7 @@ use Rattle.il_image.specs.declared.instr.Instr.TheVariants.{Halt, Jump, Timer}
 use Rattle.il_image.specs.declared.opcode.TimerUse.TheVariants.{Run}
 use Rattle.il_image.proofs.KindLemmas.{within-self}
 use Rattle.il_check.specs.Labelling.{Coming, Labelling, carry_of, coming_behind_label, is_named}
-use Rattle.il_check.specs.Program.{Checked, Item, label, plain, transfer}
+use Rattle.il_check.specs.Program.{Checked, ProgramItem, label, plain, transfer}
 use Rattle.il_check.specs.TypedProgram.{AreItems, coming_behind_condition, has_label}
 use Rattle.il_check.specs.declared.typed.Transfer.TheVariants as go
 use Rattle.il_compile.specs.Code.{arguments_code, entry_code, items_code, octets, octets_before}
@@ -41,7 +41,7 @@ named-before k l named h =
 
 module _ (c : Checked) (labels : Labelling) where
   -- labels below have higher numbers
-  no-lower : (is : List Item) (passed : ℕ) (named : List ℕ) (now : Coming) (l : ℕ)
+  no-lower : (is : List ProgramItem) (passed : ℕ) (named : List ℕ) (now : Coming) (l : ℕ)
       → AreItems c labels is (carry_of passed named now) → has_label is l ≡ true → passed ≤ l
   no-lower [] passed named now l ok h = absurd cc
   no-lower (label n ∷ is) passed named now l ok h =
@@ -62,7 +62,7 @@ module _ (c : Checked) (labels : Labelling) where
 
   -- what is led to from above: the first item, where something comes to it, each label below that
   -- was named, and, where nothing comes, the end or some label
-  pub record IsLed (P : ℕ → Type 0) (is : List Item) (named : List ℕ) (now : Coming) : Type 0 where
+  pub record IsLed (P : ℕ → Type 0) (is : List ProgramItem) (named : List ℕ) (now : Coming) : Type 0 where
     pub comes : (t : Option ElementaryType) → now ≡ Some t → P 0
     pub jumps : (l : ℕ) → is_named named l ≡ true → has_label is l ≡ true
         → P (octets_before (length c.externals) l is)
@@ -78,7 +78,7 @@ module _ (c : Checked) (labels : Labelling) where
   end_led P named now (Some t) e led = led.comes t e
 
   -- behind code whose instructions go on to the next
-  straight-led : (P : ℕ → Type 0) (size : ℕ) (i : Item) (is : List Item) (named : List ℕ)
+  straight-led : (P : ℕ → Type 0) (size : ℕ) (i : ProgramItem) (is : List ProgramItem) (named : List ℕ)
       (now : Coming) (u : Option ElementaryType)
       → ((l : ℕ) → octets_before (length c.externals) l (i ∷ is)
       ≡ size + octets_before (length c.externals) l is)
@@ -90,7 +90,7 @@ module _ (c : Checked) (labels : Labelling) where
     ends = λ e. absurd cc;
   }
 
-  label-led : (P : ℕ → Type 0) (n passed : ℕ) (is : List Item) (named : List ℕ) (now : Coming)
+  label-led : (P : ℕ → Type 0) (n passed : ℕ) (is : List ProgramItem) (named : List ℕ) (now : Coming)
       → n ≡ passed → ((l : ℕ) → has_label is l ≡ true → passed + 1 ≤ l)
       → IsLed P (label n ∷ is) named now
       → IsLed P is named (coming_behind_label labels (carry_of passed named now))
@@ -157,7 +157,7 @@ module _ (c : Checked) (labels : Labelling) where
                 (led.ends f))
           ] refl (ap (λ w. coming_behind_label labels (carry_of passed named w)) (sym f) ∙ e)
 
-  jump-led : (P : ℕ → Type 0) (condition : Condition) (k : ℕ) (is : List Item) (named : List ℕ)
+  jump-led : (P : ℕ → Type 0) (condition : Condition) (k : ℕ) (is : List ProgramItem) (named : List ℕ)
       (now : Coming) (t : Option ElementaryType) → has_label is k ≡ true
       → IsLed P (transfer (go.Jump condition k) ∷ is) named now
       → IsLed (λ d. P (length
@@ -176,7 +176,7 @@ module _ (c : Checked) (labels : Labelling) where
     ends = λ e. inr (k, ap (λ b. b || is_named named k) (eq-eqb k k refl), there);
   }
 
-  return-led : (P : ℕ → Type 0) (condition : Condition) (is : List Item) (named : List ℕ)
+  return-led : (P : ℕ → Type 0) (condition : Condition) (is : List ProgramItem) (named : List ℕ)
       (now : Coming) (t : Option ElementaryType)
       → IsLed P (transfer (go.Return condition) ∷ is) named now
       → IsLed (λ d. P (length
@@ -189,7 +189,7 @@ module _ (c : Checked) (labels : Labelling) where
     ends = λ e. inl (inr (leaps condition (octets (items_code (length c.externals) is))));
   }
 
-  pub items-reached : (is : List Item) (passed : ℕ) (named : List ℕ) (now : Coming)
+  pub items-reached : (is : List ProgramItem) (passed : ℕ) (named : List ℕ) (now : Coming)
       → AreItems c labels is (carry_of passed named now) → (P : ℕ → Type 0) → IsLed P is named now
       → AreReached P (items_code (length c.externals) is ++ Halt ∷ [])
   items-reached [] passed named now ok P led = (end_led P named now now refl led, tt)
@@ -240,7 +240,7 @@ module _ (c : Checked) (labels : Labelling) where
   )
 
   -- something comes to the first item
-  pub first-led : (P : ℕ → Type 0) (is : List Item) (t : Option ElementaryType) → P 0
+  pub first-led : (P : ℕ → Type 0) (is : List ProgramItem) (t : Option ElementaryType) → P 0
       → IsLed P is [] (Some t)
   first-led P is t p =
       record { comes = λ u e. p; jumps = λ l h g. absurd cc; ends = λ e. absurd cc }

@@ -18,7 +18,7 @@ use Rattle.il_image.specs.Machine.{divides, tells_equality, most_cells}
 use Rattle.il_image.specs.Tables.{LeadsTo, slot_types}
 use Rattle.il_image.specs.Values.{number_of, type_of}
 use Rattle.il_image.specs.declared.arithmetic.Comparison.{Comparison}
-use Rattle.il_image.specs.declared.arithmetic.Operation.{Operation}
+use Rattle.il_image.specs.declared.arithmetic.ArithmeticOperation.{ArithmeticOperation}
 use Rattle.il_image.specs.declared.arithmetic.Width.{Width}
 use Rattle.il_image.specs.declared.arithmetic.Width.TheVariants as width
 use Rattle.il_image.specs.declared.instr.Instr.{Instr}
@@ -180,7 +180,7 @@ two-shown c kind v a rest h g e =
     (shown a kind g)
     ∙ ap (λ b. if b then Some (Plain elementary.Bool ∷ rest) else None) e
 
-second-within : (o : Operation) (w : Width) (v : CellKind)
+second-within : (o : ArithmeticOperation) (w : Width) (v : CellKind)
     → is_within v (Plain (type_of_width w)) ≡ true
     → (divides o ≡ true → is_within v (NotZero w) ≡ true) → is_within v (second_kind o w) ≡ true
 second-within o w v h d =

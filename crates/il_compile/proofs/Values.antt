@@ -12,7 +12,7 @@ use Rattle.il_image.specs.Arithmetic.{comparison_holds, computation_of, logic_of
 use Rattle.il_image.specs.Machine.{divides, tells_equality, value_of_width}
 use Rattle.il_image.specs.Values.{number_of, type_of}
 use Rattle.il_image.specs.declared.arithmetic.Comparison.{Comparison}
-use Rattle.il_image.specs.declared.arithmetic.Operation.{Operation}
+use Rattle.il_image.specs.declared.arithmetic.ArithmeticOperation.{ArithmeticOperation}
 use Rattle.il_image.specs.declared.arithmetic.Width.{Width}
 use Rattle.il_image.specs.declared.arithmetic.Width.TheVariants as width
 use Rattle.il_image.specs.declared.value.Value.{Value}
@@ -95,7 +95,7 @@ inverse-made (Wide z) kind e h =
 inverse-made (Span n) kind e h =
     absurd (let f : elementary.Time ≡ elementary.Bool = e ∙ boolean-is kind h in cc)
 
-computed-made : (o : Operation) (w : Width) (a b : ℤ) (zero : Bool) (kind : ElementaryType)
+computed-made : (o : ArithmeticOperation) (w : Width) (a b : ℤ) (zero : Bool) (kind : ElementaryType)
     → type_of (value_of_width w (computation_of o w a b)) ≡ kind → zero ≡ false
     → Made (if zero then None else Some (value_of_width w (computation_of o w a b))) kind
 computed-made o w a b true kind t z = absurd cc

@@ -6,7 +6,7 @@ use Rattle.std.specs.Option.{unwrap_or}
 use Rattle.il_image.specs.Images.{Each}
 use Rattle.il_image.specs.Spelling.{IsInstr}
 use Rattle.il_image.specs.declared.instr.Instr.{Instr}
-use Rattle.il_check.specs.Program.{Entry, operation, block, Entries, no_entries, entry, Item, label, transfer, plain}
+use Rattle.il_check.specs.Program.{Entry, operation, block, Entries, no_entries, entry, ProgramItem, label, transfer, plain}
 use Rattle.il_compile.specs.declared.behind.Behind.{Behind}
 use Rattle.il_compile.specs.Code.{operation_code, transfer_code, octets, octets_before, items_code}
 use Rattle.il_compile.specs.Compiled.{most_octets}
@@ -23,17 +23,17 @@ abbrev mutual
       IsSpellableEntry externals e × AreSpellableEntries externals es
 
 -- Its instructions can be spelled, but for the distance of a jump.
-abbrev pub IsSpellable : ℕ → Item → Type 0
+abbrev pub IsSpellable : ℕ → ProgramItem → Type 0
 IsSpellable externals (label n) = Unit {0}
 IsSpellable externals (transfer t) = Each IsInstr (transfer_code externals t 0)
 IsSpellable externals (plain e) = IsSpellableEntry externals e
 
 -- The instructions of each item can be spelled.
-abbrev pub AreSpellable : ℕ → List Item → Type 0
+abbrev pub AreSpellable : ℕ → List ProgramItem → Type 0
 AreSpellable externals is = Each (IsSpellable externals) is
 
 -- for each label the octets from it to the end of the items, and 0 where there is no such label
-abbrev pub KnowsPlaces : ℕ → (ℕ → Option ℕ) → List Item → Type 0
+abbrev pub KnowsPlaces : ℕ → (ℕ → Option ℕ) → List ProgramItem → Type 0
 KnowsPlaces externals places is = (l : ℕ)
     → octets_before externals l is + unwrap_or (places l) 0 ≡ octets (items_code externals is)
 
@@ -43,7 +43,7 @@ octets_bound = 65_536
 
 -- The items' instructions, the last first, with the octets that they have, counted up to the bound;
 -- where they have no more than an image may, the instructions and the places of labels are known.
-pub record IsBehind (externals : ℕ) (is : List Item) (instrs : List Instr) (size : ℕ)
+pub record IsBehind (externals : ℕ) (is : List ProgramItem) (instrs : List Instr) (size : ℕ)
     (places : ℕ → Option ℕ) : Type 0 where
   pub counted : size ≡ min (octets (items_code externals is)) octets_bound
   pub code : octets (items_code externals is) ≤ most_octets
@@ -51,11 +51,11 @@ pub record IsBehind (externals : ℕ) (is : List Item) (instrs : List Instr) (si
   pub known : octets (items_code externals is) ≤ most_octets → KnowsPlaces externals places is
 
 -- Nothing waits to be put before the items behind.
-pub record IsSettled (externals : ℕ) (is : List Item) (b : Behind) : Type 0 where
+pub record IsSettled (externals : ℕ) (is : List ProgramItem) (b : Behind) : Type 0 where
   pub behind : IsBehind externals is b.instrs.items b.octets (get nat_eq b.places)
   pub settled : b.line.items ≡ []
 
 -- These instructions wait.
-pub record Waits (externals : ℕ) (is : List Item) (code : List Instr) (b : Behind) : Type 0 where
+pub record Waits (externals : ℕ) (is : List ProgramItem) (code : List Instr) (b : Behind) : Type 0 where
   pub behind : IsBehind externals is b.instrs.items b.octets (get nat_eq b.places)
   pub waits : b.line.items ≡ code

@@ -18,7 +18,7 @@ use Rattle.il_image.specs.declared.opcode.SlotUse.TheVariants.{Load, Store, SetI
 use Rattle.il_image.specs.declared.opcode.TimerUse.{TimerUse}
 use Rattle.il_image.specs.declared.opcode.TimerUse.TheVariants.{SetInput, SetPreset, Run, LoadOutput, LoadElapsed}
 use Rattle.il_image.specs.declared.value.Value.TheVariants.{Truth}
-use Rattle.il_check.specs.Program.{Entry, operation, block, Entries, no_entries, entry, Item, label, transfer, plain, Checked}
+use Rattle.il_check.specs.Program.{Entry, operation, block, Entries, no_entries, entry, ProgramItem, label, transfer, plain, Checked}
 use Rattle.il_check.specs.declared.typed.SimpleOperation.{SimpleOperation}
 use Rattle.il_check.specs.declared.typed.SimpleOperation.TheVariants as op
 use Rattle.il_check.specs.declared.typed.Slot as typed
@@ -136,7 +136,7 @@ octets code = length (all_spelled code)
 
 -- the octets of the items up to a label, or of all where there is none; those of a jump are the
 -- same at each distance
-abbrev pub octets_before : ℕ → ℕ → List Item → ℕ
+abbrev pub octets_before : ℕ → ℕ → List ProgramItem → ℕ
 octets_before externals l [] = 0
 octets_before externals l (label n ∷ is) = if n == l then 0 else octets_before externals l is
 octets_before externals l (transfer t ∷ is) =
@@ -145,13 +145,13 @@ octets_before externals l (plain e ∷ is) =
     octets (entry_code externals e) + octets_before externals l is
 
 -- A jump passes over what stands before its label, and a return over all octets behind it.
-abbrev pub distance : ℕ → Transfer → List Item → ℕ → ℕ
+abbrev pub distance : ℕ → Transfer → List ProgramItem → ℕ → ℕ
 distance externals (go.Jump condition l) is behind = octets_before externals l is
 distance externals (go.Return condition) is behind = behind
 distance externals (go.Call n args) is behind = 0
 
 -- the items, one behind the other
-abbrev pub items_code : ℕ → List Item → List Instr
+abbrev pub items_code : ℕ → List ProgramItem → List Instr
 items_code externals [] = []
 items_code externals (label n ∷ is) = items_code externals is
 items_code externals (transfer t ∷ is) =

@@ -18,13 +18,13 @@ use Rattle.il_image.specs.Arithmetic.{comparison_holds, computation_of, logic_of
 use Rattle.il_image.specs.Machine.{divides, is_comparable, value_of_width}
 use Rattle.il_image.specs.Timers.{after_call}
 use Rattle.il_image.specs.Values.{number_of, type_of}
-use Rattle.il_image.specs.declared.arithmetic.Operation.{Operation}
+use Rattle.il_image.specs.declared.arithmetic.ArithmeticOperation.{ArithmeticOperation}
 use Rattle.il_image.specs.declared.arithmetic.Width.{Width}
 use Rattle.il_image.specs.declared.arithmetic.Width.TheVariants as width
 use Rattle.il_image.specs.declared.timer.TimerState.{TimerState}
 use Rattle.il_image.specs.declared.value.Value.{Value}
 use Rattle.il_image.specs.declared.value.Value.TheVariants.{Truth, Short, Long, Wide, Span}
-use Rattle.il_check.specs.Program.{Entry, operation, block, Entries, no_entries, entry, Item, label, transfer, plain}
+use Rattle.il_check.specs.Program.{Entry, operation, block, Entries, no_entries, entry, ProgramItem, label, transfer, plain}
 use Rattle.il_check.specs.declared.typed.SimpleOperation.{SimpleOperation}
 use Rattle.il_check.specs.declared.typed.SimpleOperation.TheVariants as op
 use Rattle.il_check.specs.declared.typed.Slot.{Slot}
@@ -67,12 +67,12 @@ connected_values (Truth a) (Truth b) f = Some (Truth (f a b))
 connected_values a b f = None
 
 -- of two numbers of one width; none is divided by 0
-abbrev pub computed_in : Width → Operation → ℤ → ℤ → Option Value
+abbrev pub computed_in : Width → ArithmeticOperation → ℤ → ℤ → Option Value
 computed_in w o a b =
     if divides o && int_eq b (pos 0) then None else Some (value_of_width w (computation_of o w a b))
 
 -- of two numbers of one type
-abbrev pub computed_values : Operation → Value → Value → Option Value
+abbrev pub computed_values : ArithmeticOperation → Value → Value → Option Value
 computed_values o (Short a) (Short b) = computed_in width.Int o a b
 computed_values o (Long a) (Long b) = computed_in width.Dint o a b
 computed_values o (Wide a) (Wide b) = computed_in width.Lint o a b
@@ -236,7 +236,7 @@ run_timer now n args s = do
 
 -- At a moment, the items one behind the other; or where a label is sought, those behind it. A jump
 -- goes on behind its label, and a return ends the run.
-abbrev pub mean_from : ℕ → Option ℕ → List Item → State → Option State
+abbrev pub mean_from : ℕ → Option ℕ → List ProgramItem → State → Option State
 mean_from now None [] s = Some s
 mean_from now (Some l) [] s = None
 mean_from now (Some l) (label n ∷ is) s =
@@ -258,6 +258,6 @@ mean_from now None (plain e ∷ is) s = do
   mean_from now None is behind
 
 -- A program begins with a result that is not set; what it leaves in memory is what it means.
-abbrev pub mean : ℕ → List Item → Memory → Option Memory
+abbrev pub mean : ℕ → List ProgramItem → Memory → Option Memory
 mean now items m =
     option_map (λ s. s.memory) (mean_from now None items (record { result = None; memory = m }))

@@ -8,8 +8,8 @@ use Rattle.il_text.specs.declared.program.Operator.{Operator}
 use Rattle.il_text.specs.declared.program.Operator.TheVariants as operator
 use Rattle.il_image.specs.declared.arithmetic.Comparison.{Comparison}
 use Rattle.il_image.specs.declared.arithmetic.Comparison.TheVariants.{Gt, Ge, Eq, Ne, Le, Lt}
-use Rattle.il_image.specs.declared.arithmetic.Operation.{Operation}
-use Rattle.il_image.specs.declared.arithmetic.Operation.TheVariants.{Add, Sub, Mul, Div, Mod}
+use Rattle.il_image.specs.declared.arithmetic.ArithmeticOperation.{ArithmeticOperation}
+use Rattle.il_image.specs.declared.arithmetic.ArithmeticOperation.TheVariants.{Add, Sub, Mul, Div, Mod}
 use Rattle.il_image.specs.declared.opcode.Connective.{Connective}
 use Rattle.il_image.specs.declared.opcode.Connective.TheVariants.{And, Or, Xor}
 use Rattle.il_image.specs.declared.opcode.When.{When}
@@ -20,7 +20,7 @@ use Rattle.il_image.specs.declared.opcode.Widening.TheVariants as widening
 -- An operator connects BOOLs, computes with numbers of one width, or compares values of one type.
 pub data Sense : Type 0 where
   connects : Connective → Sense
-  computes : Operation → Sense
+  computes : ArithmeticOperation → Sense
   compares : Comparison → Sense
 
 -- what an operator does

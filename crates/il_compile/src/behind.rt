@@ -2,7 +2,7 @@
 // over is.
 ghost use Rattle.std.specs.Prelude.{◌≡◌, ℕ, List, ◌+◌, ◌≤◌, ◌∷◌, [], ◌++◌, length, map, min, reverse, IfOk, OnOk};
 ghost use Rattle.il_image.specs.Spelling.{spelling};
-ghost use Rattle.il_check.specs.Program.{Item, label, plain, transfer};
+ghost use Rattle.il_check.specs.Program.{ProgramItem, label, plain, transfer};
 ghost use Rattle.il_check.specs.ProgramViews.{entry_view, item_view};
 ghost use Rattle.il_compile.specs.Behind.{AreSpellable, IsBehind, IsSettled, IsSpellable, IsSpellableEntry, octets_bound};
 ghost use Rattle.il_compile.specs.Code as spec;
@@ -113,7 +113,7 @@ impl Behind {
 
     // A label stands where the octets behind it begin.
     fn put_label(&mut self, number: usize) -> Result<(), AllocError>
-        ensures { (externals : ℕ) (is : List Item) → IsSettled externals is self.old
+        ensures { (externals : ℕ) (is : List ProgramItem) → IsSettled externals is self.old
             → OnOk result (IsSettled externals (label number ∷ is) self.new) }
     {
         self.places.insert(number, self.octets)?;
@@ -124,7 +124,7 @@ impl Behind {
     fn put_plain(&mut self, externals: usize, entry: &TypedEntry) -> Result<(), AllocError>
         requires bounded { self.old.octets ≤ octets_bound }
         requires spellable { IsSpellableEntry externals (entry_view entry.now) }
-        ensures { (is : List Item) → IsSettled externals is self.old
+        ensures { (is : List ProgramItem) → IsSettled externals is self.old
             → OnOk result (IsSettled externals (plain (entry_view entry.now) ∷ is) self.new) }
     {
         put_entry(&mut self.line, externals, entry)?;
@@ -134,7 +134,7 @@ impl Behind {
     // Puts a jump over the octets between it and its label.
     fn put_jump(&mut self, condition: Condition, label: usize) -> Result<(), AllocError>
         requires { self.old.octets ≤ octets_bound }
-        ensures { (externals : ℕ) (is : List Item) → IsSettled externals is self.old
+        ensures { (externals : ℕ) (is : List ProgramItem) → IsSettled externals is self.old
             → OnOk result (IsSettled externals (transfer (Transfer.Jump condition label) ∷ is)
             self.new) }
     {
@@ -147,7 +147,7 @@ impl Behind {
     // Puts a jump over all that is behind it.
     fn put_return(&mut self, condition: Condition) -> Result<(), AllocError>
         requires { self.old.octets ≤ octets_bound }
-        ensures { (externals : ℕ) (is : List Item) → IsSettled externals is self.old
+        ensures { (externals : ℕ) (is : List ProgramItem) → IsSettled externals is self.old
             → OnOk result (IsSettled externals (transfer (Transfer.Return condition) ∷ is)
             self.new) }
     {
@@ -165,7 +165,7 @@ impl Behind {
     ) -> Result<(), AllocError>
         requires bounded { self.old.octets ≤ octets_bound }
         requires spellable { IsSpellable externals (transfer (Transfer.Call timer arguments)) }
-        ensures { (is : List Item) → IsSettled externals is self.old
+        ensures { (is : List ProgramItem) → IsSettled externals is self.old
             → OnOk result (IsSettled externals (transfer (Transfer.Call timer arguments) ∷ is)
             self.new) }
     {
@@ -177,7 +177,7 @@ impl Behind {
     fn put_item(&mut self, externals: usize, item: &TypedItem) -> Result<(), AllocError>
         requires bounded { self.old.octets ≤ octets_bound }
         requires spellable { IsSpellable externals (item_view item.now) }
-        ensures { (is : List Item) → IsSettled externals is self.old
+        ensures { (is : List ProgramItem) → IsSettled externals is self.old
             → OnOk result (IsSettled externals (item_view item.now ∷ is) self.new) }
     {
         match item {

@@ -11,7 +11,7 @@ use bay_base::types::ElementaryType;
 use il_check::typed::{
     SimpleOperation, Slot, TypedArgument, TypedArguments, TypedEntry, TypedOperand,
 };
-use il_image::arithmetic::{Comparison, Operation, Width};
+use il_image::arithmetic::{ArithmeticOperation, Comparison, Width};
 use il_image::instr::Instr;
 use il_image::opcode::{Connective, SlotUse, TimerUse, When, Widening};
 use il_image::value::Value;
@@ -63,11 +63,11 @@ fn operator_instr(operator: Operator, kind: ElementaryType) -> Instr
         Operator::And => Instr::Combine(Connective::And),
         Operator::Or => Instr::Combine(Connective::Or),
         Operator::Xor => Instr::Combine(Connective::Xor),
-        Operator::Add => Instr::Compute(Operation::Add, width_of(kind)),
-        Operator::Sub => Instr::Compute(Operation::Sub, width_of(kind)),
-        Operator::Mul => Instr::Compute(Operation::Mul, width_of(kind)),
-        Operator::Div => Instr::Compute(Operation::Div, width_of(kind)),
-        Operator::Mod => Instr::Compute(Operation::Mod, width_of(kind)),
+        Operator::Add => Instr::Compute(ArithmeticOperation::Add, width_of(kind)),
+        Operator::Sub => Instr::Compute(ArithmeticOperation::Sub, width_of(kind)),
+        Operator::Mul => Instr::Compute(ArithmeticOperation::Mul, width_of(kind)),
+        Operator::Div => Instr::Compute(ArithmeticOperation::Div, width_of(kind)),
+        Operator::Mod => Instr::Compute(ArithmeticOperation::Mod, width_of(kind)),
         Operator::Gt => Instr::Compare(Comparison::Gt),
         Operator::Ge => Instr::Compare(Comparison::Ge),
         Operator::Eq => Instr::Compare(Comparison::Eq),
@@ -203,7 +203,7 @@ pub(crate) fn put_entry(
         ≡ code.old.items ++ spec.entry_code externals (entry_view entry.now)) }
 {
     match entry {
-        TypedEntry::Operation(operation) => put_operation(code, externals, *operation),
+        TypedEntry::ArithmeticOperation(operation) => put_operation(code, externals, *operation),
         TypedEntry::Block {
             operator,
             kind,

@@ -1,6 +1,6 @@
 // Laws of the definitions. Each function does nothing, and its contract is the law.
 ghost use Rattle.std.specs.Prelude.{◌≡◌, ℕ, ◌∷◌, List, Some, None, true, false};
-ghost use Rattle.il_check.specs.Program.{Checked, Item, transfer};
+ghost use Rattle.il_check.specs.Program.{Checked, ProgramItem, transfer};
 ghost use Rattle.il_check.specs.TypedProgram.{IsTyped};
 ghost use Rattle.il_check.specs.declared.typed.Transfer.TheVariants as Transfer;
 ghost use Rattle.il_text.specs.declared.program.Condition.{Condition};
@@ -18,11 +18,11 @@ pub fn programs_have_a_meaning()
 /// A jump that is taken continues with the items after its label, with the same result and the same
 /// memory; a jump that is not taken continues with the next item.
 pub fn jumps_go_on()
-    ensures taken { (now : ℕ) (condition : Condition) (l : ℕ) (is : List Item) (s : State)
+    ensures taken { (now : ℕ) (condition : Condition) (l : ℕ) (is : List ProgramItem) (s : State)
         → goes condition s.result ≡ Some true →
         mean_from now None (transfer (Transfer.Jump condition l) ∷ is) s
         ≡ mean_behind now (items_behind l is) s }
-    ensures not_taken { (now : ℕ) (condition : Condition) (l : ℕ) (is : List Item) (s : State)
+    ensures not_taken { (now : ℕ) (condition : Condition) (l : ℕ) (is : List ProgramItem) (s : State)
         → goes condition s.result ≡ Some false →
         mean_from now None (transfer (Transfer.Jump condition l) ∷ is) s ≡ mean_from now None is s }
 {}

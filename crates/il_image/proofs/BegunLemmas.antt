@@ -12,7 +12,7 @@ use Rattle.il_image.specs.declared.opcode.TimerUse.TheVariants.{SetInput, SetPre
 use Rattle.il_image.specs.declared.timer.TimerState.{TimerState}
 use Rattle.il_image.specs.declared.value.Value.{Value}
 use Rattle.il_image.specs.declared.value.Value.TheVariants.{Truth}
-use Rattle.il_image.specs.Machine.{State, Turn, Goes, Halts, Traps, MissingSlot, MissingTimer, WrongKind, ZeroDivisor, Ending, Unfinished, act, as_number, as_span, as_truth, divides, ending_of, goes, is_comparable, pushes, run_from, stores, value_of_width, turn_of, with_slot, with_timer, with_top, with_truths, with_two, most_cells}
+use Rattle.il_image.specs.Machine.{State, StepResult, Goes, Halts, Traps, MissingSlot, MissingTimer, WrongKind, ZeroDivisor, Ending, Unfinished, act, as_number, as_span, as_truth, divides, ending_of, goes, is_comparable, pushes, run_from, stores, value_of_width, turn_of, with_slot, with_timer, with_top, with_truths, with_two, most_cells}
 use Rattle.bay_base.specs.Types.{same_type}
 use Rattle.il_image.specs.Arithmetic.{comparison_holds, computation_of, wider_value}
 use Rattle.il_image.specs.Values.{number_of, type_of}
@@ -108,56 +108,56 @@ begun code place p = rw (told code place p) refl
 -- ---- where an instruction lands
 
 -- Where it goes on, the place is one of these.
-abbrev Lands : (ℕ → Type 0) → Turn → Type 0
+abbrev Lands : (ℕ → Type 0) → StepResult → Type 0
 Lands P (Goes s) = P s.place
 Lands P Halts = Unit {0}
 Lands P (Traps trap) = Unit {0}
 
 module _ (P : ℕ → Type 0) where
-  lands-if : (b : Bool) (x y : Turn) → Lands P x → Lands P y → Lands P (cond b x y)
+  lands-if : (b : Bool) (x y : StepResult) → Lands P x → Lands P y → Lands P (cond b x y)
   lands-if true x y h g = h
   lands-if false x y h g = g
 
   lands-pushes : (v : Value) (to : ℕ) (s : State) → P to → Lands P (pushes v to s)
   lands-pushes v to s h = lands-if (ltb (length s.cells) most_cells) _ _ h tt
 
-  lands-top : (cells : List Value) (f : Value → List Value → Turn)
+  lands-top : (cells : List Value) (f : Value → List Value → StepResult)
       → ((v : Value) (below : List Value) → Lands P (f v below)) → Lands P (with_top cells f)
   lands-top [] f h = tt
   lands-top (v ∷ below) f h = h v below
 
-  lands-two : (cells : List Value) (f : Value → Value → List Value → Turn)
+  lands-two : (cells : List Value) (f : Value → Value → List Value → StepResult)
       → ((a b : Value) (below : List Value) → Lands P (f a b below)) → Lands P (with_two cells f)
   lands-two [] f h = tt
   lands-two (v ∷ []) f h = tt
   lands-two (b ∷ a ∷ below) f h = h a b below
 
-  lands-truth : (v : Value) (f : Bool → Turn) → ((b : Bool) → Lands P (f b))
+  lands-truth : (v : Value) (f : Bool → StepResult) → ((b : Bool) → Lands P (f b))
       → Lands P (as_truth v f)
   lands-truth v f h = grind (arith, common_steps)
 
-  lands-span : (v : Value) (f : ℕ → Turn) → ((n : ℕ) → Lands P (f n)) → Lands P (as_span v f)
+  lands-span : (v : Value) (f : ℕ → StepResult) → ((n : ℕ) → Lands P (f n)) → Lands P (as_span v f)
   lands-span v f h = grind (arith, common_steps)
 
-  lands-number : (w : Width) (v : Value) (f : ℤ → Turn) → ((z : ℤ) → Lands P (f z))
+  lands-number : (w : Width) (v : Value) (f : ℤ → StepResult) → ((z : ℤ) → Lands P (f z))
       → Lands P (as_number w v f)
   lands-number w v f h = grind (arith, common_steps)
 
-  lands-slot : (n : ℕ) (s : State) (f : Value → Turn) → ((v : Value) → Lands P (f v))
+  lands-slot : (n : ℕ) (s : State) (f : Value → StepResult) → ((v : Value) → Lands P (f v))
       → Lands P (with_slot n s f)
   lands-slot n s f h =
       elim (slice_get s.slots n) as
       (λ o. Lands P (elim o [ None ↦ Traps MissingSlot | Some v ↦ f v ]))
       [ None ↦ tt | Some v ↦ h v ]
 
-  lands-timer : (n : ℕ) (s : State) (f : TimerState → Turn) → ((t : TimerState) → Lands P (f t))
+  lands-timer : (n : ℕ) (s : State) (f : TimerState → StepResult) → ((t : TimerState) → Lands P (f t))
       → Lands P (with_timer n s f)
   lands-timer n s f h =
       elim (slice_get s.timers n) as
       (λ o. Lands P (elim o [ None ↦ Traps MissingTimer | Some t ↦ f t ]))
       [ None ↦ tt | Some t ↦ h t ]
 
-  lands-truths : (n : ℕ) (s : State) (f : Bool → Bool → Turn) → ((a b : Bool) → Lands P (f a b))
+  lands-truths : (n : ℕ) (s : State) (f : Bool → Bool → StepResult) → ((a b : Bool) → Lands P (f a b))
       → Lands P (with_truths n s f)
   lands-truths n s f h =
       lands-slot n s _ (λ slot. lands-top s.cells _
@@ -240,7 +240,7 @@ pub record IsClosed (code : List ℕ) : Type 0 where
   pub leads : (place to : ℕ) → IsPlace code place → IsSuccessor code place to → IsPlace code to
 
 -- the step of the machine that reads at any octet
-abbrev pub loose_turn : List ℕ → ℕ → State → Turn
+abbrev pub loose_turn : List ℕ → ℕ → State → StepResult
 loose_turn code now s = turn_of now (instr_at code s.place) s
 
 unfoldable pub loose_run : List ℕ → ℕ → ℕ → State → ℕ → Ending
@@ -250,7 +250,7 @@ loose_run code now (suc most) s steps =
     (λ after. loose_run code now most after (steps + 1))
 
 module _ (code : List ℕ) (now : ℕ) (closed : IsClosed code) where
-  same-ending : (most steps : ℕ) (s : State) (t : Turn) → Lands (λ to. IsPlace code to) t
+  same-ending : (most steps : ℕ) (s : State) (t : StepResult) → Lands (λ to. IsPlace code to) t
       → ((after : State) → IsPlace code after.place
       → loose_run code now most after (steps + 1) ≡ run_from code now most after (steps + 1))
       → ending_of t s (steps + 1) (λ after. loose_run code now most after (steps + 1))
@@ -259,7 +259,7 @@ module _ (code : List ℕ) (now : ℕ) (closed : IsClosed code) where
   same-ending most steps s Halts h more = refl
   same-ending most steps s (Traps trap) h more = refl
 
-  lands-more : (i : Instr) (next place : ℕ) (t : Turn) → IsPlace code place
+  lands-more : (i : Instr) (next place : ℕ) (t : StepResult) → IsPlace code place
       → instr_at code place ≡ Some (i, next) → Lands (λ to. LeadsTo i next to) t
       → Lands (λ to. IsPlace code to) t
   lands-more i next place (Goes after) p here h =

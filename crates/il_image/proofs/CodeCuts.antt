@@ -14,7 +14,7 @@ use Rattle.il_image.specs.declared.fault.ImageFault.{ImageFault}
 use Rattle.il_image.specs.declared.fault.ImageFault.TheVariants.{BadOpcode, Truncated}
 use Rattle.il_image.specs.declared.instr.Instr.{Instr}
 use Rattle.il_image.specs.declared.instr.Instr.TheVariants as instr
-use Rattle.il_image.specs.declared.arithmetic.Operation.{Operation}
+use Rattle.il_image.specs.declared.arithmetic.ArithmeticOperation.{ArithmeticOperation}
 use Rattle.il_image.specs.declared.arithmetic.Width.{Width}
 use Rattle.il_image.specs.declared.arithmetic.Width.TheVariants as width
 use Rattle.il_image.specs.declared.opcode.Opcode.{Opcode}
@@ -159,7 +159,7 @@ push-begins version elementary.Lint octets = zero-operand version (opcode.Push e
 push-begins version elementary.Time octets = zero-operand version (opcode.Push elementary.Time) 4
     (instr.Push (default_value elementary.Time)) octets refl
 
-width-reads : (version : Version) (o : Operation)
+width-reads : (version : Version) (o : ArithmeticOperation)
     → operand_from version (opcode.Compute o) (2 ∷ []) ≡ Ok (instr.Compute o width.Int, [])
 width-reads One o = refl
 width-reads Two o = refl

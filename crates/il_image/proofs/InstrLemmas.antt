@@ -10,7 +10,7 @@ use Rattle.bay_base.specs.declared.types.ElementaryType.{ElementaryType}
 use Rattle.bay_base.specs.declared.types.ElementaryType.TheVariants as elementary
 use Rattle.il_image.specs.declared.arithmetic.Width.{Width}
 use Rattle.il_image.specs.declared.arithmetic.Width.TheVariants as width
-use Rattle.il_image.specs.declared.arithmetic.Operation.TheVariants.{Add}
+use Rattle.il_image.specs.declared.arithmetic.ArithmeticOperation.TheVariants.{Add}
 use Rattle.il_image.specs.declared.arithmetic.Comparison.TheVariants.{Gt}
 use Rattle.il_image.specs.declared.fault.ImageFault.{ImageFault}
 use Rattle.il_image.specs.declared.fault.ImageFault.TheVariants.{BadOpcode}

@@ -5,8 +5,8 @@ use Rattle.std.specs.Int.{Width as Bits, w16, w32, w64, int_wrap}
 use Rattle.std.specs.Ordering.{int_eq}
 use Rattle.il_image.specs.declared.arithmetic.Width.{Width}
 use Rattle.il_image.specs.declared.arithmetic.Width.TheVariants as width
-use Rattle.il_image.specs.declared.arithmetic.Operation.{Operation}
-use Rattle.il_image.specs.declared.arithmetic.Operation.TheVariants.{Add, Sub, Mul, Div, Mod}
+use Rattle.il_image.specs.declared.arithmetic.ArithmeticOperation.{ArithmeticOperation}
+use Rattle.il_image.specs.declared.arithmetic.ArithmeticOperation.TheVariants.{Add, Sub, Mul, Div, Mod}
 use Rattle.il_image.specs.declared.arithmetic.Comparison.{Comparison}
 use Rattle.il_image.specs.declared.arithmetic.Comparison.TheVariants.{Gt, Ge, Eq, Ne, Le, Lt}
 use Rattle.bay_base.specs.declared.types.ElementaryType.{ElementaryType}
@@ -35,7 +35,7 @@ abbrev pub wrap_to : Width → ℤ → ℤ
 wrap_to width z = int_wrap (bits_of width) z
 
 -- the integer result: DIV rounds toward zero, and a MOD b is a - (a DIV b) * b
-abbrev pub exact : Operation → ℤ → ℤ → ℤ
+abbrev pub exact : ArithmeticOperation → ℤ → ℤ → ℤ
 exact Add a b = a +ℤ b
 exact Sub a b = a -ℤ b
 exact Mul a b = a *ℤ b
@@ -43,11 +43,11 @@ exact Div a b = int_div a b
 exact Mod a b = a -ℤ (int_div a b *ℤ b)
 
 -- the result of an operation: the exact integer, reduced into the width
-abbrev pub computation_of : Operation → Width → ℤ → ℤ → ℤ
+abbrev pub computation_of : ArithmeticOperation → Width → ℤ → ℤ → ℤ
 computation_of operation width a b = wrap_to width (exact operation a b)
 
 -- The operation may be done with this second operand: a divisor is not 0.
-abbrev pub DividesBy : Operation → ℤ → Type 0
+abbrev pub DividesBy : ArithmeticOperation → ℤ → Type 0
 DividesBy Add b = Unit {0}
 DividesBy Sub b = Unit {0}
 DividesBy Mul b = Unit {0}

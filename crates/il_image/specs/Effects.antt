@@ -8,7 +8,7 @@ use Rattle.bay_base.specs.Options.{◌>>=◌}
 use Rattle.bay_base.specs.Types.{same_type}
 use Rattle.il_image.specs.declared.arithmetic.Width.{Width}
 use Rattle.il_image.specs.declared.arithmetic.Width.TheVariants as width
-use Rattle.il_image.specs.declared.arithmetic.Operation.{Operation}
+use Rattle.il_image.specs.declared.arithmetic.ArithmeticOperation.{ArithmeticOperation}
 use Rattle.il_image.specs.declared.arithmetic.Comparison.{Comparison}
 use Rattle.il_image.specs.declared.instr.Instr.{Instr}
 use Rattle.il_image.specs.declared.instr.Instr.TheVariants.{Halt, Push, Drop, Slot, Not, Combine, Compute, Compare, Widen, Jump, Timer}
@@ -51,7 +51,7 @@ kind_of (Wide z) = kind_of_number width.Lint z
 kind_of (Span n) = Plain elementary.Time
 
 -- what an operation wants on top
-abbrev pub second_kind : Operation → Width → CellKind
+abbrev pub second_kind : ArithmeticOperation → Width → CellKind
 second_kind o w = if divides o then NotZero w else Plain (type_of_width w)
 
 -- the type that a kind shows

@@ -3,8 +3,8 @@ use Rattle.std.specs.Prelude.{ℕ, ℤ, zero, suc, pos, ◌+◌, ◌&&◌, ◌||
 use Rattle.std.specs.Ordering.{int_eq}
 use Rattle.il_image.specs.declared.arithmetic.Width.{Width}
 use Rattle.il_image.specs.declared.arithmetic.Width.TheVariants as width
-use Rattle.il_image.specs.declared.arithmetic.Operation.{Operation}
-use Rattle.il_image.specs.declared.arithmetic.Operation.TheVariants.{Add, Sub, Mul, Div, Mod}
+use Rattle.il_image.specs.declared.arithmetic.ArithmeticOperation.{ArithmeticOperation}
+use Rattle.il_image.specs.declared.arithmetic.ArithmeticOperation.TheVariants.{Add, Sub, Mul, Div, Mod}
 use Rattle.il_image.specs.declared.arithmetic.Comparison.{Comparison}
 use Rattle.il_image.specs.declared.arithmetic.Comparison.TheVariants.{Gt, Ge, Eq, Ne, Le, Lt}
 use Rattle.il_image.specs.declared.instr.Instr.{Instr}
@@ -43,10 +43,10 @@ pub data Trap : Type 0 where
   OutsideCode : Trap
 
 -- what one step comes to
-pub data Turn : Type 0 where
-  Goes : State → Turn
-  Halts : Turn
-  Traps : Trap → Turn
+pub data StepResult : Type 0 where
+  Goes : State → StepResult
+  Halts : StepResult
+  Traps : Trap → StepResult
 
 -- ---- the size of a machine: the most cells of its operand stack, and the most slots and timers
 
@@ -63,68 +63,68 @@ most_timers = 64
 -- cells, kinds, divisor, room
 
 -- goes on at a place, with these cells
-abbrev pub goes : ℕ → List Value → State → Turn
+abbrev pub goes : ℕ → List Value → State → StepResult
 goes to cells s = Goes (record s { place = to; cells = cells })
 
 -- one more cell, where there is room
-abbrev pub pushes : Value → ℕ → State → Turn
+abbrev pub pushes : Value → ℕ → State → StepResult
 pushes v to s =
     if nat_lt (length s.cells) most_cells then goes to (v ∷ s.cells) s else Traps FullStack
 
 -- the top, and the cells below it
-abbrev pub with_top : List Value → (Value → List Value → Turn) → Turn
+abbrev pub with_top : List Value → (Value → List Value → StepResult) → StepResult
 with_top [] act = Traps EmptyStack
 with_top (top ∷ below) act = act top below
 
 -- the two operands, the second of which is the top
-abbrev pub with_two : List Value → (Value → Value → List Value → Turn) → Turn
+abbrev pub with_two : List Value → (Value → Value → List Value → StepResult) → StepResult
 with_two [] act = Traps EmptyStack
 with_two (top ∷ []) act = Traps EmptyStack
 with_two (second ∷ first ∷ below) act = act first second below
 
 -- a cell that has to be a BOOL
-abbrev pub as_truth : Value → (Bool → Turn) → Turn
+abbrev pub as_truth : Value → (Bool → StepResult) → StepResult
 as_truth (Truth b) act = act b
 as_truth v act = Traps WrongKind
 
 -- a cell that has to be a TIME
-abbrev pub as_span : Value → (ℕ → Turn) → Turn
+abbrev pub as_span : Value → (ℕ → StepResult) → StepResult
 as_span (Span n) act = act n
 as_span v act = Traps WrongKind
 
 -- a cell that has to be a number of the width
-abbrev pub as_number : Width → Value → (ℤ → Turn) → Turn
+abbrev pub as_number : Width → Value → (ℤ → StepResult) → StepResult
 as_number width.Int (Short z) act = act z
 as_number width.Dint (Long z) act = act z
 as_number width.Lint (Wide z) act = act z
 as_number w v act = Traps WrongKind
 
 -- the slot of a number
-abbrev pub with_slot : ℕ → State → (Value → Turn) → Turn
+abbrev pub with_slot : ℕ → State → (Value → StepResult) → StepResult
 with_slot n s act = elim (slice_get s.slots n) [ None ↦ Traps MissingSlot | Some v ↦ act v ]
 
 -- the timer of a number
-abbrev pub with_timer : ℕ → State → (TimerState → Turn) → Turn
+abbrev pub with_timer : ℕ → State → (TimerState → StepResult) → StepResult
 with_timer n s act = elim (slice_get s.timers n) [ None ↦ Traps MissingTimer | Some t ↦ act t ]
 
 -- the top and a slot, which are BOOLs
-abbrev pub with_truths : ℕ → State → (Bool → Bool → Turn) → Turn
+abbrev pub with_truths : ℕ → State → (Bool → Bool → StepResult) → StepResult
 with_truths n s act =
     with_slot n s (λ slot. with_top s.cells
     (λ top below. as_truth top (λ b. as_truth slot (λ old. act b old))))
 
 -- two numbers of a width
-abbrev pub with_numbers : Width → State → (ℤ → ℤ → List Value → Turn) → Turn
+abbrev pub with_numbers : Width → State → (ℤ → ℤ → List Value → StepResult) → StepResult
 with_numbers w s act =
     with_two s.cells (λ first second below. as_number w second
     (λ b. as_number w first (λ a. act a b below)))
 
 -- a slot changes
-abbrev pub stores : ℕ → Value → ℕ → State → Turn
+abbrev pub stores : ℕ → Value → ℕ → State → StepResult
 stores n v to s = Goes (record s { place = to; slots = slice_set s.slots n v })
 
 -- a timer changes, and the cells with it
-abbrev pub changes : ℕ → TimerState → ℕ → List Value → State → Turn
+abbrev pub changes : ℕ → TimerState → ℕ → List Value → State → StepResult
 changes n t to cells s =
     Goes (record s { place = to; cells = cells; timers = slice_set s.timers n t })
 
@@ -135,7 +135,7 @@ value_of_width width.Dint z = Long z
 value_of_width width.Lint z = Wide z
 
 -- the operation has a divisor
-abbrev pub divides : Operation → Bool
+abbrev pub divides : ArithmeticOperation → Bool
 divides Div = true
 divides Mod = true
 divides Add = false
@@ -160,88 +160,88 @@ is_comparable c a b =
 -- ---- what each instruction does, with the place behind it
 
 -- The top goes.
-abbrev pub drops : ℕ → State → Turn
+abbrev pub drops : ℕ → State → StepResult
 drops next s = with_top s.cells (λ top below. goes next below s)
 
 -- The slot's value is put on the stack.
-abbrev pub loads : ℕ → ℕ → State → Turn
+abbrev pub loads : ℕ → ℕ → State → StepResult
 loads n next s = with_slot n s (λ slot. pushes slot next s)
 
 -- The slot takes the top, which is of its type.
-abbrev pub stores_top : ℕ → ℕ → State → Turn
+abbrev pub stores_top : ℕ → ℕ → State → StepResult
 stores_top n next s =
     with_slot n s (λ slot. with_top s.cells
     (λ top below. if same_type (type_of top) (type_of slot) then stores n top next s
     else Traps WrongKind))
 
 -- The slot becomes TRUE where the top is TRUE.
-abbrev pub sets : ℕ → ℕ → State → Turn
+abbrev pub sets : ℕ → ℕ → State → StepResult
 sets n next s = with_truths n s (λ top old. stores n (Truth (top || old)) next s)
 
 -- The slot becomes FALSE where the top is TRUE.
-abbrev pub resets : ℕ → ℕ → State → Turn
+abbrev pub resets : ℕ → ℕ → State → StepResult
 resets n next s = with_truths n s (λ top old. stores n (Truth (not top && old)) next s)
 
 -- The top is negated.
-abbrev pub inverts : ℕ → State → Turn
+abbrev pub inverts : ℕ → State → StepResult
 inverts next s =
     with_top s.cells (λ top below. as_truth top (λ b. goes next (Truth (not b) ∷ below) s))
 
 -- Two BOOLs become one.
-abbrev pub connects : Connective → ℕ → State → Turn
+abbrev pub connects : Connective → ℕ → State → StepResult
 connects c next s =
     with_two s.cells (λ first second below. as_truth second
     (λ b. as_truth first (λ a. goes next (Truth (logic_of c a b) ∷ below) s)))
 
 -- Two numbers become their result; the divisor is not 0.
-abbrev pub computes : Operation → Width → ℕ → State → Turn
+abbrev pub computes : ArithmeticOperation → Width → ℕ → State → StepResult
 computes o w next s =
     with_numbers w s (λ a b below. if divides o && int_eq b (pos 0) then Traps ZeroDivisor
     else goes next (value_of_width w (computation_of o w a b) ∷ below) s)
 
 -- Two values become a BOOL.
-abbrev pub compares : Comparison → ℕ → State → Turn
+abbrev pub compares : Comparison → ℕ → State → StepResult
 compares c next s =
     with_two s.cells (λ a b below. if is_comparable c a b
     then goes next (Truth (comparison_holds c (number_of a) (number_of b)) ∷ below) s
     else Traps WrongKind)
 
 -- The top becomes a value of the wider type.
-abbrev pub widens : Widening → ℕ → State → Turn
+abbrev pub widens : Widening → ℕ → State → StepResult
 widens w next s =
     with_top s.cells (λ top below.
     elim (wider_value w top) [ None ↦ Traps WrongKind | Some v ↦ goes next (v ∷ below) s ])
 
 -- A jump looks at the top, and leaves it.
-abbrev pub jumps_where : (Bool → ℕ) → State → Turn
+abbrev pub jumps_where : (Bool → ℕ) → State → StepResult
 jumps_where to s = with_top s.cells (λ top below. as_truth top (λ b. goes (to b) s.cells s))
 
 -- The top becomes IN of the timer.
-abbrev pub takes_input : ℕ → ℕ → State → Turn
+abbrev pub takes_input : ℕ → ℕ → State → StepResult
 takes_input n next s =
     with_timer n s (λ t. with_top s.cells
     (λ top below. as_truth top (λ b. changes n (record t { input = b }) next below s)))
 
 -- The top becomes PT of the timer.
-abbrev pub takes_preset : ℕ → ℕ → State → Turn
+abbrev pub takes_preset : ℕ → ℕ → State → StepResult
 takes_preset n next s =
     with_timer n s (λ t. with_top s.cells
     (λ top below. as_span top (λ preset. changes n (record t { preset = preset }) next below s)))
 
 -- The timer is called at the moment.
-abbrev pub runs_timer : ℕ → ℕ → ℕ → State → Turn
+abbrev pub runs_timer : ℕ → ℕ → ℕ → State → StepResult
 runs_timer now n next s = with_timer n s (λ t. changes n (after_call t now) next s.cells s)
 
 -- Q is put on the stack.
-abbrev pub loads_output : ℕ → ℕ → State → Turn
+abbrev pub loads_output : ℕ → ℕ → State → StepResult
 loads_output n next s = with_timer n s (λ t. pushes (Truth t.output) next s)
 
 -- ET is put on the stack.
-abbrev pub loads_elapsed : ℕ → ℕ → State → Turn
+abbrev pub loads_elapsed : ℕ → ℕ → State → StepResult
 loads_elapsed n next s = with_timer n s (λ t. pushes (Span t.elapsed) next s)
 
 -- one instruction at a moment
-unfoldable pub act : ℕ → Instr → ℕ → State → Turn
+unfoldable pub act : ℕ → Instr → ℕ → State → StepResult
 act now Halt next s = Halts
 act now (Push v) next s = pushes v next s
 act now Drop next s = drops next s
@@ -266,12 +266,12 @@ act now (Timer LoadElapsed n) next s = loads_elapsed n next s
 -- ---- a step, and a run
 
 -- the step of the instruction that was read, if one stands there
-abbrev pub turn_of : ℕ → Option (Instr × ℕ) → State → Turn
+abbrev pub turn_of : ℕ → Option (Instr × ℕ) → State → StepResult
 turn_of now None s = Traps OutsideCode
 turn_of now (Some read) s = act now read.0 read.1 s
 
 -- the step from a state, whose place has to be one at which an instruction begins
-abbrev pub turn : List ℕ → ℕ → State → Turn
+abbrev pub turn : List ℕ → ℕ → State → StepResult
 turn code now s = turn_of now (begun_at code s.place) s
 
 -- how a run ends: at HALT, with the slots, the timers and the number of steps, HALT's too; in a
@@ -282,7 +282,7 @@ pub data Ending : Type 0 where
   Unfinished : Ending
 
 -- the end of a run by its next step
-abbrev pub ending_of : Turn → State → ℕ → (State → Ending) → Ending
+abbrev pub ending_of : StepResult → State → ℕ → (State → Ending) → Ending
 ending_of (Goes after) s steps rest = rest after
 ending_of Halts s steps rest = Halted s.slots s.timers steps
 ending_of (Traps trap) s steps rest = Trapped trap

@@ -18,7 +18,7 @@ pub enum Width {
 
 /// An arithmetic operation. Results wrap at the width.
 #[derive(Clone, Copy, PartialEq, Eq)]
-pub enum Operation {
+pub enum ArithmeticOperation {
     Add,
     Sub,
     Mul,
@@ -66,22 +66,22 @@ pub fn wrap(width: Width, number: i64) -> i64
 }
 
 // The result of an operation in 64 bits, of which each width takes its own.
-fn compute_wide(operation: Operation, first: i64, second: i64) -> i64
+fn compute_wide(operation: ArithmeticOperation, first: i64, second: i64) -> i64
     requires { DividesBy operation second }
     ensures { (width : Width) → wrap_to width result ≡ computation_of operation width first second }
 {
     match operation {
-        Operation::Add => first.wrapping_add(second),
-        Operation::Sub => first.wrapping_sub(second),
-        Operation::Mul => first.wrapping_mul(second),
-        Operation::Div => first.wrapping_div(second),
-        Operation::Mod => first.wrapping_rem(second),
+        ArithmeticOperation::Add => first.wrapping_add(second),
+        ArithmeticOperation::Sub => first.wrapping_sub(second),
+        ArithmeticOperation::Mul => first.wrapping_mul(second),
+        ArithmeticOperation::Div => first.wrapping_div(second),
+        ArithmeticOperation::Mod => first.wrapping_rem(second),
     }
 }
 
 /// Returns the result of an operation on two numbers: the exact integer, wrapped to the width. A
 /// divisor must not be 0.
-pub fn compute(operation: Operation, width: Width, first: i64, second: i64) -> i64
+pub fn compute(operation: ArithmeticOperation, width: Width, first: i64, second: i64) -> i64
     requires { DividesBy operation second }
     ensures { result ≡ computation_of operation width first second }
 {

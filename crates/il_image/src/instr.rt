@@ -3,7 +3,7 @@ ghost use Rattle.std.specs.Prelude.{◌≡◌, ◌++◌, OnErr, OnOk};
 ghost use Rattle.il_image.specs.Growth.{Extends};
 ghost use Rattle.il_image.specs.Spelling.{opcode_of_instr, operand_of, spelling};
 
-use crate::arithmetic::{Comparison, Operation, Width};
+use crate::arithmetic::{ArithmeticOperation, Comparison, Width};
 use crate::opcode::{Connective, Opcode, SlotUse, TimerUse, When, Widening, width_octet};
 use crate::value::Value;
 use crate::write::{Size, push_number, push_octet, push_signed};
@@ -26,7 +26,7 @@ pub enum Instr {
     /// Pops two BOOLs and pushes the result of the connective.
     Combine(Connective),
     /// Pops two numbers of the width, the second operand on top, and pushes the result.
-    Compute(Operation, Width),
+    Compute(ArithmeticOperation, Width),
     /// Pops two values of the same type, the second operand on top, and pushes a BOOL.
     Compare(Comparison),
     /// Widens the top.

@@ -3,7 +3,7 @@ ghost use Rattle.std.specs.Prelude.{◌≡◌};
 ghost use Rattle.il_image.specs.Opcodes.{octet_of, opcode_of};
 ghost use Rattle.il_image.specs.Opcodes as spec;
 
-use crate::arithmetic::{Comparison, Operation, Width};
+use crate::arithmetic::{ArithmeticOperation, Comparison, Width};
 use bay_base::types::ElementaryType;
 
 /// A version of the format. Version 2 adds LINT and TOF to version 1.
@@ -76,7 +76,7 @@ pub enum Opcode {
     Slot(SlotUse),
     Not,
     Combine(Connective),
-    Compute(Operation),
+    Compute(ArithmeticOperation),
     Compare(Comparison),
     Widen(Widening),
     Jump(When),
@@ -104,11 +104,11 @@ impl Opcode {
             Opcode::Combine(Connective::And) => 0x0C,
             Opcode::Combine(Connective::Or) => 0x0D,
             Opcode::Combine(Connective::Xor) => 0x0E,
-            Opcode::Compute(Operation::Add) => 0x0F,
-            Opcode::Compute(Operation::Sub) => 0x10,
-            Opcode::Compute(Operation::Mul) => 0x11,
-            Opcode::Compute(Operation::Div) => 0x12,
-            Opcode::Compute(Operation::Mod) => 0x13,
+            Opcode::Compute(ArithmeticOperation::Add) => 0x0F,
+            Opcode::Compute(ArithmeticOperation::Sub) => 0x10,
+            Opcode::Compute(ArithmeticOperation::Mul) => 0x11,
+            Opcode::Compute(ArithmeticOperation::Div) => 0x12,
+            Opcode::Compute(ArithmeticOperation::Mod) => 0x13,
             Opcode::Compare(Comparison::Gt) => 0x14,
             Opcode::Compare(Comparison::Ge) => 0x15,
             Opcode::Compare(Comparison::Eq) => 0x16,
@@ -148,11 +148,11 @@ impl Opcode {
             0x0C => Opcode::Combine(Connective::And),
             0x0D => Opcode::Combine(Connective::Or),
             0x0E => Opcode::Combine(Connective::Xor),
-            0x0F => Opcode::Compute(Operation::Add),
-            0x10 => Opcode::Compute(Operation::Sub),
-            0x11 => Opcode::Compute(Operation::Mul),
-            0x12 => Opcode::Compute(Operation::Div),
-            0x13 => Opcode::Compute(Operation::Mod),
+            0x0F => Opcode::Compute(ArithmeticOperation::Add),
+            0x10 => Opcode::Compute(ArithmeticOperation::Sub),
+            0x11 => Opcode::Compute(ArithmeticOperation::Mul),
+            0x12 => Opcode::Compute(ArithmeticOperation::Div),
+            0x13 => Opcode::Compute(ArithmeticOperation::Mod),
             0x14 => Opcode::Compare(Comparison::Gt),
             0x15 => Opcode::Compare(Comparison::Ge),
             0x16 => Opcode::Compare(Comparison::Eq),

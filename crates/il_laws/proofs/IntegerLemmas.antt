@@ -7,8 +7,8 @@ use mir.Val.{sel}
 use Rattle.il_text.specs.declared.program.Operator.{Operator}
 use Rattle.il_text.specs.declared.program.Operator.TheVariants as operator
 use Rattle.il_image.specs.Arithmetic.{DividesBy, computation_of, type_of_width, wrap_to}
-use Rattle.il_image.specs.declared.arithmetic.Operation.{Operation}
-use Rattle.il_image.specs.declared.arithmetic.Operation.TheVariants.{Add, Sub, Mul, Div, Mod}
+use Rattle.il_image.specs.declared.arithmetic.ArithmeticOperation.{ArithmeticOperation}
+use Rattle.il_image.specs.declared.arithmetic.ArithmeticOperation.TheVariants.{Add, Sub, Mul, Div, Mod}
 use Rattle.il_image.specs.declared.arithmetic.Width.{Width}
 use Rattle.il_image.specs.declared.arithmetic.Width.TheVariants.{Int, Dint, Lint}
 use Rattle.il_compile.specs.Senses.{computes, sense_of}
@@ -155,7 +155,7 @@ no-quotient a q h = let e = h.greatest (unsigned_abs q + 1) (omega arith) in ome
 -- ---- the operations
 
 -- the machine's arithmetic is that of the standard
-pub computed : (operator : Operator) (o : Operation) (w : Width) (a b z : ℤ)
+pub computed : (operator : Operator) (o : ArithmeticOperation) (w : Width) (a b z : ℤ)
     → sense_of operator ≡ computes o → DividesBy o b
     → (computation_of o w a b ≡ z) ↔ IsOutcome operator (type_of_width w) a b z
 computed operator.Add Add w a b z e d = wraps w (a +ℤ b) z

@@ -15,8 +15,8 @@ use Rattle.il_image.specs.Machine.{divides, is_comparable, value_of_width}
 use Rattle.il_image.specs.Values.{number_of, type_of}
 use Rattle.il_image.specs.declared.arithmetic.Comparison.{Comparison}
 use Rattle.il_image.specs.declared.arithmetic.Comparison.TheVariants as comparison
-use Rattle.il_image.specs.declared.arithmetic.Operation.{Operation}
-use Rattle.il_image.specs.declared.arithmetic.Operation.TheVariants.{Add, Sub, Mul, Div, Mod}
+use Rattle.il_image.specs.declared.arithmetic.ArithmeticOperation.{ArithmeticOperation}
+use Rattle.il_image.specs.declared.arithmetic.ArithmeticOperation.TheVariants.{Add, Sub, Mul, Div, Mod}
 use Rattle.il_image.specs.declared.arithmetic.Width.{Width}
 use Rattle.il_image.specs.declared.arithmetic.Width.TheVariants as width
 use Rattle.il_image.specs.declared.opcode.Connective.{Connective}
@@ -146,7 +146,7 @@ of-width width.Lint z (Wide y) = (λ e. (refl, cc), λ k. ap (λ x. Some (Wide x
 of-width w z v = (λ e. absurd (cc), λ k. absurd (let t = k.0 in cc))
 
 -- nothing comes of a division by 0
-no-outcome : (operator : Operator) (o : Operation) (kind : ElementaryType) (a b z : ℤ)
+no-outcome : (operator : Operator) (o : ArithmeticOperation) (kind : ElementaryType) (a b z : ℤ)
     → sense_of operator ≡ computes o → divides o && int_eq b (pos 0) ≡ true
     → IsOutcome operator kind a b z → ⊥
 no-outcome operator.Div Div kind a b z s e h =
@@ -155,14 +155,14 @@ no-outcome operator.Mod Mod kind a b z s e h =
     no-quotient a h.0 (subst (λ (x : ℤ). IsQuotient a x h.0) ((is-equal b (pos 0)).0 e) h.1)
 no-outcome operator o kind a b z s e h = absurd (cc)
 
-some-divisor : (o : Operation) (b : ℤ) → divides o && int_eq b (pos 0) ≡ false → DividesBy o b
+some-divisor : (o : ArithmeticOperation) (b : ℤ) → divides o && int_eq b (pos 0) ≡ false → DividesBy o b
 some-divisor Add b e = tt
 some-divisor Sub b e = tt
 some-divisor Mul b e = tt
 some-divisor Div b e = λ zero. absurd (let t = (is-equal b (pos 0)).1 zero in cc)
 some-divisor Mod b e = λ zero. absurd (let t = (is-equal b (pos 0)).1 zero in cc)
 
-computed-by : (operator : Operator) (o : Operation) (w : Width) (a b : ℤ) (v : Value) (d : Truth)
+computed-by : (operator : Operator) (o : ArithmeticOperation) (w : Width) (a b : ℤ) (v : Value) (d : Truth)
     → sense_of operator ≡ computes o → divides o && int_eq b (pos 0) ≡ d
     → (cond d None (Some (value_of_width w (computation_of o w a b))) ≡ Some v)
     ↔ ((Some (type_of_width w) ≡ Some (type_of v))
@@ -176,14 +176,14 @@ computed-by operator o w a b v false s e =
       λ g. k.1 (g.0, h.1 g.1),
     )
 
-computed-in : (operator : Operator) (o : Operation) (w : Width) (a b : ℤ) (v : Value)
+computed-in : (operator : Operator) (o : ArithmeticOperation) (w : Width) (a b : ℤ) (v : Value)
     → sense_of operator ≡ computes o → (computed_in w o a b ≡ Some v)
     ↔ ((Some (type_of_width w) ≡ Some (type_of v))
     × IsOutcome operator (type_of_width w) a b (number_of v))
 computed-in operator o w a b v s =
     computed-by operator o w a b v (divides o && int_eq b (pos 0)) s refl
 
-calculated : (operator : Operator) (o : Operation) (a b v : Value) → sense_of operator ≡ computes o
+calculated : (operator : Operator) (o : ArithmeticOperation) (a b v : Value) → sense_of operator ≡ computes o
     → (computed_values o a b ≡ Some v)
     ↔ ((arithmetic (type_of a) (type_of b) ≡ Some (type_of v))
     × IsOutcome operator (type_of a) (number_of a) (number_of b) (number_of v))

@@ -23,10 +23,10 @@ use Rattle.il_image.proofs.ValueLemmas.{value_is}
 use Rattle.il_check.specs.Checking.{checked_of, checked_program, faults_of, initial_standing}
 use Rattle.il_check.specs.Declaring.{names_in}
 use Rattle.il_check.specs.Faults.{least_fault}
-use Rattle.il_check.specs.Given.{Names, resolution_of}
+use Rattle.il_check.specs.Given.{NameTable, resolution_of}
 use Rattle.il_check.specs.Keeping.{AreArgumentsOf, AreEntriesOf, AreItemsOf, IsArgumentOf, IsEntryOf, IsOperandOf, IsOperationOf, IsTransferOf, Keeps, label_names}
 use Rattle.il_check.specs.Labelling.{Carried, Labelling, beginning, behind_label}
-use Rattle.il_check.specs.Program.{Checked, Entries, Entry, Item, block, entry, entry_before, label, no_entries, operation, plain, transfer}
+use Rattle.il_check.specs.Program.{Checked, Entries, Entry, ProgramItem, block, entry, entry_before, label, no_entries, operation, plain, transfer}
 use Rattle.il_check.specs.Rules.{converted_from, converted_to, gives, input_type, is_plain, load_type, may_negate, number_in, own_type, takes, works}
 use Rattle.il_check.specs.TypedProgram.{AreArguments, AreEntries, AreItems, Decides, IsArgument, IsEntry, IsOperand, IsOperation, IsTransfer, IsTyped, behind_entry, behind_transfer}
 use Rattle.il_check.specs.Typing.{block_in, load_in, load_operation, operation_in, or_entry, transfer_in}
@@ -84,12 +84,12 @@ abbrev mutual
   Loads (text.entry e es) no_entries = Unit {0}
   Loads (text.entry e es) (entry x xs) = (EntryLoads e x × Loads es xs) ⊎ Loads es (entry x xs)
 
-abbrev ItemLoads : text.Entry → Item → Type 0
+abbrev ItemLoads : text.Entry → ProgramItem → Type 0
 ItemLoads e (plain x) = EntryLoads e x
 ItemLoads e (label n) = Unit {0}
 ItemLoads e (transfer x) = Unit {0}
 
-abbrev ItemsLoad : List text.Entry → List Item → Type 0
+abbrev ItemsLoad : List text.Entry → List ProgramItem → Type 0
 ItemsLoad [] [] = Unit {0}
 ItemsLoad [] (x ∷ xs) = ⊥
 ItemsLoad (e ∷ es) [] = Unit {0}
@@ -114,7 +114,7 @@ number-case negated z true o is e =
     (own-first z ((has-value elementary.Lint z).0 is)) e
 number-case negated z false o is e = absurd (cc)
 
-module _ (names : Names) where
+module _ (names : NameTable) where
   operation-loads : (a : text.Action) (t : Option ElementaryType) (o : SimpleOperation)
       → operation_in (resolution_of names a) t ≡ Some o → OwnLoad a o
   operation-loads (text.load negated (text.constant (literal.Number z))) t o e =
@@ -180,30 +180,30 @@ module _ (names : Names) where
 
   -- ---- items
 
-  item-skipped : (e : text.Entry) (es : List text.Entry) (xs : List Item) → ItemsLoad es xs
+  item-skipped : (e : text.Entry) (es : List text.Entry) (xs : List ProgramItem) → ItemsLoad es xs
       → ItemsLoad (e ∷ es) xs
   item-skipped e es [] h = tt
   item-skipped e es (x ∷ xs) h = inr h
 
-  item-before : (e : text.Entry) (es : List text.Entry) (o : Option Item) (xs : List Item)
-      → ((x : Item) → o ≡ Some x → ItemLoads e x) → ItemsLoad es xs
+  item-before : (e : text.Entry) (es : List text.Entry) (o : Option ProgramItem) (xs : List ProgramItem)
+      → ((x : ProgramItem) → o ≡ Some x → ItemLoads e x) → ItemsLoad es xs
       → ItemsLoad (e ∷ es) (cons_option o xs)
   item-before e es None xs h more = item-skipped e es xs more
   item-before e es (Some x) xs h more = inl (h x refl, more)
 
-  plain-loads : (e : text.Entry) (o : Option Entry) (x : Item)
+  plain-loads : (e : text.Entry) (o : Option Entry) (x : ProgramItem)
       → ((y : Entry) → o ≡ Some y → EntryLoads e y) → option_map plain o ≡ Some x → ItemLoads e x
   plain-loads e None x h is = absurd (cc)
   plain-loads e (Some y) x h is =
       let same : plain y ≡ x = cc in subst (ItemLoads e) same (h y refl)
 
-  either-loads : (e : text.Entry) (m : Option Transfer) (o : Option Entry) (x : Item)
+  either-loads : (e : text.Entry) (m : Option Transfer) (o : Option Entry) (x : ProgramItem)
       → ((y : Entry) → o ≡ Some y → EntryLoads e y) → or_entry m o ≡ Some x → ItemLoads e x
   either-loads e None o x h is = plain-loads e o x h is
   either-loads e (Some m) o x h is =
       let same : transfer m ≡ x = cc in subst (ItemLoads e) same tt
 
-  item-loads : (e : text.Entry) (s : Progress) (x : Item) → item_left names e s ≡ Some x
+  item-loads : (e : text.Entry) (s : Progress) (x : ProgramItem) → item_left names e s ≡ Some x
       → ItemLoads e x
   item-loads (text.label line name) s x is =
       let same : label s.passed ≡ x = cc in subst (ItemLoads (text.label line name)) same tt
@@ -239,7 +239,7 @@ at-most (text.entry e es) (entry x xs) (inl h) =
 at-most (text.entry e es) (entry x xs) (inr h) =
     let k : suc (count_left xs) ≤ count es = at-most es (entry x xs) h in omega arith
 
-items-at-most : (es : List text.Entry) (xs : List Item) → ItemsLoad es xs → length xs ≤ length es
+items-at-most : (es : List text.Entry) (xs : List ProgramItem) → ItemsLoad es xs → length xs ≤ length es
 items-at-most [] [] h = omega arith
 items-at-most [] (x ∷ xs) h = absurd h
 items-at-most (e ∷ es) [] h = omega arith
@@ -391,7 +391,7 @@ module _ (c : Checked) where
       (argument-has a x h.0 k.0, argument-has b y h.1 k.1)
   arguments-have args xs h k = absurd h
 
-  transfer-has : (names : List (List ℕ)) (below : List Item) (a : text.Action) (x : Transfer)
+  transfer-has : (names : List (List ℕ)) (below : List ProgramItem) (a : text.Action) (x : Transfer)
       (t : Option ElementaryType) → IsTransferOf c names a x → IsTransfer c below x t
       → TransferHasTypes c a x t
   transfer-has names below (text.jump condition name) (go.Jump k n) t h w =
@@ -404,13 +404,13 @@ module _ (c : Checked) where
 
   -- ---- the items
 
-  same-length : (names : List (List ℕ)) (es : List text.Entry) (xs : List Item)
+  same-length : (names : List (List ℕ)) (es : List text.Entry) (xs : List ProgramItem)
       → AreItemsOf c names es xs → length xs ≡ length es
   same-length names [] [] h = refl
   same-length names (e ∷ es) (x ∷ xs) h = ap suc (same-length names es xs h.1)
   same-length names es xs h = absurd h
 
-  items-have : (names : List (List ℕ)) (labels : Labelling) (es : List text.Entry) (xs : List Item)
+  items-have : (names : List (List ℕ)) (labels : Labelling) (es : List text.Entry) (xs : List ProgramItem)
       (k : Carried) → AreItemsOf c names es xs → AreItems c labels xs k → ItemsLoad es xs
       → ItemsHaveTypes c labels es xs k
   items-have names labels [] [] k h w own = tt

@@ -8,7 +8,7 @@ use Rattle.il_text.specs.declared.program.Input.{Input}
 use Rattle.il_text.specs.declared.program.Literal.TheVariants as literal
 use Rattle.il_image.specs.Values.{type_of}
 use Rattle.il_check.specs.Labelling.{Carried, Falls, Jumps, Labelling, beginning, behind_label}
-use Rattle.il_check.specs.Program.{Checked, Entries, Entry, Item, block, entry, label, no_entries, operation, plain, transfer}
+use Rattle.il_check.specs.Program.{Checked, Entries, Entry, ProgramItem, block, entry, label, no_entries, operation, plain, transfer}
 use Rattle.il_check.specs.TypedProgram.{behind_entry, behind_transfer, slot_type, target_of}
 use Rattle.il_check.specs.declared.typed.SimpleOperation.{SimpleOperation}
 use Rattle.il_check.specs.declared.typed.SimpleOperation.TheVariants as op
@@ -113,7 +113,7 @@ TransferHasTypes c a x t = ⊥
 
 -- Each item has its types on the result that comes to it; what comes to a label, from above or by a
 -- jump, has the label's type, or the label's result is not set.
-abbrev pub ItemsHaveTypes : Checked → Labelling → List text.Entry → List Item → Carried → Type 0
+abbrev pub ItemsHaveTypes : Checked → Labelling → List text.Entry → List ProgramItem → Carried → Type 0
 ItemsHaveTypes c labels [] [] k = Unit {0}
 ItemsHaveTypes c labels (text.label line name ∷ es) (label n ∷ is) k =
     Falls labels k.passed k.now × ItemsHaveTypes c labels es is (behind_label labels k)

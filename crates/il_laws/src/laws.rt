@@ -11,7 +11,7 @@ ghost use Rattle.il_text.specs.declared.program.Operator.{Operator};
 ghost use Rattle.il_image.specs.Arithmetic.{DividesBy, comparison_holds, computation_of, logic_of, type_of_width, wider_value};
 ghost use Rattle.il_image.specs.Values.{number_of};
 ghost use Rattle.il_image.specs.declared.arithmetic.Comparison.{Comparison};
-ghost use Rattle.il_image.specs.declared.arithmetic.Operation.{Operation};
+ghost use Rattle.il_image.specs.declared.arithmetic.ArithmeticOperation.{ArithmeticOperation};
 ghost use Rattle.il_image.specs.declared.arithmetic.Width.{Width};
 ghost use Rattle.il_image.specs.declared.opcode.Connective.{Connective};
 ghost use Rattle.il_image.specs.declared.timer.TimerState.{TimerState};
@@ -68,7 +68,7 @@ pub fn rules_are_the_tables()
 /// differs from it by a multiple of 2 to the number of bits. Its comparisons are the integers'
 /// order, and its connectives are those of FALSE and TRUE.
 pub fn arithmetic_is_that_of_the_integers()
-    ensures computed { (operator : Operator) (o : Operation) (width : Width) (a b z : ℤ)
+    ensures computed { (operator : Operator) (o : ArithmeticOperation) (width : Width) (a b z : ℤ)
         → sense_of operator ≡ computes o → DividesBy o b →
         (computation_of o width a b ≡ z) ↔ IsOutcome operator (type_of_width width) a b z }
     ensures compared { (operator : Operator) (c : Comparison) (kind : ElementaryType) (a b : ℤ)

@@ -3,7 +3,7 @@ use Rattle.std.proofs.Common.{◌≡◌, ℕ, ◌≤◌, Bool, true, false, cond
 use Rattle.std.specs.Prelude.{◌&&◌, ◌||◌, not, nat_lt, option_and_then}
 use Rattle.std.specs.Ordering.{int_eq}
 use Rattle.std.proofs.lemmas.Option.{same_Some}
-use Rattle.il_image.specs.declared.arithmetic.Operation.{Operation}
+use Rattle.il_image.specs.declared.arithmetic.ArithmeticOperation.{ArithmeticOperation}
 use Rattle.il_image.specs.declared.arithmetic.Width.{Width}
 use Rattle.il_image.specs.declared.arithmetic.Width.TheVariants as width
 use Rattle.il_image.specs.declared.instr.Instr.{Instr}
@@ -21,7 +21,7 @@ use Rattle.il_image.specs.declared.opcode.TimerUse.{TimerUse}
 use Rattle.bay_base.specs.Types.{same_type}
 use Rattle.il_image.specs.Arithmetic.{comparison_holds, computation_of, logic_of}
 use Rattle.il_image.specs.Values.{number_of, type_of}
-use Rattle.il_image.specs.Machine.{State, Trap, Turn, Goes, Halts, Traps, FullStack, WrongKind, MissingSlot, MissingTimer, ZeroDivisor, act, as_number, as_truth, changes, divides, is_comparable, pushes, stores, value_of_width, with_slot, most_cells}
+use Rattle.il_image.specs.Machine.{State, Trap, StepResult, Goes, Halts, Traps, FullStack, WrongKind, MissingSlot, MissingTimer, ZeroDivisor, act, as_number, as_truth, changes, divides, is_comparable, pushes, stores, value_of_width, with_slot, most_cells}
 use Rattle.il_image.specs.Machine as machine
 use Rattle.std.specs.Prelude.{ℤ, pos}
 use Rattle.il_image.specs.Timers.{after_call}
@@ -38,22 +38,22 @@ use Rattle.il_range.proofs.NumberLemmas.{of-computed}
 use Rattle.il_range.proofs.ListLemmas.{are-get, are-set, each-get, each-set}
 
 -- the step goes to the next place, with what is covered there; or it traps
-abbrev NextIs : Turn → ℕ → ℕ → Plain → Type 0
+abbrev NextIs : StepResult → ℕ → ℕ → Plain → Type 0
 NextIs (Goes s) now next p = (s.place ≡ next) × Covers p (held now s)
 NextIs Halts now next p = ⊥
 NextIs (Traps trap) now next p = Unit {0}
 
-next-if : (b : Bool) (t : Turn) (trap : Trap) (now next : ℕ) (p : Plain) → NextIs t now next p
+next-if : (b : Bool) (t : StepResult) (trap : Trap) (now next : ℕ) (p : Plain) → NextIs t now next p
     → NextIs (cond b t (Traps trap)) now next p
 next-if true t trap now next p h = h
 next-if false t trap now next p h = tt
 
-next-unless : (b : Bool) (t : Turn) (trap : Trap) (now next : ℕ) (p : Plain) → NextIs t now next p
+next-unless : (b : Bool) (t : StepResult) (trap : Trap) (now next : ℕ) (p : Plain) → NextIs t now next p
     → NextIs (cond b (Traps trap) t) now next p
 next-unless true t trap now next p h = tt
 next-unless false t trap now next p h = h
 
-next-slot : (n : ℕ) (s : State) (f : Value → Turn) (now next : ℕ) (p : Plain)
+next-slot : (n : ℕ) (s : State) (f : Value → StepResult) (now next : ℕ) (p : Plain)
     → ((v : Value) → slice_get s.slots n ≡ Some v → NextIs (f v) now next p)
     → NextIs (with_slot n s f) now next p
 next-slot n s f now next p h = go (slice_get s.slots n) refl
@@ -63,7 +63,7 @@ next-slot n s f now next p h = go (slice_get s.slots n) refl
     go None e = tt
     go (Some v) e = h v e
 
-next-timer : (n : ℕ) (s : State) (f : TimerState → Turn) (now next : ℕ) (p : Plain)
+next-timer : (n : ℕ) (s : State) (f : TimerState → StepResult) (now next : ℕ) (p : Plain)
     → ((t : TimerState) → slice_get s.timers n ≡ Some t → NextIs (f t) now next p)
     → NextIs (machine.with_timer n s f) now next p
 next-timer n s f now next p h = go (slice_get s.timers n) refl
@@ -252,14 +252,14 @@ module _ (now next place : ℕ) (timers : List TimerState) (ts : List KnownTimer
       next-if (is_comparable c u v)
       (Goes (state_of next (x ∷ cells) slots timers)) WrongKind now next p (refl, done)
 
-  number-next : (w : Width) (v : Value) (f : ℤ → Turn)
+  number-next : (w : Width) (v : Value) (f : ℤ → StepResult)
       → ((z : ℤ) → number_of v ≡ z → NextIs (f z) now next p) → NextIs (as_number w v f) now next p
   number-next width.Int (Short z) f h = h z refl
   number-next width.Dint (Long z) f h = h z refl
   number-next width.Lint (Wide z) f h = h z refl
   number-next w v f h = tt
 
-  comes-compute : (o : Operation) (w : Width) (rs us : List Range)
+  comes-compute : (o : ArithmeticOperation) (w : Width) (rs us : List Range)
       → effect (Compute o w) (plain_of rs us) ≡ Some p
       → (cells slots : List Value) → AreIn cells rs → AreIn slots us
       → Comes (Compute o w) cells slots
@@ -422,7 +422,7 @@ module _ (now next place : ℕ) (timers : List TimerState) (ts : List KnownTimer
   comes (Jump when distance) rs us e cells slots h k = absurd (cc)
   comes (Timer t n) rs us e cells slots h k = comes-timer t n rs us e cells slots h k
 
-next-lands : (t : Turn) (next end : ℕ) (h : Held) (p : Plain) (old new : List (Option Known))
+next-lands : (t : StepResult) (next end : ℕ) (h : Held) (p : Plain) (old new : List (Option Known))
     → Arrives old new next p → NextIs t h.now next p → Lands t next end h new
 next-lands (Goes s) next end h p old new a is =
     let least : next ≤ s.place = (let at = is.0 in omega arith) in (

@@ -15,7 +15,7 @@ use Rattle.il_image.specs.declared.timer.TimerState.{TimerState}
 use Rattle.il_image.specs.declared.value.Value.{Value}
 use Rattle.il_image.specs.declared.value.Value.TheVariants.{Truth, Short, Long, Wide, Span}
 use Rattle.il_image.specs.Arithmetic.{comparison_holds, computation_of, wider_value}
-use Rattle.il_image.specs.Machine.{Halted, State, Trap, Turn, Goes, Halts, Traps, FullStack, WrongKind, MissingSlot, MissingTimer, ZeroDivisor, act, as_number, as_span, as_truth, divides, ending_of, goes, is_comparable, run_from, stores, turn_of, value_of_width, with_slot, with_timer, with_top, with_two, most_cells}
+use Rattle.il_image.specs.Machine.{Halted, State, Trap, StepResult, Goes, Halts, Traps, FullStack, WrongKind, MissingSlot, MissingTimer, ZeroDivisor, act, as_number, as_span, as_truth, divides, ending_of, goes, is_comparable, run_from, stores, turn_of, value_of_width, with_slot, with_timer, with_top, with_two, most_cells}
 use Rattle.il_image.specs.Places.{begun_at}
 use Rattle.il_image.specs.declared.timer.TimerPhase.{TimerPhase}
 use Rattle.il_image.specs.declared.timer.TimerPhase.TheVariants.{Idle, Held, Since}
@@ -36,7 +36,7 @@ pub record Keeps (now : ℕ) (slots : List Value) (timers : List TimerState) (s 
   pub begins : Continues now timers s.timers
 
 -- A step keeps them, unless it is the last.
-abbrev NextKeeps : ℕ → Turn → State → Type 0
+abbrev NextKeeps : ℕ → StepResult → State → Type 0
 NextKeeps now (Goes t) s = Keeps now t.slots t.timers s
 NextKeeps now Halts s = Unit {0}
 NextKeeps now (Traps trap) s = Unit {0}
@@ -52,40 +52,40 @@ map-stays {B = B} f (z ∷ xs) zero x y at e = let is : z ≡ x = cc in
 map-stays {B = B} f (z ∷ xs) (suc n) x y at e =
     ap (λ (bs : List B). f z ∷ bs) (map-stays f xs n x y at e)
 
-keep-if : (now : ℕ) (b : Bool) (t : Turn) (trap : Trap) (s : State) → (b ≡ true → NextKeeps now t s)
+keep-if : (now : ℕ) (b : Bool) (t : StepResult) (trap : Trap) (s : State) → (b ≡ true → NextKeeps now t s)
     → NextKeeps now (cond b t (Traps trap)) s
 keep-if now true t trap s h = h refl
 keep-if now false t trap s h = tt
 
-keep-unless : (now : ℕ) (b : Bool) (t : Turn) (trap : Trap) (s : State) → NextKeeps now t s
+keep-unless : (now : ℕ) (b : Bool) (t : StepResult) (trap : Trap) (s : State) → NextKeeps now t s
     → NextKeeps now (cond b (Traps trap) t) s
 keep-unless now true t trap s h = tt
 keep-unless now false t trap s h = h
 
-keep-top : (now : ℕ) (cells : List Value) (f : Value → List Value → Turn) (s : State)
+keep-top : (now : ℕ) (cells : List Value) (f : Value → List Value → StepResult) (s : State)
     → ((v : Value) (below : List Value) → NextKeeps now (f v below) s)
     → NextKeeps now (with_top cells f) s
 keep-top now [] f s h = tt
 keep-top now (v ∷ below) f s h = h v below
 
-keep-two : (now : ℕ) (cells : List Value) (f : Value → Value → List Value → Turn) (s : State)
+keep-two : (now : ℕ) (cells : List Value) (f : Value → Value → List Value → StepResult) (s : State)
     → ((v u : Value) (below : List Value) → NextKeeps now (f v u below) s)
     → NextKeeps now (with_two cells f) s
 keep-two now [] f s h = tt
 keep-two now (v ∷ []) f s h = tt
 keep-two now (v ∷ u ∷ below) f s h = h u v below
 
-keep-truth : (now : ℕ) (v : Value) (f : Bool → Turn) (s : State)
+keep-truth : (now : ℕ) (v : Value) (f : Bool → StepResult) (s : State)
     → ((b : Bool) → v ≡ Truth b → NextKeeps now (f b) s) → NextKeeps now (as_truth v f) s
 keep-truth now (Truth b) f s h = h b refl
 keep-truth now v f s h = tt
 
-keep-span : (now : ℕ) (v : Value) (f : ℕ → Turn) (s : State) → ((n : ℕ) → NextKeeps now (f n) s)
+keep-span : (now : ℕ) (v : Value) (f : ℕ → StepResult) (s : State) → ((n : ℕ) → NextKeeps now (f n) s)
     → NextKeeps now (as_span v f) s
 keep-span now (Span n) f s h = h n
 keep-span now v f s h = tt
 
-keep-number : (now : ℕ) (w : Width) (v : Value) (f : ℤ → Turn) (s : State)
+keep-number : (now : ℕ) (w : Width) (v : Value) (f : ℤ → StepResult) (s : State)
     → ((z : ℤ) → NextKeeps now (f z) s)
     → NextKeeps now (as_number w v f) s
 keep-number now width.Int (Short z) f s h = h z
@@ -93,7 +93,7 @@ keep-number now width.Dint (Long z) f s h = h z
 keep-number now width.Lint (Wide z) f s h = h z
 keep-number now w v f s h = tt
 
-keep-slot : (now : ℕ) (n : ℕ) (s : State) (f : Value → Turn)
+keep-slot : (now : ℕ) (n : ℕ) (s : State) (f : Value → StepResult)
     → ((v : Value) → slice_get s.slots n ≡ Some v → NextKeeps now (f v) s)
     → NextKeeps now (with_slot n s f) s
 keep-slot now n s f h = go (slice_get s.slots n) refl
@@ -103,7 +103,7 @@ keep-slot now n s f h = go (slice_get s.slots n) refl
     go None e = tt
     go (Some v) e = h v e
 
-keep-timer : (now : ℕ) (n : ℕ) (s : State) (f : TimerState → Turn)
+keep-timer : (now : ℕ) (n : ℕ) (s : State) (f : TimerState → StepResult)
     → ((t : TimerState) → slice_get s.timers n ≡ Some t → NextKeeps now (f t) s)
     → NextKeeps now (with_timer n s f) s
 keep-timer now n s f h = go (slice_get s.timers n) refl
@@ -113,7 +113,7 @@ keep-timer now n s f h = go (slice_get s.timers n) refl
     go None e = tt
     go (Some t) e = h t e
 
-keep-wider : (now : ℕ) (o : Option Value) (f : Value → Turn) (s : State)
+keep-wider : (now : ℕ) (o : Option Value) (f : Value → StepResult) (s : State)
     → ((v : Value) → NextKeeps now (f v) s)
     → NextKeeps now (elim o [ None ↦ Traps WrongKind | Some v ↦ f v ]) s
 keep-wider now None f s h = tt
@@ -242,7 +242,7 @@ turn-keeps now (Some read) s = step-keeps now read.0 read.1 s
 
 -- the rest of a run keeps them, by its next step
 rest-keeps : (code : List ℕ) (now most steps count : ℕ) (slots : List Value)
-    (timers : List TimerState) (t : Turn) (s : State) → NextKeeps now t s
+    (timers : List TimerState) (t : StepResult) (s : State) → NextKeeps now t s
     → ((to : State) → run_from code now most to steps ≡ Halted slots timers count
     → Keeps now slots timers to)
     → ending_of t s steps (λ to. run_from code now most to steps) ≡ Halted slots timers count

@@ -5,8 +5,8 @@ use Rattle.std.specs.Prelude.{◌≤ℤ◌, ◌&&◌, SomeIff}
 use Rattle.std.specs.Int.{w64}
 use Rattle.std.proofs.lemmas.Grind.{common_steps}
 use Rattle.std.proofs.lemmas.Int.{ints, int_wrap_fits, SFits-int_wrap}
-use Rattle.il_image.specs.declared.arithmetic.Operation.{Operation}
-use Rattle.il_image.specs.declared.arithmetic.Operation.TheVariants.{Add, Sub}
+use Rattle.il_image.specs.declared.arithmetic.ArithmeticOperation.{ArithmeticOperation}
+use Rattle.il_image.specs.declared.arithmetic.ArithmeticOperation.TheVariants.{Add, Sub}
 use Rattle.il_image.specs.declared.arithmetic.Width.{Width}
 use Rattle.il_image.specs.declared.arithmetic.Width.TheVariants as width
 use Rattle.il_image.specs.declared.value.Value.{Value}
@@ -65,7 +65,7 @@ wrapped-in w low high z h k = go (fits_in w low) (fits_in w high) refl refl
     go true false e f = wrap-in w z
     go false c e f = wrap-in w z
 
-pub of-computed : (o : Operation) (w : Width) (v u : Value) (a b : ℤ) (r s : Range)
+pub of-computed : (o : ArithmeticOperation) (w : Width) (v u : Value) (a b : ℤ) (r s : Range)
     → number_of v ≡ a → number_of u ≡ b → IsIn v r → IsIn u s
     → IsIn (value_of_width w (computation_of o w a b)) (computed o w r s)
 of-computed Add w v u a b (Between l m) (Between c d) e f h k =

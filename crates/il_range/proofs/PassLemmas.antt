@@ -9,7 +9,7 @@ use Rattle.il_image.specs.declared.instr.Instr.{Instr}
 use Rattle.il_image.specs.declared.instr.Instr.TheVariants.{Halt}
 use Rattle.il_image.specs.declared.timer.TimerState.{TimerState}
 use Rattle.il_image.specs.declared.value.Value.{Value}
-use Rattle.il_image.specs.Machine.{Halted, State, Turn, Goes, Halts, Traps, act, ending_of, initial_state, run_from, turn_of}
+use Rattle.il_image.specs.Machine.{Halted, State, StepResult, Goes, Halts, Traps, act, ending_of, initial_state, run_from, turn_of}
 use Rattle.il_image.specs.Places.{begun_at, is_place}
 use Rattle.il_image.specs.Reading.{instr_at}
 use Rattle.il_range.specs.declared.known.Known.{Known}
@@ -34,7 +34,7 @@ covers-there place old here h was c =
     let same : c.known ≡ here = (let at = c.here in cc) in
     subst (λ (s : Known). Covers (plain s) h) same c.covers
 
-lands-from : (t : Turn) (least next end : ℕ) (h : Held) (new : List (Option Known))
+lands-from : (t : StepResult) (least next end : ℕ) (h : Held) (new : List (Option Known))
     → least ≤ next → Lands t next end h new → Lands t least end h new
 lands-from (Goes s) least next end h new le l =
     let from : next ≤ s.place = l.0 in let on : least ≤ s.place = omega arith in (on, l.1)
@@ -122,7 +122,7 @@ read-at code place = go (is_place code place) refl (instr_at code place) refl
 
 -- the rest of the run, by its next step
 follows-turn : (code : List ℕ) (now least most steps steps_after : ℕ) (after : List Value)
-    (timers_after : List TimerState) (s : State) (new : List (Option Known)) (t : Turn)
+    (timers_after : List TimerState) (s : State) (new : List (Option Known)) (t : StepResult)
     → ending_of t s (steps + 1) (λ to. run_from code now most to (steps + 1))
     ≡ Halted after timers_after steps_after
     → Lands t least (length code) (held now s) new

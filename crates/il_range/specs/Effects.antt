@@ -2,8 +2,8 @@
 use Rattle.std.specs.Prelude.{ℕ, ℤ, pos, negsuc, ◌+ℤ◌, ◌-ℤ◌, max, Bool, true, false, List, [], ◌∷◌, ◌&&◌, ◌||◌, int_lt, int_le, slice_get, slice_set, Option, Some, None, option_and_then, option_map, if◌then◌else◌}
 use Rattle.il_image.specs.declared.arithmetic.Comparison.{Comparison}
 use Rattle.il_image.specs.declared.arithmetic.Comparison.TheVariants.{Gt, Ge, Eq, Ne, Le, Lt}
-use Rattle.il_image.specs.declared.arithmetic.Operation.{Operation}
-use Rattle.il_image.specs.declared.arithmetic.Operation.TheVariants.{Add, Sub}
+use Rattle.il_image.specs.declared.arithmetic.ArithmeticOperation.{ArithmeticOperation}
+use Rattle.il_image.specs.declared.arithmetic.ArithmeticOperation.TheVariants.{Add, Sub}
 use Rattle.il_image.specs.declared.arithmetic.Width.{Width}
 use Rattle.il_image.specs.declared.arithmetic.Width.TheVariants as width
 use Rattle.il_image.specs.declared.instr.Instr.{Instr}
@@ -259,7 +259,7 @@ wrapped_of w (Some low) (Some high) = wrapped w low high
 wrapped_of w (Some low) None = all_of w
 wrapped_of w None high = all_of w
 
-abbrev pub computed : Operation → Width → Range → Range → Range
+abbrev pub computed : ArithmeticOperation → Width → Range → Range → Range
 computed Add w (Between a b) (Between c d) = wrapped w (a +ℤ c) (b +ℤ d)
 computed Sub w (Between a b) (Between c d) = wrapped w (a -ℤ d) (b -ℤ c)
 computed o w a b = all_of w

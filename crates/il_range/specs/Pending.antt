@@ -4,7 +4,7 @@ use Rattle.il_image.specs.declared.instr.Instr.{Instr}
 use Rattle.il_image.specs.declared.value.Value.{Value}
 use Rattle.il_image.specs.declared.value.Value.TheVariants.{Truth}
 use Rattle.il_image.specs.declared.timer.TimerState.{TimerState}
-use Rattle.il_image.specs.Machine.{State, Turn, Goes, Halts, Traps, act}
+use Rattle.il_image.specs.Machine.{State, StepResult, Goes, Halts, Traps, act}
 use Rattle.il_image.specs.Reading.{instr_at}
 use Rattle.il_range.specs.declared.range.Range.{Range}
 use Rattle.il_range.specs.declared.known.Known.{Known}
@@ -70,7 +70,7 @@ pub record Branches (jumps : Range) (distance next : ℕ) (come : Plain)
 
 -- A step goes to a place from this one on, where it is covered; or it halts, and is covered at the
 -- end; or it traps.
-abbrev pub Lands : Turn → ℕ → ℕ → Held → List (Option Known) → Type 0
+abbrev pub Lands : StepResult → ℕ → ℕ → Held → List (Option Known) → Type 0
 Lands (Goes s) next end h pending = (next ≤ s.place) × CoversAt pending s.place (held h.now s)
 Lands Halts next end h pending = CoversAt pending end h
 Lands (Traps trap) next end h pending = Unit {0}

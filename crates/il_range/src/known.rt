@@ -8,7 +8,7 @@ use crate::range::{Range, both, compared, computed, connected, either, exactly, 
 use crate::stop::Stop;
 use crate::timer::{KnownTimer, called, join_timer};
 use crate::traces::Traces;
-use il_image::arithmetic::{Comparison, Operation, Width};
+use il_image::arithmetic::{ArithmeticOperation, Comparison, Width};
 use il_image::instr::Instr;
 use il_image::opcode::{Connective, SlotUse, TimerUse};
 use std::alloc::Global;
@@ -148,7 +148,7 @@ fn compare(known: &mut Known, comparison: Comparison) -> Result<(), Stop>
 }
 
 // ADD to MOD: one number of two.
-fn compute(known: &mut Known, operation: Operation, width: Width) -> Result<(), Stop>
+fn compute(known: &mut Known, operation: ArithmeticOperation, width: Width) -> Result<(), Stop>
     ensures { OnOk result (effect (Instr.Compute operation width) (plain known.old)
         ≡ Some (plain known.new)) }
 {

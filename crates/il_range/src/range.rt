@@ -2,7 +2,7 @@
 ghost use Rattle.std.specs.Prelude.{◌≡◌, ◌+ℤ◌, ◌-ℤ◌};
 ghost use Rattle.il_range.specs.Effects as spec;
 
-use il_image::arithmetic::{Comparison, Operation, Width};
+use il_image::arithmetic::{ArithmeticOperation, Comparison, Width};
 use il_image::opcode::Connective;
 use il_image::value::Value;
 
@@ -244,12 +244,14 @@ fn differences(width: Width, a: i64, b: i64, c: i64, d: i64) -> Range
 
 /// An arithmetic operation (IEC 61131-3:2003, table 24): a sum or a difference that can't wrap
 /// stays between its ends.
-pub(crate) fn computed(operation: Operation, width: Width, a: Range, b: Range) -> Range
+pub(crate) fn computed(operation: ArithmeticOperation, width: Width, a: Range, b: Range) -> Range
     ensures { result ≡ spec.computed operation width a b }
 {
     match (operation, a, b) {
-        (Operation::Add, Range::Between(a, b), Range::Between(c, d)) => sums(width, a, b, c, d),
-        (Operation::Sub, Range::Between(a, b), Range::Between(c, d)) => {
+        (ArithmeticOperation::Add, Range::Between(a, b), Range::Between(c, d)) => sums(
+            width, a, b, c, d,
+        ),
+        (ArithmeticOperation::Sub, Range::Between(a, b), Range::Between(c, d)) => {
             differences(width, a, b, c, d)
         }
         _ => Range::Between(least_of(width), greatest_of(width)),

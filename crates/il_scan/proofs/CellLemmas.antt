@@ -13,7 +13,7 @@ use Rattle.il_image.specs.declared.value.Value.{Value}
 use Rattle.il_image.specs.Effects.{below}
 use Rattle.il_image.specs.Images.{Each, IsValue}
 use Rattle.il_image.specs.Kinds.{HasKind, is_within}
-use Rattle.il_image.specs.Machine.{Turn, Traps, MissingSlot, MissingTimer}
+use Rattle.il_image.specs.Machine.{StepResult, Traps, MissingSlot, MissingTimer}
 use Rattle.il_image.specs.Timers.{after_call, elapsed_of, first_state, phase_after}
 use Rattle.il_image.specs.Values.{number_of, type_of}
 use Rattle.il_image.proofs.KindLemmas.{kind-above}
@@ -97,13 +97,13 @@ slot-set (s ∷ types) (u ∷ slots) zero t v e typed is value =
 slot-set (s ∷ types) (u ∷ slots) (suc n) t v e typed is value =
     (typed.0, slot-set types slots n t v e typed.1 is value)
 
-pub with-slot-is : (slots : List Value) (n : ℕ) (v : Value) (act_on : Value → Turn)
+pub with-slot-is : (slots : List Value) (n : ℕ) (v : Value) (act_on : Value → StepResult)
     → slice_get slots n ≡ Some v
     → elim (slice_get slots n) [ None ↦ Traps MissingSlot | Some u ↦ act_on u ] ≡ act_on v
 with-slot-is slots n v act_on e =
     ap (λ (o : Option Value). elim o [ None ↦ Traps MissingSlot | Some u ↦ act_on u ]) e
 
-pub with-timer-is : (timers : List TimerState) (n : ℕ) (t : TimerState) (act_on : TimerState → Turn)
+pub with-timer-is : (timers : List TimerState) (n : ℕ) (t : TimerState) (act_on : TimerState → StepResult)
     → slice_get timers n ≡ Some t
     → elim (slice_get timers n) [ None ↦ Traps MissingTimer | Some u ↦ act_on u ] ≡ act_on t
 with-timer-is timers n t act_on e =

@@ -8,7 +8,7 @@ use Rattle.bay_base.specs.declared.types.ElementaryType.{ElementaryType}
 use Rattle.bay_base.specs.declared.types.ElementaryType.TheVariants as elementary
 use Rattle.bay_base.specs.Types.{same_type}
 use Rattle.il_image.specs.declared.arithmetic.Comparison.{Comparison}
-use Rattle.il_image.specs.declared.arithmetic.Operation.{Operation}
+use Rattle.il_image.specs.declared.arithmetic.ArithmeticOperation.{ArithmeticOperation}
 use Rattle.il_image.specs.declared.arithmetic.Width.{Width}
 use Rattle.il_image.specs.declared.arithmetic.Width.TheVariants as width
 use Rattle.il_image.specs.declared.instr.Instr.{Instr}
@@ -27,7 +27,7 @@ use Rattle.il_image.specs.Arithmetic.{DividesBy, comparison_holds, computation_o
 use Rattle.il_image.specs.Effects.{below, kind_of}
 use Rattle.il_image.specs.Images.{IsValue}
 use Rattle.il_image.specs.Kinds.{HasKind}
-use Rattle.il_image.specs.Machine.{State, Turn, Goes, Traps, WrongKind, ZeroDivisor, act, divides, goes, is_comparable, pushes, stores, value_of_width, most_cells}
+use Rattle.il_image.specs.Machine.{State, StepResult, Goes, Traps, WrongKind, ZeroDivisor, act, divides, goes, is_comparable, pushes, stores, value_of_width, most_cells}
 use Rattle.il_image.specs.Machine as machine
 use Rattle.il_image.specs.Timers.{after_call}
 use Rattle.il_image.specs.Values.{number_of, type_of}
@@ -368,7 +368,7 @@ module _ (types : List ElementaryType) (count now next p : ℕ) (others slots : 
 
   -- ---- two values
 
-  pub does-compute : (o : Operation) (w : Width) (a b : ℤ) → (divides o && int_eq b (pos 0)) ≡ false
+  pub does-compute : (o : ArithmeticOperation) (w : Width) (a b : ℤ) → (divides o && int_eq b (pos 0)) ≡ false
       → DividesBy o b → Does types count now (Compute o w) next p
       (value_of_width w b ∷ value_of_width w a ∷ others) slots timers
       (Plain (type_of_width w) ∷ rest)

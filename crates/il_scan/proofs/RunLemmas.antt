@@ -4,7 +4,7 @@ use Rattle.std.specs.Prelude.{slice_get}
 use Rattle.il_image.specs.declared.timer.TimerState.{TimerState}
 use Rattle.il_image.specs.declared.value.Value.{Value}
 use Rattle.il_image.specs.Images.{Image}
-use Rattle.il_image.specs.Machine.{Goes, Halted, Halts, State, Traps, Turn, ending_of, run_from, turn}
+use Rattle.il_image.specs.Machine.{Goes, Halted, Halts, State, Traps, StepResult, ending_of, run_from, turn}
 use Rattle.il_image.specs.Octets.{AreOctets}
 use Rattle.il_image.specs.Tables.{IsHalt, IsSuccessor, Path, slot_types}
 use Rattle.il_verify.specs.Verdicts.{IsBudget, IsDepth, IsSafe}
@@ -21,15 +21,15 @@ run-goes : (code : List ℕ) (now most : ℕ) (s after : State) (steps : ℕ)
     → run_from code now (suc most) s steps ≡ run_from code now most after (steps + 1)
 unfolding run_from
 run-goes code now most s after steps e =
-    ap (λ (t : Turn). ending_of t s (steps + 1) (λ a. run_from code now most a (steps + 1))) e
+    ap (λ (t : StepResult). ending_of t s (steps + 1) (λ a. run_from code now most a (steps + 1))) e
 
 run-halts : (code : List ℕ) (now most : ℕ) (s : State) (steps : ℕ) → turn code now s ≡ Halts
     → run_from code now (suc most) s steps ≡ Halted s.slots s.timers (steps + 1)
 unfolding run_from
 run-halts code now most s steps e =
-    ap (λ (t : Turn). ending_of t s (steps + 1) (λ a. run_from code now most a (steps + 1))) e
+    ap (λ (t : StepResult). ending_of t s (steps + 1) (λ a. run_from code now most a (steps + 1))) e
 
-counts_of : (code : List ℕ) (now most : ℕ) (t : Turn) (s : State) (slots : List Value)
+counts_of : (code : List ℕ) (now most : ℕ) (t : StepResult) (s : State) (slots : List Value)
     (timers : List TimerState) (k n : ℕ)
     → ((a : State) → run_from code now most a (k + 1) ≡ Halted slots timers n → k + 1 < n)
     → ending_of t s (k + 1) (λ a. run_from code now most a (k + 1)) ≡ Halted slots timers n → k < n
@@ -46,7 +46,7 @@ run-counts code now (suc most) s k slots timers n e =
     counts_of code now most (turn code now s) s slots timers k n
     (λ after. run-counts code now most after (k + 1) slots timers n) e
 
-enough-of : (code : List ℕ) (now most other : ℕ) (t : Turn) (s : State) (slots : List Value)
+enough-of : (code : List ℕ) (now most other : ℕ) (t : StepResult) (s : State) (slots : List Value)
     (timers : List TimerState) (k n : ℕ)
     → ((a : State) → run_from code now most a (k + 1) ≡ Halted slots timers n
     → run_from code now other a (k + 1) ≡ Halted slots timers n)

@@ -11,8 +11,8 @@ use Rattle.bay_base.specs.declared.types.ElementaryType.{ElementaryType}
 use Rattle.bay_base.specs.declared.types.ElementaryType.TheVariants as elementary
 use Rattle.bay_base.specs.Types.{same_type}
 use Rattle.il_image.specs.declared.arithmetic.Comparison.{Comparison}
-use Rattle.il_image.specs.declared.arithmetic.Operation.{Operation}
-use Rattle.il_image.specs.declared.arithmetic.Operation.TheVariants.{Div, Mod}
+use Rattle.il_image.specs.declared.arithmetic.ArithmeticOperation.{ArithmeticOperation}
+use Rattle.il_image.specs.declared.arithmetic.ArithmeticOperation.TheVariants.{Div, Mod}
 use Rattle.il_image.specs.declared.arithmetic.Width.{Width}
 use Rattle.il_image.specs.declared.arithmetic.Width.TheVariants as width
 use Rattle.il_image.specs.declared.instr.Instr.{Instr}
@@ -56,12 +56,12 @@ not-zero z ne = go (int_eq z (pos 0)) (Decides-int_eq z (pos 0)).0
     go false h = refl
 
 -- the divisor of an operation that divides is not zero
-record Divisor (o : Operation) (w : Width) (v : Value) : Type 0 where
+record Divisor (o : ArithmeticOperation) (w : Width) (v : Value) : Type 0 where
   type : type_of v ≡ type_of_width w
   test : (divides o && int_eq (number_of v) (pos 0)) ≡ false
   divisor : DividesBy o (number_of v)
 
-divisor-of : (o : Operation) (w : Width) (v : Value) → HasKind v (second_kind o w) → Divisor o w v
+divisor-of : (o : ArithmeticOperation) (w : Width) (v : Value) → HasKind v (second_kind o w) → Divisor o w v
 divisor-of Div w v h = record { type = h.0; test = not-zero (number_of v) h.1; divisor = h.1 }
 divisor-of Mod w v h = record { type = h.0; test = not-zero (number_of v) h.1; divisor = h.1 }
 divisor-of i w v h = record { type = h; test = refl; divisor = tt }
@@ -145,7 +145,7 @@ module _ (types : List ElementaryType) (count now next p : ℕ) (slots : List Va
         (λ v more is good f all. on-top second m.0 r.0 (λ these. Done i (v ∷ these) (gives ∷ r.0))
         r.1 (λ u others is_u good_u g all. does v u others r.0 is is_u g) more f) cells fit)
 
-    compute-does : (o : Operation) (w : Width) (cells : List Value) (kinds : List CellKind)
+    compute-does : (o : ArithmeticOperation) (w : Width) (cells : List Value) (kinds : List CellKind)
         → two (second_kind o w) (Plain (type_of_width w)) (Plain (type_of_width w)) kinds
         ≡ Some after
         → Fit cells kinds → Done (Compute o w) cells after

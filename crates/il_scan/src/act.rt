@@ -8,15 +8,15 @@ ghost use Rattle.il_scan.specs.Working as spec;
 ghost use Rattle.il_scan.specs.Words.{slot_at};
 ghost use Rattle.il_scan.specs.Working.{IsReady, IsSpan, is_not_zero, logic_word, timer_at, word_of, words_after, words};
 
-use crate::stack::Stack;
-use il_image::arithmetic::{Comparison, Operation, Width, compare, compute};
+use crate::stack::OperandStack;
+use il_image::arithmetic::{ArithmeticOperation, Comparison, Width, compare, compute};
 use il_image::instr::Instr;
 use il_image::opcode::{Connective, SlotUse, TimerUse, When};
 use il_image::timer::TimerState;
 
 // NOT: negates the top.
 #[inline(always)]
-fn negate(stack: &mut Stack)
+fn negate(stack: &mut OperandStack)
     requires some { 0 < length stack.old }
     ensures { stack.new ≡ word_of (int_eq (spec.top stack.old) (pos 0)) ∷ drop 1 stack.old }
 {
@@ -26,7 +26,7 @@ fn negate(stack: &mut Stack)
 
 // AND: combines two BOOLs into one.
 #[inline(always)]
-fn and(stack: &mut Stack)
+fn and(stack: &mut OperandStack)
     requires two { 1 < length stack.old }
     ensures { stack.new ≡ logic_word Connective.And (spec.first stack.old) (spec.top stack.old)
         ∷ drop 2 stack.old }
@@ -38,7 +38,7 @@ fn and(stack: &mut Stack)
 
 // OR: combines two BOOLs into one.
 #[inline(always)]
-fn or(stack: &mut Stack)
+fn or(stack: &mut OperandStack)
     requires two { 1 < length stack.old }
     ensures { stack.new ≡ logic_word Connective.Or (spec.first stack.old) (spec.top stack.old)
         ∷ drop 2 stack.old }
@@ -50,7 +50,7 @@ fn or(stack: &mut Stack)
 
 // XOR: combines two BOOLs into one.
 #[inline(always)]
-fn xor(stack: &mut Stack)
+fn xor(stack: &mut OperandStack)
     requires two { 1 < length stack.old }
     ensures { stack.new ≡ logic_word Connective.Xor (spec.first stack.old) (spec.top stack.old)
         ∷ drop 2 stack.old }
@@ -62,7 +62,7 @@ fn xor(stack: &mut Stack)
 
 // AND, OR or XOR.
 #[inline(always)]
-fn combine(stack: &mut Stack, connective: Connective)
+fn combine(stack: &mut OperandStack, connective: Connective)
     requires two { 1 < length stack.old }
     ensures { stack.new ≡ logic_word connective (spec.first stack.old) (spec.top stack.old)
         ∷ drop 2 stack.old }
@@ -76,7 +76,7 @@ fn combine(stack: &mut Stack, connective: Connective)
 
 // One of ADD, SUB, MUL, DIV and MOD: combines two numbers of the width into one.
 #[inline(always)]
-fn calculate(stack: &mut Stack, operation: Operation, width: Width)
+fn calculate(stack: &mut OperandStack, operation: ArithmeticOperation, width: Width)
     requires two { 1 < length stack.old }
     requires divisor { DividesBy operation (spec.top stack.old) }
     ensures { stack.new ≡ computation_of operation width (spec.first stack.old) (spec.top stack.old)
@@ -90,24 +90,24 @@ fn calculate(stack: &mut Stack, operation: Operation, width: Width)
 // ADD, SUB, MUL, DIV or MOD. Each is a separate call, so that the operation is known where the
 // opcode is.
 #[inline(always)]
-fn calculate_by(stack: &mut Stack, operation: Operation, width: Width)
+fn calculate_by(stack: &mut OperandStack, operation: ArithmeticOperation, width: Width)
     requires two { 1 < length stack.old }
     requires divisor { DividesBy operation (spec.top stack.old) }
     ensures { stack.new ≡ computation_of operation width (spec.first stack.old) (spec.top stack.old)
         ∷ drop 2 stack.old }
 {
     match operation {
-        Operation::Add => calculate(stack, Operation::Add, width),
-        Operation::Sub => calculate(stack, Operation::Sub, width),
-        Operation::Mul => calculate(stack, Operation::Mul, width),
-        Operation::Div => calculate(stack, Operation::Div, width),
-        Operation::Mod => calculate(stack, Operation::Mod, width),
+        ArithmeticOperation::Add => calculate(stack, ArithmeticOperation::Add, width),
+        ArithmeticOperation::Sub => calculate(stack, ArithmeticOperation::Sub, width),
+        ArithmeticOperation::Mul => calculate(stack, ArithmeticOperation::Mul, width),
+        ArithmeticOperation::Div => calculate(stack, ArithmeticOperation::Div, width),
+        ArithmeticOperation::Mod => calculate(stack, ArithmeticOperation::Mod, width),
     }
 }
 
 // One of GT, GE, EQ, NE, LE and LT: compares two values of the same type and gives a BOOL.
 #[inline(always)]
-fn relate(stack: &mut Stack, comparison: Comparison)
+fn relate(stack: &mut OperandStack, comparison: Comparison)
     requires two { 1 < length stack.old }
     ensures { stack.new ≡ word_of
         (comparison_holds comparison (spec.first stack.old) (spec.top stack.old))
@@ -120,7 +120,7 @@ fn relate(stack: &mut Stack, comparison: Comparison)
 
 // GT, GE, EQ, NE, LE or LT.
 #[inline(always)]
-fn relate_by(stack: &mut Stack, comparison: Comparison)
+fn relate_by(stack: &mut OperandStack, comparison: Comparison)
     requires two { 1 < length stack.old }
     ensures { stack.new ≡ word_of
         (comparison_holds comparison (spec.first stack.old) (spec.top stack.old))
@@ -138,7 +138,7 @@ fn relate_by(stack: &mut Stack, comparison: Comparison)
 
 // LOAD: pushes a slot's word.
 #[inline(always)]
-fn load(stack: &mut Stack, slots: &[i64], number: u16)
+fn load(stack: &mut OperandStack, slots: &[i64], number: u16)
     requires room { length stack.old < most_cells }
     requires there { number < length slots.now }
     ensures { stack.new ≡ slot_at slots.now number ∷ stack.old }
@@ -148,7 +148,7 @@ fn load(stack: &mut Stack, slots: &[i64], number: u16)
 
 // STORE: copies the top to the slot.
 #[inline(always)]
-fn store(stack: &Stack, slots: &mut [i64], number: u16)
+fn store(stack: &OperandStack, slots: &mut [i64], number: u16)
     requires some { 0 < length stack.now }
     requires there { number < length slots.old }
     ensures { slots.new ≡ slice_set slots.old number (spec.top stack.now) }
@@ -158,7 +158,7 @@ fn store(stack: &Stack, slots: &mut [i64], number: u16)
 
 // SETIF, RESETIF: sets the slot to TRUE or FALSE if the top is TRUE.
 #[inline(always)]
-fn set_if(stack: &Stack, slots: &mut [i64], number: u16, word: i64)
+fn set_if(stack: &OperandStack, slots: &mut [i64], number: u16, word: i64)
     requires some { 0 < length stack.now }
     requires there { number < length slots.old }
     ensures { slots.new ≡ slice_set slots.old number
@@ -172,7 +172,7 @@ fn set_if(stack: &Stack, slots: &mut [i64], number: u16, word: i64)
 // Returns the place of the next instruction after a conditional jump: `where_false` if the top is
 // FALSE, otherwise `where_true`.
 #[inline(always)]
-fn choose(stack: &Stack, where_false: usize, where_true: usize) -> usize
+fn choose(stack: &OperandStack, where_false: usize, where_true: usize) -> usize
     requires { 0 < length stack.now }
     ensures { result ≡ (if int_eq (spec.top stack.now) (pos 0) then where_false else where_true) }
 {
@@ -185,7 +185,7 @@ fn choose(stack: &Stack, where_false: usize, where_true: usize) -> usize
 
 // SETIN: pops the top as the timer's IN.
 #[inline(always)]
-fn set_input(stack: &mut Stack, timers: &mut [TimerState], number: u16)
+fn set_input(stack: &mut OperandStack, timers: &mut [TimerState], number: u16)
     requires some { 0 < length stack.old }
     requires there { number < length timers.old }
     ensures stack { stack.new ≡ drop 1 stack.old }
@@ -200,7 +200,7 @@ fn set_input(stack: &mut Stack, timers: &mut [TimerState], number: u16)
 
 // SETPT: pops the top as the timer's PT.
 #[inline(always)]
-fn set_preset(stack: &mut Stack, timers: &mut [TimerState], number: u16)
+fn set_preset(stack: &mut OperandStack, timers: &mut [TimerState], number: u16)
     requires some { 0 < length stack.old }
     requires there { number < length timers.old }
     requires span { IsSpan (spec.top stack.old) }
@@ -226,7 +226,7 @@ fn run(timers: &mut [TimerState], number: u16, now: u64)
 
 // LOADQ: pushes Q.
 #[inline(always)]
-fn load_output(stack: &mut Stack, timers: &[TimerState], number: u16)
+fn load_output(stack: &mut OperandStack, timers: &[TimerState], number: u16)
     requires room { length stack.old < most_cells }
     requires there { number < length timers.now }
     ensures { stack.new ≡ word_of (timer_at timers.now number).output ∷ stack.old }
@@ -237,7 +237,7 @@ fn load_output(stack: &mut Stack, timers: &[TimerState], number: u16)
 
 // LOADET: pushes ET.
 #[inline(always)]
-fn load_elapsed(stack: &mut Stack, timers: &[TimerState], number: u16)
+fn load_elapsed(stack: &mut OperandStack, timers: &[TimerState], number: u16)
     requires room { length stack.old < most_cells }
     requires there { number < length timers.now }
     ensures { stack.new ≡ pos (timer_at timers.now number).elapsed ∷ stack.old }
@@ -253,7 +253,7 @@ pub(crate) fn act(
     now: u64,
     instr: Instr,
     next: usize,
-    stack: &mut Stack,
+    stack: &mut OperandStack,
     slots: &mut [i64],
     timers: &mut [TimerState],
 ) -> Option<usize>

@@ -8,7 +8,7 @@ ghost use Rattle.il_verify.specs.Verdicts.{IsSafe};
 
 use crate::act::act;
 use crate::fetch::fetch;
-use crate::stack::Stack;
+use crate::stack::OperandStack;
 use il_image::image::Image;
 use il_image::timer::TimerState;
 
@@ -19,7 +19,7 @@ fn turn(
     code: &[u8],
     now: u64,
     place: usize,
-    stack: &mut Stack,
+    stack: &mut OperandStack,
     slots: &mut [i64],
     timers: &mut [TimerState],
 ) -> Option<usize>
@@ -42,7 +42,7 @@ pub(crate) fn run(image: &Image, now: u64, slots: &mut [i64], timers: &mut [Time
     ensures { RunsTo image.now now slots.old timers.old slots.new timers.new result }
 {
     let code = image.code();
-    let mut stack = Stack::new();
+    let mut stack = OperandStack::new();
     let mut place = 0;
     let mut steps = 0;
     while let Some(next) = turn(code, now, place, &mut stack, slots, timers) {

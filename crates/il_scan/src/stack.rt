@@ -12,11 +12,11 @@ const ROOM: usize = 32;
 /// The operand stack. Verified code always leaves room for a pushed word and has a word to pop, so
 /// neither is checked.
 #[derive(Drop)]
-pub(crate) struct Stack {
+pub(crate) struct OperandStack {
     words: ArrayVec<i64, ROOM>,
 }
 
-impl Model for Stack {
+impl Model for OperandStack {
     ghost use Rattle.std.specs.Prelude.{◌≤◌, ℤ, List, length, reverse};
     ghost use Rattle.il_image.specs.Machine.{most_cells};
 
@@ -27,13 +27,13 @@ impl Model for Stack {
     ghost invariant = { λ s. length s.words.items ≤ most_cells };
 }
 
-impl Stack {
+impl OperandStack {
     /// Creates an empty stack.
     #[inline(always)]
-    pub(crate) fn new() -> Stack
+    pub(crate) fn new() -> OperandStack
         ensures { result ≡ [] }
     {
-        Stack {
+        OperandStack {
             words: ArrayVec::new(),
         }
     }

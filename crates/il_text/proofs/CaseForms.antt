@@ -6,15 +6,15 @@ use Rattle.std.proofs.lemmas.List.{drop-map, take-map}
 use Rattle.std.specs.List.{position_or_len}
 use Rattle.il_text.specs.Forms as form
 use Rattle.il_text.specs.LetterCase.{upper_place, upper_source, upper_argument, upper_action}
-use Rattle.il_text.specs.Listing.{Place, named, output, Source, Action, load, store, combine, invert, convert, jump, leave, call}
-use Rattle.il_text.specs.Parts.{Part, heading, opening, declaring, closing, labelling, acting, entering, leaving, ending}
+use Rattle.il_text.specs.Listing.{Place, named, output, OperandData, Action, load, store, combine, invert, convert, jump, leave, call}
+use Rattle.il_text.specs.Parts.{LineContent, heading, opening, declaring, closing, labelling, acting, entering, leaving, ending}
 use Rattle.il_text.specs.Tokens.{Symbol, name, keyword_word, type_word, literal, mnemonic_word, mark_symbol}
 use Rattle.il_text.specs.declared.form.Tail.{Tail}
 use Rattle.il_text.specs.declared.program.Input.{Input}
 use Rattle.il_text.specs.declared.program.Literal.{Literal}
 use Rattle.il_text.specs.declared.program.Operator.{Operator}
 use Rattle.il_text.specs.declared.program.Output.{Output}
-use Rattle.il_text.specs.declared.program.Scope.TheVariants.{Local, External}
+use Rattle.il_text.specs.declared.program.VariableScope.TheVariants.{Local, External}
 use Rattle.il_text.specs.declared.token.Keyword.{Keyword}
 use Rattle.il_text.specs.declared.token.Keyword.TheVariants as keyword
 use Rattle.il_text.specs.declared.token.Mark.{Mark}
@@ -27,7 +27,7 @@ use Rattle.il_text.proofs.CaseCutting.{upper_symbol}
 abbrev pub upper_symbols : List Symbol → List Symbol
 upper_symbols = map upper_symbol
 
-abbrev pub upper_part : Part → Part
+abbrev pub upper_part : LineContent → LineContent
 upper_part (heading n) = heading (map up n)
 upper_part (opening scope) = opening scope
 upper_part (declaring ns kind initial) = declaring (map (map up) ns) kind initial
@@ -38,7 +38,7 @@ upper_part (entering o g) = entering o g
 upper_part leaving = leaving
 upper_part ending = ending
 
-abbrev pub upper_parts : List Part → List Part
+abbrev pub upper_parts : List LineContent → List LineContent
 upper_parts = map upper_part
 
 -- a test of a token that is no name
@@ -140,7 +140,7 @@ inputs-by : (o : Option (List ℕ))
 inputs-by None = refl
 inputs-by (Some w) = input_named-up w
 
-given_by : (k : Option Input) (x : Option Source)
+given_by : (k : Option Input) (x : Option OperandData)
     → option_and_then (λ k. option_map (λ x. (k, x)) (option_map upper_source x)) k
     ≡ option_map upper_argument (option_and_then (λ k. option_map (λ x. (k, x)) x) k)
 given_by None x = refl
@@ -183,10 +183,10 @@ parted-up m ss =
     ap (λ (n : ℕ). form.parts_at n (upper_symbols ss)) (position-up (form.is_mark m) (mark-s m) ss)
     ∙ parts_at-up (position_or_len (form.is_mark m) ss) ss
 
-abbrev up_arguments : List (Input × Source) → List (Input × Source)
+abbrev up_arguments : List (Input × OperandData) → List (Input × OperandData)
 up_arguments = map upper_argument
 
-both-up : (a b : Input × Source)
+both-up : (a b : Input × OperandData)
     → form.both (upper_argument a) (upper_argument b) ≡ option_map up_arguments (form.both a b)
 both-up a b = cond-both (form.same_input a.0 b.0)
   where
@@ -195,7 +195,7 @@ both-up a b = cond-both (form.same_input a.0 b.0)
     cond-both true = refl
     cond-both false = refl
 
-two-by : (x y : Option (Input × Source))
+two-by : (x y : Option (Input × OperandData))
     → option_and_then (λ a. option_and_then (form.both a) (option_map upper_argument y))
     (option_map upper_argument x)
     ≡ option_map up_arguments (option_and_then (λ a. option_and_then (form.both a) y) x)
@@ -203,7 +203,7 @@ two-by None y = refl
 two-by (Some a) None = refl
 two-by (Some a) (Some b) = both-up a b
 
-one-by : (x : Option (Input × Source))
+one-by : (x : Option (Input × OperandData))
     → option_map (λ a. a ∷ []) (option_map upper_argument x)
     ≡ option_map up_arguments (option_map (λ a. a ∷ []) x)
 one-by None = refl
@@ -241,7 +241,7 @@ unfolding form.closed_arguments
 closed-up ss =
     ap form.closed_by (parted-up mark.Close ss) ∙ closed_by-up (form.split_at_mark mark.Close ss)
 
-call-by : (n : Option (List ℕ)) (o : Option (List (Input × Source)))
+call-by : (n : Option (List ℕ)) (o : Option (List (Input × OperandData)))
     → option_and_then (λ n. option_map (call n) (option_map up_arguments o)) (option_map (map up) n)
     ≡ option_map upper_action (option_and_then (λ n. option_map (call n) o) n)
 call-by None o = refl
@@ -277,7 +277,7 @@ alone-up : (a b : Action) → b ≡ upper_action a → (ss : List Symbol)
 alone-up a b e [] = ap (λ (x : Action). Some (acting x ∷ [])) e
 alone-up a b e (s ∷ ss) = refl
 
-loaded-by : (o : Operator) (n : Bool) (x : Option Source)
+loaded-by : (o : Operator) (n : Bool) (x : Option OperandData)
     → option_map (λ x. entering o n ∷ acting (load false x) ∷ []) (option_map upper_source x)
     ≡ option_map upper_parts (option_map (λ x. entering o n ∷ acting (load false x) ∷ []) x)
 loaded-by o n None = refl
@@ -291,7 +291,7 @@ entered-up o n (s ∷ ss) =
     ap (option_map (λ x. entering o n ∷ acting (load false x) ∷ [])) (operand-up (s ∷ ss))
     ∙ loaded-by o n (form.operand (s ∷ ss))
 
-cond-two : (b : Bool) (x y : Option (List Part)) (p q : Option (List Part))
+cond-two : (b : Bool) (x y : Option (List LineContent)) (p q : Option (List LineContent))
     → p ≡ option_map upper_parts x → q ≡ option_map upper_parts y
     → cond b p q ≡ option_map upper_parts (cond b x y)
 cond-two true x y p q e f = e
@@ -421,7 +421,7 @@ by-up : (s : Symbol) (ss : List Symbol)
 by-up (mnemonic_word m) ss = statement-up m ss
 by-up i ss = refl
 
-labelled-by : (n : List ℕ) (o : Option (List Part))
+labelled-by : (n : List ℕ) (o : Option (List LineContent))
     → option_map (λ ps. labelling (map up n) ∷ ps) (option_map upper_parts o)
     ≡ option_map upper_parts (option_map (λ ps. labelling n ∷ ps) o)
 labelled-by n None = refl
@@ -450,9 +450,9 @@ named_line-up n rest ss =
     ap (form.label_or (map up n) (upper_symbols ss)) (rest-up rest)
     ∙ label-by n ss (form.label_rest rest)
 
-only-up : (p q : Part) → q ≡ upper_part p → (ss : List Symbol)
+only-up : (p q : LineContent) → q ≡ upper_part p → (ss : List Symbol)
     → form.only q (upper_symbols ss) ≡ option_map upper_parts (form.only p ss)
-only-up p q e [] = ap (λ (x : Part). Some (x ∷ [])) e
+only-up p q e [] = ap (λ (x : LineContent). Some (x ∷ [])) e
 only-up p q e (s ∷ ss) = refl
 
 heading-by : (o : Option (List ℕ))

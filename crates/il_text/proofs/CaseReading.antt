@@ -8,7 +8,7 @@ use Rattle.il_text.specs.Forms.{parts_of}
 use Rattle.il_text.specs.Grammar.{is_plain}
 use Rattle.il_text.specs.LetterCase.{upper_action, upper_entry, upper_entries, upper_declared, upper_program, LettersMayBeRespelled}
 use Rattle.il_text.specs.Listing.{Action, Entry, label, action, block, entry, entries_of, Declared, PlainProgram}
-use Rattle.il_text.specs.Parts.{Part, heading, opening, declaring, closing, labelling, acting, entering, leaving, ending}
+use Rattle.il_text.specs.Parts.{LineContent, heading, opening, declaring, closing, labelling, acting, entering, leaving, ending}
 use Rattle.il_text.specs.Places.{last_line}
 use Rattle.il_text.specs.Reading.{onto, lines, tokens_of, Read, is_instruction, has_instruction, past_limit, with_instruction, within_bounds, within_limits, after_text_line, after_parts, after_line, whole_at, reading, none_yet, program_of, most_instructions, most_open}
 use Rattle.il_text.specs.Steps.{Opened, Reached, at_place, with_name, declared_in, with_declarations, with_item, with_opened, is_start, is_between_blocks, block_scope, is_outside, is_some, is_load, may_begin_with, declared_here, closed_block, left_here, may_stand, may_act, may_enter, may_leave, step, steps}
@@ -21,7 +21,7 @@ use Rattle.il_text.specs.declared.listing.Stage.{Stage}
 use Rattle.il_text.specs.declared.listing.Stage.TheVariants as place
 use Rattle.il_text.specs.declared.program.DeclaredType.{DeclaredType}
 use Rattle.il_text.specs.declared.program.Literal.{Literal}
-use Rattle.il_text.specs.declared.program.Scope.{Scope}
+use Rattle.il_text.specs.declared.program.VariableScope.{VariableScope}
 use Rattle.il_text.proofs.CaseLemmas.{up}
 use Rattle.il_text.proofs.CaseCutting.{upper_symbol, upper_piece, cut-up, last_line-up}
 use Rattle.il_text.proofs.CaseForms.{upper_symbols, upper_part, upper_parts, parts-up}
@@ -143,7 +143,7 @@ item-up : (r : Reached) (e : Entry)
     → with_item (upper_entry e) (upper_reached r) ≡ upper_reached (with_item e r)
 item-up r e = ap (with_items r) (sym (map-append upper_entry r.items (e ∷ [])))
 
-declared-up : (n : ℕ) (scope : Scope) (kind : DeclaredType) (initial : Option Literal)
+declared-up : (n : ℕ) (scope : VariableScope) (kind : DeclaredType) (initial : Option Literal)
     (ns : List (List ℕ))
     → map (declared_in n scope kind initial) (map (map up) ns)
     ≡ map upper_declared (map (declared_in n scope kind initial) ns)
@@ -164,7 +164,7 @@ with_listed r ds =
     }
 
 declaring-up : (n : ℕ) (ns : List (List ℕ)) (kind : DeclaredType) (initial : Option Literal)
-    (r : Reached) (o : Option Scope)
+    (r : Reached) (o : Option VariableScope)
     → declared_here n (map (map up) ns) kind initial (upper_reached r) o
     ≡ option_map upper_reached (declared_here n ns kind initial r o)
 declaring-up n ns kind initial r None = refl
@@ -176,7 +176,7 @@ declaring-up n ns kind initial r (Some scope) =
     (declared-up n scope kind initial ns)
     ∙ sym (map-append upper_declared r.declarations (map (declared_in n scope kind initial) ns))))
 
-closing-up : (r : Reached) (o : Option Scope)
+closing-up : (r : Reached) (o : Option VariableScope)
     → closed_block (upper_reached r) o ≡ option_map upper_reached (closed_block r o)
 closing-up r None = refl
 closing-up r (Some scope) = refl
@@ -203,7 +203,7 @@ left-up n r (f ∷ fs) =
     ∙ sym (map-append upper_entry f.outer
     (block f.line f.operator f.negated (entries_of r.items) n ∷ [])))
 
-step-up : (n : ℕ) (r : Reached) (p : Part)
+step-up : (n : ℕ) (r : Reached) (p : LineContent)
     → step n (upper_reached r) (upper_part p) ≡ option_map upper_reached (step n r p)
 unfolding step
 step-up n r (heading name) = cond-map upper_reached (is_start r.place) (Some (with_name name r))
@@ -238,7 +238,7 @@ then-steps : (f g : Reached → Option Reached)
 then-steps f g h None = refl
 then-steps f g h (Some s) = h s
 
-steps-up : (n : ℕ) (r : Reached) (ps : List Part)
+steps-up : (n : ℕ) (r : Reached) (ps : List LineContent)
     → steps n (upper_reached r) (upper_parts ps) ≡ option_map upper_reached (steps n r ps)
 unfolding steps
 steps-up n r [] = refl
@@ -247,10 +247,10 @@ steps-up n r (p ∷ ps) =
     ∙ then-steps (λ s. steps n s (upper_parts ps)) (λ s. steps n s ps)
     (λ s. unfold steps in steps-up n s ps) (step n r p)
 
-one_instruction-up : (p : Part) → is_instruction (upper_part p) ≡ is_instruction p
+one_instruction-up : (p : LineContent) → is_instruction (upper_part p) ≡ is_instruction p
 one_instruction-up p = grind (arith, common_steps)
 
-instruction-up : (ps : List Part) → has_instruction (upper_parts ps) ≡ has_instruction ps
+instruction-up : (ps : List LineContent) → has_instruction (upper_parts ps) ≡ has_instruction ps
 instruction-up [] = refl
 instruction-up (p ∷ ps) = rw (one_instruction-up p, instruction-up ps) refl
 
@@ -281,7 +281,7 @@ bounded-up n last k s =
     ∙ cond-ok (leb (length s.parentheses) most_open) _ _ (with_instruction n last k s)
     (Err (past_limit n last (TooDeep n))) (counted-up n last k s) refl
 
-limited-up : (n last k : ℕ) (ps : List Part) (s : Reached)
+limited-up : (n last k : ℕ) (ps : List LineContent) (s : Reached)
     → within_limits n last k (upper_parts ps) (upper_reached s)
     ≡ upper_ok (within_limits n last k ps s)
 limited-up n last k ps s =
@@ -290,13 +290,13 @@ limited-up n last k ps s =
     ∙ cond-ok (has_instruction ps) _ _ (within_bounds n last k s)
     (Ok (record { reached = s; instructions = k })) (bounded-up n last k s) refl
 
-stepped-up : (n last k : ℕ) (ps : List Part) (o : Option Reached)
+stepped-up : (n last k : ℕ) (ps : List LineContent) (o : Option Reached)
     → after_text_line n last k (upper_parts ps) (option_map upper_reached o)
     ≡ upper_ok (after_text_line n last k ps o)
 stepped-up n last k ps None = refl
 stepped-up n last k ps (Some s) = limited-up n last k ps s
 
-forms-up : (n last : ℕ) (r : Read) (o : Option (List Part))
+forms-up : (n last : ℕ) (r : Read) (o : Option (List LineContent))
     → after_parts n last (upper_read r) (option_map upper_parts o)
     ≡ upper_ok (after_parts n last r o)
 forms-up n last r None = refl

@@ -8,14 +8,14 @@ use Rattle.std.proofs.Math.Bool.{or-true}
 use Rattle.std.proofs.lemmas.Bool.{false≢true, or_left, and_parts}
 use Rattle.il_text.specs.Grammar.{Numbered, Declaration, Block, declaration_part, block_parts, names_declared, block_declared, may_declare, is_allowed, entry_parts, entries_parts, is_plain, is_first, is_inner, all_inner, is_parenthesis, is_outer, Derives}
 use Rattle.il_text.specs.Listing.{Action, Entry, label, action, block, Entries, no_entries, entry, entries_of, Declared, PlainProgram}
-use Rattle.il_text.specs.Parts.{Part, heading, opening, declaring, closing, labelling, acting, entering, leaving, ending}
+use Rattle.il_text.specs.Parts.{LineContent, heading, opening, declaring, closing, labelling, acting, entering, leaving, ending}
 use Rattle.il_text.specs.Steps.{Opened, Reached, nothing_read, is_body, is_outside, is_some, is_load, may_begin_with, may_stand, may_act, may_enter, may_leave, step}
 use Rattle.il_text.specs.declared.listing.Stage.{Stage}
 use Rattle.il_text.specs.declared.listing.Stage.TheVariants as place
 use Rattle.il_text.specs.declared.program.Literal.{Literal}
 use Rattle.il_text.specs.declared.program.Operator.{Operator}
-use Rattle.il_text.specs.declared.program.Scope.{Scope}
-use Rattle.il_text.specs.declared.program.Scope.TheVariants.{Local, External}
+use Rattle.il_text.specs.declared.program.VariableScope.{VariableScope}
+use Rattle.il_text.specs.declared.program.VariableScope.TheVariants.{Local, External}
 use Rattle.il_text.proofs.GrammarLemmas.{run}
 
 -- what is reached, with all that was read till then
@@ -23,7 +23,7 @@ abbrev pub state : Stage → List ℕ → List Declared → List Entry → List 
 state p name ds es fs =
     record { place = p; name = name; declarations = ds; items = es; parentheses = fs }
 
-pub run-step : (n : ℕ) (r s : Reached) (p : Part) (ps : List Numbered) → step n r p ≡ Some s
+pub run-step : (n : ℕ) (r s : Reached) (p : LineContent) (ps : List Numbered) → step n r p ≡ Some s
     → run r ((n, p) ∷ ps) ≡ run s ps
 run-step n r s p ps e = rw e refl
 
@@ -189,19 +189,19 @@ none-initial : (o : Option Literal) → is_none o ≡ true → may_begin_with Ex
 none-initial None h = refl
 none-initial (Some x) h = absurd (false≢true h)
 
-begins : (scope : Scope) (d : Declaration) → may_declare scope d ≡ true
+begins : (scope : VariableScope) (d : Declaration) → may_declare scope d ≡ true
     → may_begin_with scope d.initial ≡ true
 begins Local d h = refl
 begins External d h = none-initial d.initial h
 
-declare-step : (d : Declaration) (scope : Scope) (name : List ℕ) (ds : List Declared)
+declare-step : (d : Declaration) (scope : VariableScope) (name : List ℕ) (ds : List Declared)
     → may_declare scope d ≡ true
     → step d.line (state (place.Block scope) name ds [] []) (declaring d.names d.kind d.initial)
     ≡ Some (state (place.Block scope) name (ds ++ names_declared scope d) [] [])
 unfolding step
 declare-step d scope name ds h = rw (begins scope d h) refl
 
-declarations-run : (dls : List Declaration) (scope : Scope) (name : List ℕ) (ds : List Declared)
+declarations-run : (dls : List Declaration) (scope : VariableScope) (name : List ℕ) (ds : List Declared)
     (ps : List Numbered) → list_all (may_declare scope) dls ≡ true
     → run (state (place.Block scope) name ds [] []) (map declaration_part dls ++ ps)
     ≡ run (state (place.Block scope) name (ds ++ flat_map (names_declared scope) dls) [] []) ps
@@ -218,13 +218,13 @@ declarations-run (d ∷ dls) scope name ds ps h =
     ∙ ap (λ (x : List Declared). run (state (place.Block scope) name x [] []) ps)
     (append_assoc ds (names_declared scope d) (flat_map (names_declared scope) dls))
 
-open-step : (n : ℕ) (scope : Scope) (name : List ℕ) (ds : List Declared)
+open-step : (n : ℕ) (scope : VariableScope) (name : List ℕ) (ds : List Declared)
     → step n (state place.Declarations name ds [] []) (opening scope)
     ≡ Some (state (place.Block scope) name ds [] [])
 unfolding step
 open-step n scope name ds = refl
 
-pub close-step : (n : ℕ) (scope : Scope) (name : List ℕ) (ds : List Declared)
+pub close-step : (n : ℕ) (scope : VariableScope) (name : List ℕ) (ds : List Declared)
     → step n (state (place.Block scope) name ds [] []) closing
     ≡ Some (state place.Declarations name ds [] [])
 unfolding step

@@ -16,7 +16,7 @@ use Rattle.std.proofs.lemmas.List.Sums.{sum_by-append}
 use Rattle.std.specs.List.{flat_map, sum_by, prefix_len}
 use Rattle.bay_base.specs.Names.{same_name}
 use Rattle.il_text.specs.Literals.{is_underscore, is_integer, number, Duration, number_len, unit_len, number_of_part, with_part, part, parts, total_of, milliseconds}
-use Rattle.il_text.specs.Falling.{Unit, days, hours, minutes, seconds, thousandths, letters, size, Part, spelling, value, IsPart, Fall, IsDuration, DurationsFall}
+use Rattle.il_text.specs.Falling.{Unit, days, hours, minutes, seconds, thousandths, letters, size, DurationPart, spelling, value, IsPart, Fall, IsDuration, DurationsFall}
 
 -- the parts of these units are taken, one unit behind the other
 abbrev run : List Unit → Option Duration → Option Duration
@@ -32,12 +32,12 @@ Below above [] = ⊤
 Below above (u ∷ us) = (size u < above) × Below (size u) us
 
 -- parts of units below this one, which may stand behind others
-abbrev Parts : Bool → ℕ → List Part → Type 0
+abbrev Parts : Bool → ℕ → List DurationPart → Type 0
 Parts behind above [] = ⊤
 Parts behind above (p ∷ ps) = IsPart behind p × (size p.unit < above) × Fall (size p.unit) ps
 
 record Taken (u : Unit) (d e : Duration) : Type 0 where
-  p : Part
+  p : DurationPart
   is : IsPart d.begun p
   of : p.unit ≡ u
   spelled : d.rest ≡ spelling p ++ e.rest
@@ -45,7 +45,7 @@ record Taken (u : Unit) (d e : Duration) : Type 0 where
   begun : e.begun ≡ true
 
 record Read (above : ℕ) (d e : Duration) : Type 0 where
-  ps : List Part
+  ps : List DurationPart
   fall : Parts d.begun above ps
   spelled : d.rest ≡ flat_map spelling ps ++ e.rest
   summed : e.total ≡ d.total + sum_by value ps
@@ -92,12 +92,12 @@ one-unit : (u : Unit) (d e : Duration) → part (letters u) (size u) d ≡ Some 
 unfolding part
 one-unit u d e h = taken-or-same u d e _ refl h
 
-raised : (behind : Bool) (low high : ℕ) (ps : List Part) → low < high → Parts behind low ps
+raised : (behind : Bool) (low high : ℕ) (ps : List DurationPart) → low < high → Parts behind low ps
     → Parts behind high ps
 raised behind low high [] h f = tt
 raised behind low high (p ∷ ps) h f = (f.0, omega (arith, f.1), f.2)
 
-to-fall : (low : ℕ) (ps : List Part) → Parts true low ps → Fall low ps
+to-fall : (low : ℕ) (ps : List DurationPart) → Parts true low ps → Fall low ps
 to-fall low [] f = tt
 to-fall low (p ∷ ps) f = f
 
@@ -170,7 +170,7 @@ total-found : (d : Duration) (ms : ℕ) → total_of d ≡ Some ms
 unfolding total_of
 total-found d ms h = total-if d.begun d ms h
 
-spelled-out : (w : List ℕ) (ms : ℕ) (ps : List Part) (above : ℕ) → Parts false above ps
+spelled-out : (w : List ℕ) (ms : ℕ) (ps : List DurationPart) (above : ℕ) → Parts false above ps
     → (ps ≡ [] → ⊥) → w ≡ flat_map spelling ps → ms ≡ sum_by value ps → IsDuration w ms
 spelled-out w ms [] above f z s t = absurd (z refl)
 spelled-out w ms (p ∷ ps) above f z s t =
@@ -327,7 +327,7 @@ cuts ds name w r e n m =
       drop-append_seam name w,
     ) (refl, refl, refl)
 
-part-cuts : (behind : Bool) (p : Part) (w r : List ℕ) → IsPart behind p → r ≡ spelling p ++ w
+part-cuts : (behind : Bool) (p : DurationPart) (w r : List ℕ) → IsPart behind p → r ≡ spelling p ++ w
     → prefix_len is_ascii_alphabetic w ≡ 0
     → (take (number_len r) r ≡ p.digits) × (take (unit_len r) (drop (number_len r) r) ≡ p.name)
     × (drop (unit_len r) (drop (number_len r) r) ≡ w)
@@ -347,7 +347,7 @@ took-from : (u : Unit) (d : Duration) (ds name w : List ℕ) (k : ℕ)
 unfolding part
 took-from u d ds name w k a b c n s = rw (b, s, a, n, c) refl
 
-took : (u : Unit) (d : Duration) (p : Part) (w : List ℕ) → IsPart d.begun p → p.unit ≡ u
+took : (u : Unit) (d : Duration) (p : DurationPart) (w : List ℕ) → IsPart d.begun p → p.unit ≡ u
     → d.rest ≡ spelling p ++ w → prefix_len is_ascii_alphabetic w ≡ 0
     → part (letters u) (size u) d
     ≡ Some (record { rest = w; total = d.total + value p; begun = true })
@@ -395,7 +395,7 @@ other-unit : (u v : Unit) (name : List ℕ) → same_name name (letters u) ≡ t
     → same_name name (letters v) ≡ false
 other-unit u v name h l = other-if u v name _ h l refl
 
-left-other : (u : Unit) (d : Duration) (p : Part) (w : List ℕ) → IsPart d.begun p
+left-other : (u : Unit) (d : Duration) (p : DurationPart) (w : List ℕ) → IsPart d.begun p
     → size p.unit < size u → d.rest ≡ spelling p ++ w → prefix_len is_ascii_alphabetic w ≡ 0
     → part (letters u) (size u) d ≡ Some d
 left-other u d p w is l e z =
@@ -432,22 +432,22 @@ covered = (
 largest : (v : Unit) → size v < 86400001
 largest v = omega (arith, five v)
 
-from-fall : (low : ℕ) (ps : List Part) → Fall low ps → Parts true low ps
+from-fall : (low : ℕ) (ps : List DurationPart) → Fall low ps → Parts true low ps
 from-fall low [] f = tt
 from-fall low (p ∷ ps) f = f
 
-parts-end : (low : ℕ) (ps : List Part) → Fall low ps
+parts-end : (low : ℕ) (ps : List DurationPart) → Fall low ps
     → prefix_len is_ascii_alphabetic (flat_map spelling ps) ≡ 0
 parts-end low [] f = refl
 parts-end low (p ∷ ps) f =
     ap (prefix_len is_ascii_alphabetic) (append_assoc p.digits p.name (flat_map spelling ps))
     ∙ number-ends true p.digits (p.name ++ flat_map spelling ps) p.count (f.0).counted
 
-abbrev any : List Part → Bool
+abbrev any : List DurationPart → Bool
 any [] = false
 any (p ∷ ps) = true
 
-abbrev after : Duration → List Part → Duration
+abbrev after : Duration → List DurationPart → Duration
 after d ps = record { rest = []; total = d.total + sum_by value ps; begun = d.begun || any ps }
 
 nothing-left : (d : Duration) → d.rest ≡ [] → Some d ≡ Some (after d [])
@@ -455,17 +455,17 @@ nothing-left d e =
     rw (add-zero d.total, or-false d.begun)
     (ap (λ (w : List ℕ). Some (record { rest = w; total = d.total; begun = d.begun })) e)
 
-abbrev behind_it : Duration → Part → List Part → Duration
+abbrev behind_it : Duration → DurationPart → List DurationPart → Duration
 behind_it d p ps = record { rest = flat_map spelling ps; total = d.total + value p; begun = true }
 
-added : (d : Duration) (p : Part) (ps : List Part)
+added : (d : Duration) (p : DurationPart) (ps : List DurationPart)
     → Some (after (behind_it d p ps) ps) ≡ Some (after d (p ∷ ps))
 added d p ps =
     let t : d.total + value p + sum_by value ps ≡ d.total + sum_by value (p ∷ ps) =
     rw (sum_by-append value (p ∷ []) ps) (omega arith) in
     rw (or-true d.begun) (ap (λ (n : ℕ). Some (record { rest = []; total = n; begun = true })) t)
 
-passes : (us : List Unit) (above : ℕ) (d : Duration) (ps : List Part) → Covers above us
+passes : (us : List Unit) (above : ℕ) (d : Duration) (ps : List DurationPart) → Covers above us
     → Parts d.begun above ps → d.rest ≡ flat_map spelling ps → run us (Some d) ≡ Some (after d ps)
 passes [] above d [] c f e = nothing-left d e
 passes [] above d (p ∷ ps) c f e = absurd (c p.unit f.1)

@@ -8,7 +8,7 @@ use Rattle.il_text.specs.Steps.{Opened, Reached, nothing_read, is_body, is_some,
 use Rattle.il_text.specs.declared.listing.Stage.{Stage}
 use Rattle.il_text.specs.declared.listing.Stage.TheVariants as place
 use Rattle.il_text.specs.declared.program.Literal.TheVariants.{Truth}
-use Rattle.il_text.specs.declared.program.Scope.{Scope}
+use Rattle.il_text.specs.declared.program.VariableScope.{VariableScope}
 use Rattle.il_text.proofs.GrammarLemmas.{run, run-append, run-reaches, start-reaches, ReachesAt, Reaches}
 use Rattle.il_text.proofs.DerivedLemmas.{state, run-step, some-more, ending-step, close-step, derived-runs}
 
@@ -69,7 +69,7 @@ end-body (f ∷ fs) name ds [] =
     )
 end-body (f ∷ fs) name ds (e ∷ es) = end-closing (f ∷ fs) name ds (e ∷ es) refl
 
-end-block : (scope : Scope) (name : List ℕ) (ds : List Declared)
+end-block : (scope : VariableScope) (name : List ℕ) (ds : List Declared)
     → Ended (state (place.Block scope) name ds [] [])
 end-block scope name ds =
     let k = end-now place.Declarations name ds [] refl in (

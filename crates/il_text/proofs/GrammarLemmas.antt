@@ -9,7 +9,7 @@ use Rattle.std.proofs.lemmas.Grind.{flat_map-append}
 use Rattle.std.proofs.lemmas.List.{map-append}
 use Rattle.il_text.specs.Grammar.{Numbered, Declaration, Block, declaration_part, block_parts, names_declared, block_declared, may_declare, is_allowed, entry_parts, entries_parts, is_plain, is_first, is_inner, all_inner, is_parenthesis, is_outer, Derives}
 use Rattle.il_text.specs.Listing.{Action, load, Entry, label, action, block, Entries, entries_of, Declared}
-use Rattle.il_text.specs.Parts.{Part, heading, opening, declaring, closing, labelling, acting, entering, leaving, ending}
+use Rattle.il_text.specs.Parts.{LineContent, heading, opening, declaring, closing, labelling, acting, entering, leaving, ending}
 use Rattle.il_text.specs.Reading.{program_made}
 use Rattle.il_text.specs.Steps.{Opened, Reached, nothing_read, at_place, with_name, declared_in, with_declarations, with_item, with_opened, with_closed, is_start, is_between_blocks, block_scope, is_body, is_outside, is_some, is_load, may_begin_with, declared_here, closed_block, may_stand, may_act, may_enter, may_leave, left_here, step}
 use Rattle.il_text.specs.declared.listing.Stage.{Stage}
@@ -17,8 +17,8 @@ use Rattle.il_text.specs.declared.listing.Stage.TheVariants as place
 use Rattle.il_text.specs.declared.program.DeclaredType.{DeclaredType}
 use Rattle.il_text.specs.declared.program.Literal.{Literal}
 use Rattle.il_text.specs.declared.program.Operator.{Operator}
-use Rattle.il_text.specs.declared.program.Scope.{Scope}
-use Rattle.il_text.specs.declared.program.Scope.TheVariants.{Local, External}
+use Rattle.il_text.specs.declared.program.VariableScope.{VariableScope}
+use Rattle.il_text.specs.declared.program.VariableScope.TheVariants.{Local, External}
 
 -- parts one after the other, each with its line
 abbrev pub run : Reached → List Numbered → Option Reached
@@ -61,7 +61,7 @@ pub record InBody (ps : List Numbered) (r : Reached) : Type 0 where
   pub right : items_right r.parentheses r.items ≡ true
   pub opened : opened_right r.parentheses ≡ true
 
-pub record InBlock (scope : Scope) (ps : List Numbered) (r : Reached) : Type 0 where
+pub record InBlock (scope : VariableScope) (ps : List Numbered) (r : Reached) : Type 0 where
   pub first : ℕ
   pub blocks : List Block
   pub line : ℕ
@@ -114,10 +114,10 @@ between-at : (ps : List Numbered) (r : Reached) (p : Stage) → is_between_block
 between-at ps r place.Declarations h x = x
 between-at ps r i h x = absurd (false≢true h)
 
-block-at : (ps : List Numbered) (r : Reached) (p : Stage) (scope : Scope)
+block-at : (ps : List Numbered) (r : Reached) (p : Stage) (scope : VariableScope)
     → block_scope p ≡ Some scope → ReachesAt ps r p → InBlock scope ps r
 block-at ps r (place.Block other) scope h x = let e : other ≡ scope =
-    cc in subst (λ (k : Scope). InBlock k ps r) e x
+    cc in subst (λ (k : VariableScope). InBlock k ps r) e x
 block-at ps r i scope h x = cc
 
 outside-is : (fs : List Opened) → is_outside fs ≡ true → fs ≡ []
@@ -180,7 +180,7 @@ heading-taken n name ps r a = record {
   outside = a.outside;
 }
 
-opening-taken : (n : ℕ) (scope : Scope) (ps : List Numbered) (r : Reached) → Between ps r
+opening-taken : (n : ℕ) (scope : VariableScope) (ps : List Numbered) (r : Reached) → Between ps r
     → InBlock scope (ps ++ (n, opening scope) ∷ []) (at_place (place.Block scope) r)
 opening-taken n scope ps r a = record {
   first = a.body.first;
@@ -202,13 +202,13 @@ initial-none : (o : Option Literal) → may_begin_with External o ≡ true → i
 initial-none None h = refl
 initial-none (Some x) h = absurd (false≢true h)
 
-may-begin : (scope : Scope) (d : Declaration) → may_begin_with scope d.initial ≡ true
+may-begin : (scope : VariableScope) (d : Declaration) → may_begin_with scope d.initial ≡ true
     → may_declare scope d ≡ true
 may-begin Local d h = refl
 may-begin External d h = initial-none d.initial h
 
 declaring-taken : (n : ℕ) (ns : List (List ℕ)) (kind : DeclaredType) (initial : Option Literal)
-    (scope : Scope) (ps : List Numbered) (r : Reached) → InBlock scope ps r
+    (scope : VariableScope) (ps : List Numbered) (r : Reached) → InBlock scope ps r
     → may_begin_with scope initial ≡ true
     → InBlock scope (ps ++ (n, declaring ns kind initial) ∷ [])
     (with_declarations (map (declared_in n scope kind initial) ns) r)
@@ -240,7 +240,7 @@ declaring-taken n ns kind initial scope ps r a h =
       outside = a.outside;
     }
 
-closing-taken : (n : ℕ) (scope : Scope) (ps : List Numbered) (r : Reached) → InBlock scope ps r
+closing-taken : (n : ℕ) (scope : VariableScope) (ps : List Numbered) (r : Reached) → InBlock scope ps r
     → Between (ps ++ (n, closing) ∷ []) (at_place place.Declarations r)
 closing-taken n scope ps r a =
     let b : Block =
@@ -408,8 +408,8 @@ ending-taken n ps r b k =
     }
 
 pub declared-some : (n : ℕ) (ns : List (List ℕ)) (kind : DeclaredType) (initial : Option Literal)
-    (r s : Reached) (o : Option Scope) → declared_here n ns kind initial r o ≡ Some s
-    → (scope : Scope) × (o ≡ Some scope) × (may_begin_with scope initial ≡ true)
+    (r s : Reached) (o : Option VariableScope) → declared_here n ns kind initial r o ≡ Some s
+    → (scope : VariableScope) × (o ≡ Some scope) × (may_begin_with scope initial ≡ true)
     × (with_declarations (map (declared_in n scope kind initial) ns) r ≡ s)
 declared-some n ns kind initial r s None e = cc
 declared-some n ns kind initial r s (Some scope) e =
@@ -417,8 +417,8 @@ declared-some n ns kind initial r s (Some scope) e =
     (with_declarations (map (declared_in n scope kind initial) ns) r) s e in
     (scope, refl, c.0, c.1)
 
-pub closed-some : (r s : Reached) (o : Option Scope) → closed_block r o ≡ Some s
-    → (scope : Scope) × (o ≡ Some scope) × (at_place place.Declarations r ≡ s)
+pub closed-some : (r s : Reached) (o : Option VariableScope) → closed_block r o ≡ Some s
+    → (scope : VariableScope) × (o ≡ Some scope) × (at_place place.Declarations r ≡ s)
 closed-some r s None e = cc
 closed-some r s (Some scope) e = (scope, refl, cc)
 
@@ -432,14 +432,14 @@ pub cond-left : (b : Bool) (o : Option Reached) (s : Reached) → cond b o None 
 cond-left true o s e = (refl, e)
 cond-left false o s e = cc
 
-block-back : (ps : List Numbered) (r : Reached) (p : Stage) (scope : Scope)
+block-back : (ps : List Numbered) (r : Reached) (p : Stage) (scope : VariableScope)
     → block_scope p ≡ Some scope → InBlock scope ps r → ReachesAt ps r p
 block-back ps r (place.Block other) scope h x = let e : scope ≡ other =
-    cc in subst (λ (k : Scope). InBlock k ps r) e x
+    cc in subst (λ (k : VariableScope). InBlock k ps r) e x
 block-back ps r i scope h x = cc
 
 -- a part that is taken is the next of the grammar's
-step-reaches : (n : ℕ) (ps : List Numbered) (r s : Reached) (p : Part) → Reaches ps r
+step-reaches : (n : ℕ) (ps : List Numbered) (r s : Reached) (p : LineContent) → Reaches ps r
     → step n r p ≡ Some s → Reaches (ps ++ (n, p) ∷ []) s
 unfolding step may_stand may_act may_enter may_leave
 step-reaches n ps r s (heading name) x e =

@@ -6,7 +6,7 @@ use Rattle.std.proofs.lemmas.List.{length-map, length-reverse, map-append, rever
 use Rattle.il_text.specs.Forms.{name_of, is_mark, names_from, declared_names, parts_of}
 use Rattle.il_text.specs.Listing.{label, action, block, entries_of, Declared}
 use Rattle.il_text.specs.ListingViews.{opened_of}
-use Rattle.il_text.specs.Parts.{Part, declaring}
+use Rattle.il_text.specs.Parts.{LineContent, declaring}
 use Rattle.il_text.specs.Steps.{Opened, Reached, block_scope, declared_in, is_outside, is_some, may_begin_with, step, steps}
 use Rattle.il_text.specs.Declaring.{declared_from}
 use Rattle.il_text.specs.Reading.{Read, has_instruction, within_bounds, after_parts, after_line}
@@ -21,7 +21,7 @@ use Rattle.il_text.specs.declared.program.Instruction as ins
 use Rattle.il_text.specs.declared.program.Literal.{Literal}
 use Rattle.il_text.specs.declared.program.Item.{Item, Label, Instruction, Block, the_lemmas}
 use Rattle.il_text.specs.declared.program.Operator.{Operator}
-use Rattle.il_text.specs.declared.program.Scope.{Scope}
+use Rattle.il_text.specs.declared.program.VariableScope.{VariableScope}
 use Rattle.il_text.specs.declared.token.Mark.TheVariants as mark
 use Rattle.il_text.specs.declared.token.Token.{Token}
 
@@ -82,7 +82,7 @@ name-before : (f : List ℕ → Declared) (before : List Declared) (n : List ℕ
 name-before f before n None = refl
 name-before f before n (Some ns) = ap Some (sym (append_assoc before (f n ∷ []) (map f ns)))
 
-pub at-name : (line : ℕ) (scope : Scope) (tail : Tail) (before : List Declared) (s : Symbol)
+pub at-name : (line : ℕ) (scope : VariableScope) (tail : Tail) (before : List Declared) (s : Symbol)
     (n : List ℕ) → name_of s ≡ Some n → (ss : List Symbol)
     → declared_from line scope tail before false (s ∷ ss)
     ≡ declared_from line scope tail
@@ -91,20 +91,20 @@ unfolding declared_from names_from
 at-name line scope tail before s n e ss =
     rw e (name-before (declared_in line scope tail.kind tail.initial) before n (names_from true ss))
 
-pub at-no-name : (line : ℕ) (scope : Scope) (tail : Tail) (before : List Declared) (s : Symbol)
+pub at-no-name : (line : ℕ) (scope : VariableScope) (tail : Tail) (before : List Declared) (s : Symbol)
     (ss : List Symbol) → name_of s ≡ None
     → declared_from line scope tail before false (s ∷ ss) ≡ None
 unfolding declared_from names_from
 at-no-name line scope tail before s ss e = rw e refl
 
-pub at-comma : (line : ℕ) (scope : Scope) (tail : Tail) (before : List Declared) (s : Symbol)
+pub at-comma : (line : ℕ) (scope : VariableScope) (tail : Tail) (before : List Declared) (s : Symbol)
     (ss : List Symbol) → is_mark mark.Comma s ≡ true
     → declared_from line scope tail before true (s ∷ ss)
     ≡ declared_from line scope tail before false ss
 unfolding declared_from names_from
 at-comma line scope tail before s ss e = rw e refl
 
-pub at-no-comma : (line : ℕ) (scope : Scope) (tail : Tail) (before : List Declared) (s : Symbol)
+pub at-no-comma : (line : ℕ) (scope : VariableScope) (tail : Tail) (before : List Declared) (s : Symbol)
     (ss : List Symbol) → is_mark mark.Comma s ≡ false
     → declared_from line scope tail before true (s ∷ ss) ≡ None
 unfolding declared_from names_from
@@ -113,13 +113,13 @@ at-no-comma line scope tail before s ss e = rw e refl
 none-after : {X : Type 0} → (xs : List X) (i : ℕ) → length xs ≤ i → drop i xs ≡ []
 none-after {X} xs i h = grind (arith, common_steps)
 
-pub declare-end : (line : ℕ) (scope : Scope) (tail : Tail) (before : List Declared)
+pub declare-end : (line : ℕ) (scope : VariableScope) (tail : Tail) (before : List Declared)
     (ts : List Token) (i : ℕ) → length ts ≤ i
     → declared_from line scope tail before true (symbols_of (drop i ts)) ≡ Some before
 unfolding declared_from names_from
 declare-end line scope tail before ts i h = rw (none-after ts i h) (ap Some (append-nil before))
 
-pub declare-no-end : (line : ℕ) (scope : Scope) (tail : Tail) (before : List Declared)
+pub declare-no-end : (line : ℕ) (scope : VariableScope) (tail : Tail) (before : List Declared)
     (ts : List Token) (i : ℕ) → length ts ≤ i
     → declared_from line scope tail before false (symbols_of (drop i ts)) ≡ None
 unfolding declared_from names_from
@@ -134,16 +134,16 @@ and-some None = refl
 and-some (Some s) = refl
 
 -- one part alone
-pub steps-one : (n : ℕ) (r : Reached) (p : Part) → steps n r (p ∷ []) ≡ step n r p
+pub steps-one : (n : ℕ) (r : Reached) (p : LineContent) → steps n r (p ∷ []) ≡ step n r p
 unfolding steps
 steps-one n r p = and-some (step n r p)
 
-pub steps-more : (n : ℕ) (r s : Reached) (p : Part) (ps : List Part) → step n r p ≡ Some s
+pub steps-more : (n : ℕ) (r s : Reached) (p : LineContent) (ps : List LineContent) → step n r p ≡ Some s
     → steps n r (p ∷ ps) ≡ steps n s ps
 unfolding steps
 steps-more n r s p ps e = rw e refl
 
-pub steps-none : (n : ℕ) (r : Reached) (p : Part) (ps : List Part) → step n r p ≡ None
+pub steps-none : (n : ℕ) (r : Reached) (p : LineContent) (ps : List LineContent) → step n r p ≡ None
     → steps n r (p ∷ ps) ≡ None
 unfolding steps
 steps-none n r p ps e = rw e refl
@@ -161,7 +161,7 @@ with_listed r ds =
       parentheses = r.parentheses;
     }
 
-declared-with : (line : ℕ) (r : Reached) (scope : Scope) (t : Tail) (o : Option (List (List ℕ)))
+declared-with : (line : ℕ) (r : Reached) (scope : VariableScope) (t : Tail) (o : Option (List (List ℕ)))
     (ds : List Declared) → block_scope r.place ≡ Some scope → may_begin_with scope t.initial ≡ true
     → option_map (λ ns. r.declarations ++ map (declared_in line scope t.kind t.initial) ns) o
     ≡ Some ds
@@ -178,21 +178,21 @@ declared-with line r scope t (Some ns) ds p b e =
     steps-one line r (declaring ns t.kind t.initial) ∙ one
     ∙ ap (λ (x : List Declared). Some (with_listed r x)) d
 
-pub declared-ok : (line : ℕ) (r : Reached) (scope : Scope) (t : Tail) (ss : List Symbol)
+pub declared-ok : (line : ℕ) (r : Reached) (scope : VariableScope) (t : Tail) (ss : List Symbol)
     (ds : List Declared) → block_scope r.place ≡ Some scope → may_begin_with scope t.initial ≡ true
     → declared_from line scope t r.declarations false ss ≡ Some ds
     → option_and_then (steps line r) (declared_names t ss) ≡ Some (with_listed r ds)
 unfolding declared_from
 declared-ok line r scope t ss ds p b e = declared-with line r scope t (names_from false ss) ds p b e
 
-none-with : (line : ℕ) (r : Reached) (scope : Scope) (t : Tail) (o : Option (List (List ℕ)))
+none-with : (line : ℕ) (r : Reached) (scope : VariableScope) (t : Tail) (o : Option (List (List ℕ)))
     → option_map (λ ns. r.declarations ++ map (declared_in line scope t.kind t.initial) ns) o ≡ None
     → option_and_then (steps line r) (option_map (λ ns. declaring ns t.kind t.initial ∷ []) o)
     ≡ None
 none-with line r scope t None e = refl
 none-with line r scope t (Some ns) e = cc
 
-pub declared-bad : (line : ℕ) (r : Reached) (scope : Scope) (t : Tail) (ss : List Symbol)
+pub declared-bad : (line : ℕ) (r : Reached) (scope : VariableScope) (t : Tail) (ss : List Symbol)
     → declared_from line scope t r.declarations false ss ≡ None
     → option_and_then (steps line r) (declared_names t ss) ≡ None
 unfolding declared_from
@@ -221,8 +221,8 @@ blank_line line last r [] h = refl
 blank_line line last r (t ∷ ts) h = absurd (omega (arith, h))
 
 -- a line whose parts are taken
-taken-parts : (line last : ℕ) (r : Read) (o : Option (List Part)) (s : Reached) (b : Bool)
-    → ((ps : List Part) → o ≡ Some ps → b ≡ has_instruction ps)
+taken-parts : (line last : ℕ) (r : Read) (o : Option (List LineContent)) (s : Reached) (b : Bool)
+    → ((ps : List LineContent) → o ≡ Some ps → b ≡ has_instruction ps)
     → option_and_then (steps line r.reached) o ≡ Some s
     → after_parts line last r o
     ≡ cond b (within_bounds line last r.instructions s)
@@ -230,9 +230,9 @@ taken-parts : (line last : ℕ) (r : Read) (o : Option (List Part)) (s : Reached
 taken-parts line last r None s b h e = cc
 taken-parts line last r (Some ps) s b h e = rw (e, sym (h ps refl)) refl
 
-pub line-taken : (line last : ℕ) (r : Read) (ts : List Symbol) (o : Option (List Part))
+pub line-taken : (line last : ℕ) (r : Read) (ts : List Symbol) (o : Option (List LineContent))
     (s : Reached) (b : Bool) → o ≡ parts_of ts
-    → ((ps : List Part) → o ≡ Some ps → b ≡ has_instruction ps)
+    → ((ps : List LineContent) → o ≡ Some ps → b ≡ has_instruction ps)
     → option_and_then (steps line r.reached) o ≡ Some s
     → after_line line last r ts
     ≡ cond b (within_bounds line last r.instructions s)
@@ -241,13 +241,13 @@ unfolding after_line
 line-taken line last r ts o s b q h e =
     ap (after_parts line last r) (sym q) ∙ taken-parts line last r o s b h e
 
-refused-parts : (line last : ℕ) (r : Read) (o : Option (List Part))
+refused-parts : (line last : ℕ) (r : Read) (o : Option (List LineContent))
     → option_and_then (steps line r.reached) o ≡ None
     → after_parts line last r o ≡ Err (BadLine line)
 refused-parts line last r None e = refl
 refused-parts line last r (Some ps) e = rw e refl
 
-pub line-refused : (line last : ℕ) (r : Read) (ts : List Symbol) (o : Option (List Part))
+pub line-refused : (line last : ℕ) (r : Read) (ts : List Symbol) (o : Option (List LineContent))
     → o ≡ parts_of ts → option_and_then (steps line r.reached) o ≡ None
     → after_line line last r ts ≡ Err (BadLine line)
 unfolding after_line
@@ -262,7 +262,7 @@ unfolding step
 step-outside line r ns kind initial e = rw e refl
 
 pub step-initial : (line : ℕ) (r : Reached) (ns : List (List ℕ)) (kind : DeclaredType)
-    (initial : Option Literal) (scope : Scope) → block_scope r.place ≡ Some scope
+    (initial : Option Literal) (scope : VariableScope) → block_scope r.place ≡ Some scope
     → may_begin_with scope initial ≡ false → step line r (declaring ns kind initial) ≡ None
 unfolding step
 step-initial line r ns kind initial scope e b = rw (e, b) refl

@@ -4,8 +4,8 @@ use Rattle.std.proofs.lemmas.Bool.{and_parts}
 use Rattle.std.proofs.lemmas.Option.{same_Some}
 use Rattle.bay_base.specs.declared.types.ElementaryType.{ElementaryType}
 use Rattle.il_text.specs.Forms.{alone, argument, argument_list, arguments, both, call_action, closed_arguments, closed_by, operator_parts, declaration, declared_by, declared_names, elementary_of, ends_with, parenthesis_parts, keyword_line, input_named, is_mark, label_or, label_rest, label_parts, literal_of, literal_or, mark_parts, may_follow_label, name_of, named_line, names_from, one_part, only, only_literal, only_name, operand, output_by, output_named, split_at_mark, parts_of, place, same_input, statement, statement_by, tail, type_of}
-use Rattle.il_text.specs.Listing.{Place, named, output, Source, constant, variable, Action, load, store, combine, invert, convert, jump, leave, call}
-use Rattle.il_text.specs.Parts.{Part, heading, opening, declaring, closing, labelling, acting, entering, leaving, ending}
+use Rattle.il_text.specs.Listing.{Place, named, output, OperandData, constant, variable, Action, load, store, combine, invert, convert, jump, leave, call}
+use Rattle.il_text.specs.Parts.{LineContent, heading, opening, declaring, closing, labelling, acting, entering, leaving, ending}
 use Rattle.il_text.specs.Productions.{IsPlace, of_name, of_output, IsOperand, of_literal, of_place, IsArgument, AreArguments, no_argument, one_argument, two_arguments, IsAction, loads, stores, combines, inverts, converts, leaves, jumps, calls, IsStatement, acts, enters, enters_with, spelled_names, IsDeclaration, plain, initial, IsLine, blank, heads, opens, opens_external, declares, closes, labels, labels_with, states, leaves_block, ends, LinesAreProduced}
 use Rattle.il_text.specs.Tokens.{Symbol, name, keyword_word, type_word, literal, mnemonic_word, mark_symbol}
 use Rattle.il_text.specs.declared.form.Tail.{Tail}
@@ -14,7 +14,7 @@ use Rattle.il_text.specs.declared.program.DeclaredType.TheVariants.{Elementary}
 use Rattle.il_text.specs.declared.program.Input.{Input}
 use Rattle.il_text.specs.declared.program.Literal.{Literal}
 use Rattle.il_text.specs.declared.program.Operator.{Operator}
-use Rattle.il_text.specs.declared.program.Scope.TheVariants.{Local, External}
+use Rattle.il_text.specs.declared.program.VariableScope.TheVariants.{Local, External}
 use Rattle.il_text.specs.declared.token.Keyword.{Keyword}
 use Rattle.il_text.specs.declared.token.Keyword.TheVariants as keyword
 use Rattle.il_text.specs.declared.token.Mark.{Mark}
@@ -55,18 +55,18 @@ only-literal-is [] v e = absurd cc
 only-literal-is (s ∷ []) v e = ap (λ (x : Symbol). x ∷ []) (literal-is s v e)
 only-literal-is (s ∷ t ∷ ss) v e = absurd cc
 
-either-operand : (ts : List Symbol) (l : Option Literal) (q : Option Place) (x : Source)
+either-operand : (ts : List Symbol) (l : Option Literal) (q : Option Place) (x : OperandData)
     → only_literal ts ≡ l → place ts ≡ q → literal_or l q ≡ Some x → IsOperand ts x
 either-operand ts (Some v) q x e f h =
     of_literal v (only-literal-is ts v e) (sym (same_Some (constant v) x h))
 either-operand ts None q x e f h = let m =
     map-some (λ p. variable p) q x h in of_place m.0 (place-read ts m.0 (f ∙ m.1)) (sym m.2)
 
-operand-read : (ts : List Symbol) (x : Source) → operand ts ≡ Some x → IsOperand ts x
+operand-read : (ts : List Symbol) (x : OperandData) → operand ts ≡ Some x → IsOperand ts x
 unfolding operand
 operand-read ts x e = either-operand ts (only_literal ts) (place ts) x refl refl e
 
-argument-read : (ts : List Symbol) (a : Input × Source) → argument ts ≡ Some a → IsArgument ts a
+argument-read : (ts : List Symbol) (a : Input × OperandData) → argument ts ≡ Some a → IsArgument ts a
 unfolding argument
 argument-read [] a e = absurd cc
 argument-read (i ∷ []) a e = absurd cc
@@ -78,8 +78,8 @@ argument-read (i ∷ s ∷ ss) a e =
     (option_and_then input_named (name_of i)) a c.1 in
     let w = then-some input_named (name_of i) t.0 t.1 in
     let m = map-some (λ x. (t.0, x)) (operand ss) a t.2 in
-    let first : t.0 ≡ a.0 = ap (λ (q : Input × Source). q.0) m.2 in
-    let second : m.0 ≡ a.1 = ap (λ (q : Input × Source). q.1) m.2 in
+    let first : t.0 ≡ a.0 = ap (λ (q : Input × OperandData). q.0) m.2 in
+    let second : m.0 ≡ a.1 = ap (λ (q : Input × OperandData). q.1) m.2 in
     record {
       word = w.0;
       rest = ss;
@@ -93,7 +93,7 @@ none-if : {A : Type 0} (b : Bool) (x y : A) → cond b None (Some x) ≡ Some y 
 none-if true x y e = absurd cc
 none-if false x y e = (refl, same_Some x y e)
 
-arguments-case : (ts : List Symbol) (given : List (Input × Source))
+arguments-case : (ts : List Symbol) (given : List (Input × OperandData))
     (o : Option (List Symbol × List Symbol)) → split_at_mark mark.Comma ts ≡ o
     → argument_list ts o ≡ Some given → AreArguments ts given
 arguments-case ts given None is e = let m = map-some (λ a. a ∷ []) (argument ts) given e in
@@ -107,24 +107,24 @@ arguments-case ts given (Some p) is e =
     (c.is ∙ ap (λ (x : Symbol). p.0 ++ x ∷ p.1) (only-mark mark.Comma c.at c.passes))
     (argument-read p.0 f.0 f.1) (argument-read p.1 g.0 g.1) n.0 (sym n.1)
 
-arguments-read : (ts : List Symbol) (given : List (Input × Source)) → arguments ts ≡ Some given
+arguments-read : (ts : List Symbol) (given : List (Input × OperandData)) → arguments ts ≡ Some given
     → AreArguments ts given
 unfolding arguments
 arguments-read [] given e = no_argument refl (sym (same_Some [] given e))
 arguments-read (s ∷ ss) given e =
     arguments-case (s ∷ ss) given (split_at_mark mark.Comma (s ∷ ss)) refl e
 
-record Closed (ss : List Symbol) (given : List (Input × Source)) : Type 0 where
+record Closed (ss : List Symbol) (given : List (Input × OperandData)) : Type 0 where
   inner : List Symbol
   is : ss ≡ inner ++ mark_symbol mark.Close ∷ []
   are : AreArguments inner given
 
-ends-empty : (front back : List Symbol) (given : List (Input × Source))
+ends-empty : (front back : List Symbol) (given : List (Input × OperandData))
     → ends_with front back ≡ Some given → (back ≡ []) × (arguments front ≡ Some given)
 ends-empty front [] given e = (refl, e)
 ends-empty front (s ∷ back) given e = absurd cc
 
-closed-case : (ss : List Symbol) (given : List (Input × Source))
+closed-case : (ss : List Symbol) (given : List (Input × OperandData))
     (o : Option (List Symbol × List Symbol)) → split_at_mark mark.Close ss ≡ o
     → closed_by o ≡ Some given
     → Closed ss given
@@ -140,7 +140,7 @@ closed-case ss given (Some p) is e =
       are = arguments-read p.0 given f.1;
     }
 
-closed-read : (ss : List Symbol) (given : List (Input × Source)) → closed_arguments ss ≡ Some given
+closed-read : (ss : List Symbol) (given : List (Input × OperandData)) → closed_arguments ss ≡ Some given
     → Closed ss given
 unfolding closed_arguments
 closed-read ss given e = closed-case ss given (split_at_mark mark.Close ss) refl e
@@ -165,7 +165,7 @@ called-read (t ∷ o ∷ ss) a e =
     c.are (sym m.2)
 
 -- a part that is one instruction
-part-read : (ts : List Symbol) (ps : List Part) (o : Option Action) → one_part o ≡ Some ps
+part-read : (ts : List Symbol) (ps : List LineContent) (o : Option Action) → one_part o ≡ Some ps
     → ((a : Action) → o ≡ Some a → IsAction ts a) → IsStatement ts ps
 part-read ts ps o e h = let m =
     map-some (λ a. acting a ∷ []) o ps e in acts m.0 (h m.0 m.1) (sym m.2)
@@ -176,12 +176,12 @@ only-name-is [] n e = absurd cc
 only-name-is (s ∷ []) n e = ap (λ (x : Symbol). x ∷ []) (named-is s n e)
 only-name-is (s ∷ t ∷ ss) n e = absurd cc
 
-alone-is : (a : Action) (ss : List Symbol) (ps : List Part) → alone a ss ≡ Some ps
+alone-is : (a : Action) (ss : List Symbol) (ps : List LineContent) → alone a ss ≡ Some ps
     → (ss ≡ []) × (ps ≡ acting a ∷ [])
 alone-is a [] ps e = (refl, sym (same_Some (acting a ∷ []) ps e))
 alone-is a (s ∷ ss) ps e = absurd cc
 
-entered-read : (o : Operator) (n : Bool) (ss : List Symbol) (ps : List Part)
+entered-read : (o : Operator) (n : Bool) (ss : List Symbol) (ps : List LineContent)
     → parenthesis_parts o n ss ≡ Some ps
     → IsStatement (mnemonic_word (mnemonic.Combine o n) ∷ mark_symbol mark.Open ∷ ss) ps
 entered-read o n [] ps e = enters o n refl (sym (same_Some (entering o n ∷ []) ps e))
@@ -189,7 +189,7 @@ entered-read o n (s ∷ ss) ps e =
     let m = map-some (λ x. entering o n ∷ acting (load false x) ∷ []) (operand (s ∷ ss)) ps e in
     enters_with o n (s ∷ ss) m.0 refl (operand-read (s ∷ ss) m.0 m.1) (sym m.2)
 
-combined-case : (o : Operator) (n : Bool) (s : Symbol) (ss : List Symbol) (ps : List Part)
+combined-case : (o : Operator) (n : Bool) (s : Symbol) (ss : List Symbol) (ps : List LineContent)
     (b : Bool) → is_mark mark.Open s ≡ b
     → cond b (parenthesis_parts o n ss) (one_part (option_map (combine o n) (operand (s ∷ ss))))
     ≡ Some ps
@@ -203,12 +203,12 @@ combined-case o n s ss ps false is e =
     (λ a h. (let m = map-some (combine o n) (operand (s ∷ ss)) a h in
     combines o n (s ∷ ss) m.0 refl (operand-read (s ∷ ss) m.0 m.1) (sym m.2)))
 
-combined-read : (o : Operator) (n : Bool) (ss : List Symbol) (ps : List Part)
+combined-read : (o : Operator) (n : Bool) (ss : List Symbol) (ps : List LineContent)
     → operator_parts o n ss ≡ Some ps → IsStatement (mnemonic_word (mnemonic.Combine o n) ∷ ss) ps
 combined-read o n [] ps e = absurd cc
 combined-read o n (s ∷ ss) ps e = combined-case o n s ss ps (is_mark mark.Open s) refl e
 
-statement-read : (m : Mnemonic) (ss : List Symbol) (ps : List Part) → statement m ss ≡ Some ps
+statement-read : (m : Mnemonic) (ss : List Symbol) (ps : List LineContent) → statement m ss ≡ Some ps
     → IsStatement (mnemonic_word m ∷ ss) ps
 unfolding statement
 statement-read (mnemonic.Load n) ss ps e =
@@ -326,7 +326,7 @@ declaration-case : (ts front back : List Symbol) (ns : List (List ℕ)) (t : Tai
     → ts ≡ front ++ mark_symbol mark.Colon ∷ back → Names front ns → IsTail back t
     → IsDeclaration ts (declaring ns t.kind t.initial)
 declaration-case ts front back ns t is n (without kind e k i) =
-    subst (λ (p : Part). IsDeclaration ts p)
+    subst (λ (p : LineContent). IsDeclaration ts p)
     (ap (λ (xs : List (List ℕ)). declaring xs kind None) (sym n.are)
     ∙ ap (λ (x : DeclaredType). declaring ns x None) (sym k)
     ∙ ap (λ (x : Option Literal). declaring ns t.kind x) (sym i))
@@ -335,7 +335,7 @@ declaration-case ts front back ns t is n (without kind e k i) =
     ∙ ap (λ (xs : List Symbol). spelled_names n.first n.more ++ mark_symbol mark.Colon ∷ xs) e)
     refl)
 declaration-case ts front back ns t is n (with_value kind v e k i) =
-    subst (λ (p : Part). IsDeclaration ts p)
+    subst (λ (p : LineContent). IsDeclaration ts p)
     (ap (λ (xs : List (List ℕ)). declaring xs (Elementary kind) (Some v)) (sym n.are)
     ∙ ap (λ (x : DeclaredType). declaring ns x (Some v)) (sym k)
     ∙ ap (λ (x : Option Literal). declaring ns t.kind x) (sym i))
@@ -344,7 +344,7 @@ declaration-case ts front back ns t is n (with_value kind v e k i) =
     ∙ ap (λ (xs : List Symbol). spelled_names n.first n.more ++ mark_symbol mark.Colon ∷ xs) e)
     refl)
 
-declared-case : (ts : List Symbol) (ps : List Part) (o : Option (List Symbol × List Symbol))
+declared-case : (ts : List Symbol) (ps : List LineContent) (o : Option (List Symbol × List Symbol))
     → split_at_mark mark.Colon ts ≡ o → declared_by o ≡ Some ps → IsLine ts ps
 declared-case ts ps None is e = absurd cc
 declared-case ts ps (Some p) is e =
@@ -356,16 +356,16 @@ declared-case ts ps (Some p) is e =
     (c.is ∙ ap (λ (x : Symbol). p.0 ++ x ∷ p.1) (only-mark mark.Colon c.at c.passes))
     (names-read (length p.0) p.0 n.0 (omega arith) n.1) (tail-read p.1 t.0 t.1)) (sym n.2)
 
-declaration-read : (ts : List Symbol) (ps : List Part) → declaration ts ≡ Some ps → IsLine ts ps
+declaration-read : (ts : List Symbol) (ps : List LineContent) → declaration ts ≡ Some ps → IsLine ts ps
 unfolding declaration
 declaration-read ts ps e = declared-case ts ps (split_at_mark mark.Colon ts) refl e
 
-statement-by-read : (m : Symbol) (ss : List Symbol) (ps : List Part) → statement_by m ss ≡ Some ps
+statement-by-read : (m : Symbol) (ss : List Symbol) (ps : List LineContent) → statement_by m ss ≡ Some ps
     → IsStatement (m ∷ ss) ps
 statement-by-read (mnemonic_word m) ss ps e = statement-read m ss ps e
 statement-by-read i ss ps e = absurd cc
 
-labelled-read : (n : List ℕ) (rest : List Symbol) (ps : List Part) (ts : List Symbol)
+labelled-read : (n : List ℕ) (rest : List Symbol) (ps : List LineContent) (ts : List Symbol)
     → ts ≡ name n ∷ mark_symbol mark.Colon ∷ rest → label_parts n rest ≡ Some ps → IsLine ts ps
 unfolding label_parts
 labelled-read n [] ps ts is e = labels n is (sym (same_Some (labelling n ∷ []) ps e))
@@ -383,19 +383,19 @@ rest-is (c ∷ ss) more e =
     ap (λ (x : Symbol). x ∷ ss) (only-mark mark.Colon c w.0)
     ∙ ap (λ (xs : List Symbol). mark_symbol mark.Colon ∷ xs) (same_Some ss more i.1)
 
-named-case : (n : List ℕ) (rest : List Symbol) (ps : List Part) (o : Option (List Symbol))
+named-case : (n : List ℕ) (rest : List Symbol) (ps : List LineContent) (o : Option (List Symbol))
     → label_rest rest ≡ o → label_or n (name n ∷ rest) o ≡ Some ps → IsLine (name n ∷ rest) ps
 named-case n rest ps (Some more) is e =
     labelled-read n more ps (name n ∷ rest)
     (ap (λ (xs : List Symbol). name n ∷ xs) (rest-is rest more is)) e
 named-case n rest ps None is e = declaration-read (name n ∷ rest) ps e
 
-only-is : (p : Part) (ss : List Symbol) (ps : List Part) → only p ss ≡ Some ps
+only-is : (p : LineContent) (ss : List Symbol) (ps : List LineContent) → only p ss ≡ Some ps
     → (ss ≡ []) × (ps ≡ p ∷ [])
 only-is p [] ps e = (refl, sym (same_Some (p ∷ []) ps e))
 only-is p (s ∷ ss) ps e = absurd cc
 
-keyword-line-read : (w : Keyword) (ss : List Symbol) (ps : List Part) → keyword_line w ss ≡ Some ps
+keyword-line-read : (w : Keyword) (ss : List Symbol) (ps : List LineContent) → keyword_line w ss ≡ Some ps
     → IsLine (keyword_word w ∷ ss) ps
 unfolding keyword_line
 keyword-line-read keyword.Program ss ps e = let m =
@@ -411,14 +411,14 @@ keyword-line-read keyword.VarExternal ss ps e = let h = only-is (opening Externa
 keyword-line-read keyword.EndVar ss ps e = let h = only-is closing ss ps e in
     closes (ap (λ (xs : List Symbol). keyword_word keyword.EndVar ∷ xs) h.0) h.1
 
-marked-read : (m : Mark) (ss : List Symbol) (ps : List Part) → mark_parts m ss ≡ Some ps
+marked-read : (m : Mark) (ss : List Symbol) (ps : List LineContent) → mark_parts m ss ≡ Some ps
     → IsLine (mark_symbol m ∷ ss) ps
 unfolding mark_parts
 marked-read mark.Close ss ps e = let h = only-is leaving ss ps e in
     leaves_block (ap (λ (xs : List Symbol). mark_symbol mark.Close ∷ xs) h.0) h.1
 marked-read i ss ps e = absurd cc
 
-line-read : (ts : List Symbol) (ps : List Part) → parts_of ts ≡ Some ps → IsLine ts ps
+line-read : (ts : List Symbol) (ps : List LineContent) → parts_of ts ≡ Some ps → IsLine ts ps
 unfolding parts_of named_line
 line-read [] ps e = blank refl (sym (same_Some [] ps e))
 line-read (name n ∷ ss) ps e = named-case n ss ps (label_rest ss) refl e

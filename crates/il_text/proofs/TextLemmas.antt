@@ -8,7 +8,7 @@ use Rattle.bay_base.specs.Results.{◌>>=◌}
 use Rattle.il_text.specs.Forms.{parts_of}
 use Rattle.il_text.specs.Grammar.{Numbered, Derives}
 use Rattle.il_text.specs.Listing.{label, action, PlainProgram}
-use Rattle.il_text.specs.Parts.{Part, heading, opening, declaring, closing, labelling, acting, entering, leaving, ending}
+use Rattle.il_text.specs.Parts.{LineContent, heading, opening, declaring, closing, labelling, acting, entering, leaving, ending}
 use Rattle.il_text.specs.Places.{last_line}
 use Rattle.il_text.specs.Reading.{Read, tokens_of, is_instruction, has_instruction, past_limit, with_instruction, within_bounds, after_text_line, after_parts, after_line, whole_at, reading, none_yet, program_of, lines, most_instructions, most_open}
 use Rattle.il_text.specs.Steps.{Reached, nothing_read, at_place, with_name, with_item, with_opened, with_declarations, declared_in, left_here, block_scope, is_start, is_between_blocks, may_stand, may_act, may_enter, may_leave, step, steps}
@@ -31,7 +31,7 @@ depth_of : (r s t : Reached) → depth t ≡ depth r → t ≡ s → depth s ≡
 depth_of r s t h e = sym (ap depth e) ∙ h
 
 -- the parentheses that a part opens and closes
-part-depth : (n : ℕ) (r s : Reached) (p : Part) → step n r p ≡ Some s
+part-depth : (n : ℕ) (r s : Reached) (p : LineContent) → step n r p ≡ Some s
     → depth s + cond (is_leaving (n, p)) 1 0 ≡ depth r + cond (is_entering (n, p)) 1 0
 unfolding step
 part-depth n r s (heading name) e =
@@ -110,7 +110,7 @@ shallow-so : (ls : List TextLine) (s : Reached) → run nothing_read (all_parts 
 shallow-so ls s e h d = let k = run-depth (all_parts ls) s e in omega (arith, k, h, d)
 
 -- a part that is no instruction leaves the parentheses as they are
-quiet-part : (n : ℕ) (p : Part) → is_instruction p ≡ false
+quiet-part : (n : ℕ) (p : LineContent) → is_instruction p ≡ false
     → (is_leaving (n, p) ≡ false) × (is_entering (n, p) ≡ false)
 quiet-part n (acting a) h = absurd (false≢true (sym h))
 quiet-part n (entering o g) h = absurd (false≢true (sym h))
@@ -120,7 +120,7 @@ quiet-part n i h = (refl, refl)
 quiet-sum : (a b : ℕ) (p q : Bool) → p ≡ false → q ≡ false → a + cond p 1 0 ≡ b + cond q 1 0 → a ≡ b
 quiet-sum a b p q e f h = let k : a + 0 ≡ b + 0 = rw (e, f) at h in omega (arith, k)
 
-quiet-depth : (n : ℕ) (ps : List Part) (r s : Reached) → has_instruction ps ≡ false
+quiet-depth : (n : ℕ) (ps : List LineContent) (r s : Reached) → has_instruction ps ≡ false
     → steps n r ps ≡ Some s → depth s ≡ depth r
 unfolding steps
 quiet-depth n [] r s h e = let k : r ≡ s = cc in ap depth (sym k)
@@ -132,7 +132,7 @@ quiet-depth n (p ∷ ps) r s h e =
     let same : depth c.0 ≡ depth r = quiet-sum (depth c.0) (depth r) _ _ f.0 f.1 one in
     (unfold steps in quiet-depth n ps c.0 s q.1 c.2) ∙ same
 
-steps-run : (n : ℕ) (ps : List Part) (r : Reached) → run r (numbered_parts (n, ps)) ≡ steps n r ps
+steps-run : (n : ℕ) (ps : List LineContent) (r : Reached) → run r (numbered_parts (n, ps)) ≡ steps n r ps
 unfolding steps
 steps-run n [] r = refl
 steps-run n (p ∷ ps) r =
@@ -140,7 +140,7 @@ steps-run n (p ∷ ps) r =
     (λ s. unfold steps in steps-run n ps s)
 
 -- the lines with one more
-line-run : (before : List TextLine) (n : ℕ) (ps : List Part) (r : Reached)
+line-run : (before : List TextLine) (n : ℕ) (ps : List LineContent) (r : Reached)
     → run nothing_read (all_parts before) ≡ Some r
     → run nothing_read (all_parts (before ++ (n, ps) ∷ [])) ≡ steps n r ps
 line-run before n ps r e =
@@ -201,7 +201,7 @@ ends-so last before s place.Body e h = (not-finished before s place.Body e refl 
 ends-so last before s place.Finished e h = ended-derives (all_parts before) s h (sym e)
 
 -- what a line's parts make, and what the lines behind it read as
-abbrev Going : ℕ → List TextLine → ℕ → List (List Piece) → Result PlainProgram TextFault → List Part
+abbrev Going : ℕ → List TextLine → ℕ → List (List Piece) → Result PlainProgram TextFault → List LineContent
     → Type 0
 Going last before n ls x ps =
     (Allowed (before ++ (n, ps) ∷ []) × Reads last (before ++ (n, ps) ∷ []) (n + 1) ls x)
@@ -215,7 +215,7 @@ abbrev More : ℕ → ℕ → List (List Piece) → Type 0
 More last n ls =
     (b : List TextLine) (s : Read) → After b s → Reads last b (n + 1) ls (rest last n ls s)
 
-goes-quiet : (last n instr : ℕ) (before : List TextLine) (ls : List (List Piece)) (ps : List Part)
+goes-quiet : (last n instr : ℕ) (before : List TextLine) (ls : List (List Piece)) (ps : List LineContent)
     (s : Reached) → More last n ls
     → run nothing_read (all_parts (before ++ (n, ps) ∷ [])) ≡ Some s → has_instruction ps ≡ false
     → instr ≡ count_by holds before → instr ≤ most_instructions → depth s ≤ most_open
@@ -234,7 +234,7 @@ goes-quiet last n instr before ls ps s f h q c k d =
           (record { runs = h; count = t; short = k; shallow = d }),
     )
 
-counts-so : (last n instr : ℕ) (before : List TextLine) (ls : List (List Piece)) (ps : List Part)
+counts-so : (last n instr : ℕ) (before : List TextLine) (ls : List (List Piece)) (ps : List LineContent)
     (s : Reached) (b : Bool) → More last n ls
     → run nothing_read (all_parts (before ++ (n, ps) ∷ [])) ≡ Some s → has_instruction ps ≡ true
     → instr ≡ count_by holds before → ltb instr most_instructions ≡ b → depth s ≤ most_open
@@ -263,7 +263,7 @@ counts-so last n instr before ls ps s false f h q c t d =
     inr (too_long (goes_on _ s h) (shallow-so (before ++ (n, ps) ∷ []) s h d)
     (omega (arith, m, z, c, k)) refl)
 
-bounded-so : (last n instr : ℕ) (before : List TextLine) (ls : List (List Piece)) (ps : List Part)
+bounded-so : (last n instr : ℕ) (before : List TextLine) (ls : List (List Piece)) (ps : List LineContent)
     (s : Reached) (b : Bool) → More last n ls
     → run nothing_read (all_parts (before ++ (n, ps) ∷ [])) ≡ Some s → has_instruction ps ≡ true
     → instr ≡ count_by holds before → leb (depth s) most_open ≡ b
@@ -279,7 +279,7 @@ bounded-so last n instr before ls ps s false f h q c t =
     inr (too_deep (goes_on _ s h) (deep-so (before ++ (n, ps) ∷ []) s h k) refl)
 
 limited-so : (last n : ℕ) (before : List TextLine) (r : Read) (ls : List (List Piece))
-    (ps : List Part)
+    (ps : List LineContent)
     (s : Reached) (b : Bool) → More last n ls → After before r
     → run nothing_read (all_parts (before ++ (n, ps) ∷ [])) ≡ Some s → steps n r.reached ps ≡ Some s
     → has_instruction ps ≡ b
@@ -295,7 +295,7 @@ limited-so last n before r ls ps s false f a h e q =
     (omega (arith, d, a.shallow))
 
 stepped-so : (last n : ℕ) (before : List TextLine) (r : Read) (ls : List (List Piece))
-    (ps : List Part)
+    (ps : List LineContent)
     (o : Option Reached) → More last n ls → After before r
     → steps n r.reached ps ≡ o
     → Going last before n ls (after_text_line n last r.instructions ps o >>= rest last n ls) ps
@@ -307,7 +307,7 @@ stepped-so last n before r ls ps (Some s) f a e =
     (line-run before n ps r.reached a.runs ∙ e) e refl
 
 parts-so : (last n : ℕ) (before : List TextLine) (r : Read) (ls : List (List Piece))
-    (o : Option (List Part)) → More last n ls → After before r
+    (o : Option (List LineContent)) → More last n ls → After before r
     → OnParts n (Going last before n ls (after_parts n last r o >>= rest last n ls)) o
     (after_parts n last r o >>= rest last n ls)
 parts-so last n before r ls None f a = refl

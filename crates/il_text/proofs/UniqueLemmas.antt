@@ -6,7 +6,7 @@ use Rattle.std.proofs.lemmas.List.{map-append}
 use Rattle.il_text.specs.Forms.{parts_of}
 use Rattle.il_text.specs.Grammar.{Numbered, block_parts, entry_parts, Derives, rises, line_of, item_lines}
 use Rattle.il_text.specs.Listing.{PlainProgram}
-use Rattle.il_text.specs.Parts.{Part, heading, ending}
+use Rattle.il_text.specs.Parts.{LineContent, heading, ending}
 use Rattle.il_text.specs.Places.{last_line}
 use Rattle.il_text.specs.Reading.{tokens_of, program_of, lines}
 use Rattle.il_text.specs.Symbols.{pieces_of}
@@ -60,16 +60,16 @@ going-one last n ls P x y f (inl a) (inr b) = absurd (not-both last n ls y a.0 b
 going-one last n ls P x y f (inr a) (inl b) = absurd (not-both last n ls x b.0 a)
 going-one last n ls P x y f (inr a) (inr b) = refused-one last n ls x y a b
 
-parts-one : (n : ℕ) (o : Option (List Part))
-    (G : Result PlainProgram TextFault → List Part → Type 0) (x y : Result PlainProgram TextFault)
-    → ((ps : List Part) → G x ps → G y ps → x ≡ y) → OnParts n (G x) o x → OnParts n (G y) o y
+parts-one : (n : ℕ) (o : Option (List LineContent))
+    (G : Result PlainProgram TextFault → List LineContent → Type 0) (x y : Result PlainProgram TextFault)
+    → ((ps : List LineContent) → G x ps → G y ps → x ≡ y) → OnParts n (G x) o x → OnParts n (G y) o y
     → x ≡ y
 parts-one n None G x y f a b = a ∙ sym b
 parts-one n (Some ps) G x y f a b = f ps a b
 
 tokens-one : (n : ℕ) (t : Result (List Symbol) TextFault)
-    (G : Result PlainProgram TextFault → List Part → Type 0) (x y : Result PlainProgram TextFault)
-    → ((ps : List Part) → G x ps → G y ps → x ≡ y) → OnTokens n (G x) t x → OnTokens n (G y) t y
+    (G : Result PlainProgram TextFault → List LineContent → Type 0) (x y : Result PlainProgram TextFault)
+    → ((ps : List LineContent) → G x ps → G y ps → x ≡ y) → OnTokens n (G x) t x → OnTokens n (G y) t y
     → x ≡ y
 tokens-one n (Err e) G x y f a b = a ∙ sym b
 tokens-one n (Ok ts) G x y f a b = parts-one n (parts_of ts) G x y f a b
@@ -134,7 +134,7 @@ rises-lower : (j k : ℕ) (xs : List ℕ) → j ≤ k → Rises k xs → Rises j
 rises-lower j k [] h c = tt
 rises-lower j k (x ∷ xs) h c = (omega (arith, h, c.0), c.1)
 
-one-line : (n : ℕ) (ps : List Part) (k : ℕ) → k ≤ n
+one-line : (n : ℕ) (ps : List LineContent) (k : ℕ) → k ≤ n
     → Climbs k (map line_of (numbered_parts (n, ps))) (n + 1)
 one-line n [] k h = omega (arith, h)
 one-line n (p ∷ ps) k h = (h, one-line n ps n (omega arith))
@@ -160,13 +160,13 @@ derived-rises ps p m d c =
     rises-lower 0 back.0 (item_lines p.items) back.1
     (climbs-front back.0 m (map line_of (flat_map entry_parts p.items)) (d.end ∷ []) back.2)
 
-parts_rise : (n : ℕ) (o : Option (List Part)) (G : List Part → Type 0) (p : PlainProgram)
-    (R : Type 0) → ((ps : List Part) → G ps → R) → OnParts n G o (Ok p) → R
+parts_rise : (n : ℕ) (o : Option (List LineContent)) (G : List LineContent → Type 0) (p : PlainProgram)
+    (R : Type 0) → ((ps : List LineContent) → G ps → R) → OnParts n G o (Ok p) → R
 parts_rise n None G p R f a = cc
 parts_rise n (Some ps) G p R f a = f ps a
 
-tokens_rise : (n : ℕ) (t : Result (List Symbol) TextFault) (G : List Part → Type 0)
-    (p : PlainProgram) (R : Type 0) → ((ps : List Part) → G ps → R) → OnTokens n G t (Ok p) → R
+tokens_rise : (n : ℕ) (t : Result (List Symbol) TextFault) (G : List LineContent → Type 0)
+    (p : PlainProgram) (R : Type 0) → ((ps : List LineContent) → G ps → R) → OnTokens n G t (Ok p) → R
 tokens_rise n (Err e) G p R f a = cc
 tokens_rise n (Ok ts) G p R f a = parts_rise n (parts_of ts) G p R f a
 

@@ -5,11 +5,11 @@ use Rattle.il_text.specs.Listing.{Declared}
 use Rattle.il_text.specs.Steps.{declared_in}
 use Rattle.il_text.specs.Tokens.{Symbol}
 use Rattle.il_text.specs.declared.form.Tail.{Tail}
-use Rattle.il_text.specs.declared.program.Scope.{Scope}
+use Rattle.il_text.specs.declared.program.VariableScope.{VariableScope}
 
 -- the declarations before, and one for each name of the list; `after_name` says that a comma or the
 -- end comes next
-unfoldable pub declared_from : ℕ → Scope → Tail → List Declared → Bool → List Symbol
+unfoldable pub declared_from : ℕ → VariableScope → Tail → List Declared → Bool → List Symbol
     → Option (List Declared)
 declared_from line scope tail before after_name ss =
     option_map (λ ns. before ++ map (declared_in line scope tail.kind tail.initial) ns)

@@ -30,36 +30,36 @@ size seconds = 1000
 size thousandths = 1
 
 -- a part of a duration: the octets of its number, those of its unit's name, and what they stand for
-pub record Part : Type 0 where
+pub record DurationPart : Type 0 where
   pub digits : List ℕ
   pub name : List ℕ
   pub count : ℕ
   pub unit : Unit
 
 -- the octets of a part
-abbrev pub spelling : Part → List ℕ
+abbrev pub spelling : DurationPart → List ℕ
 spelling p = p.digits ++ p.name
 
 -- the milliseconds of a part
-abbrev pub value : Part → ℕ
+abbrev pub value : DurationPart → ℕ
 value p = p.count * size p.unit
 
 -- The octets of this part are its number and its unit; behind another part, an `_` may stand before
 -- the number.
-pub record IsPart (behind : Bool) (p : Part) : Type 0 where
+pub record IsPart (behind : Bool) (p : DurationPart) : Type 0 where
   pub counted : number_of_part behind p.digits ≡ Some p.count
   pub named : same_name p.name (letters p.unit) ≡ true
 
 -- the parts behind a part: each has a smaller unit than the one before it
-abbrev pub Fall : ℕ → List Part → Type 0
+abbrev pub Fall : ℕ → List DurationPart → Type 0
 Fall above [] = ⊤
 Fall above (p ∷ ps) = IsPart true p × (size p.unit < above) × Fall (size p.unit) ps
 
 -- These octets are a duration of so many milliseconds: at least one part, the units falling,
 -- spelled one behind the other; the milliseconds are their sum.
 pub record IsDuration (octets : List ℕ) (ms : ℕ) : Type 0 where
-  pub first : Part
-  pub more : List Part
+  pub first : DurationPart
+  pub more : List DurationPart
   pub begins : IsPart false first
   pub falls : Fall (size first.unit) more
   pub spelled : octets ≡ flat_map spelling (first ∷ more)

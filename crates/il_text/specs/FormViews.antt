@@ -2,7 +2,7 @@
 use Rattle.std.specs.Prelude.{Bool, false, List, [], ◌∷◌, Option, Some, None}
 use Rattle.il_text.specs.Forms.{declared_names}
 use Rattle.il_text.specs.Listing.{load}
-use Rattle.il_text.specs.Parts.{Part, heading, opening, closing, labelling, acting, entering, leaving, ending}
+use Rattle.il_text.specs.Parts.{LineContent, heading, opening, closing, labelling, acting, entering, leaving, ending}
 use Rattle.il_text.specs.TokenViews.{symbols_of}
 use Rattle.il_text.specs.Views.{action_of, source_of}
 use Rattle.il_text.specs.Tokens.{Symbol}
@@ -15,17 +15,17 @@ use Rattle.il_text.specs.declared.program.Operand.{Operand}
 use Rattle.il_text.specs.declared.program.Operator.{Operator}
 
 -- an operator with `(`, and the load of the operand behind it
-abbrev pub opened_parts : Operator → Bool → Option Operand → List Part
+abbrev pub opened_parts : Operator → Bool → Option Operand → List LineContent
 opened_parts o n None = entering o n ∷ []
 opened_parts o n (Some x) = entering o n ∷ acting (load false (source_of x)) ∷ []
 
 -- the parts of an instruction or of an operator with `(`
-abbrev pub statement_parts : Statement → List Part
+abbrev pub statement_parts : Statement → List LineContent
 statement_parts (Plain instruction) = acting (action_of instruction) ∷ []
 statement_parts (Open operator negated operand) = opened_parts operator negated operand
 
 -- the parts of the code's line; a declaration has none where its names are no list
-abbrev pub line_parts : Line → Option (List Part)
+abbrev pub line_parts : Line → Option (List LineContent)
 line_parts (line.Heading name) = Some (heading name.now ∷ [])
 line_parts (line.Opening scope) = Some (opening scope ∷ [])
 line_parts (line.Declaration names tail) = declared_names tail (symbols_of names.now)

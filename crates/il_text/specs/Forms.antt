@@ -3,8 +3,8 @@
 use Rattle.std.specs.Prelude.{ℕ, Bool, true, false, not, ◌&&◌, ◌||◌, if◌then◌else◌, List, [], ◌∷◌, take, drop, codes, Option, Some, None, option_map, option_and_then}
 use Rattle.std.specs.List.{position_or_len}
 use Rattle.bay_base.specs.Names.{same_name}
-use Rattle.il_text.specs.Listing.{Place, named, output, Source, constant, variable, Action, load, store, combine, invert, convert, jump, leave, call}
-use Rattle.il_text.specs.Parts.{Part, heading, opening, declaring, closing, labelling, acting, entering, leaving, ending}
+use Rattle.il_text.specs.Listing.{Place, named, output, OperandData, constant, variable, Action, load, store, combine, invert, convert, jump, leave, call}
+use Rattle.il_text.specs.Parts.{LineContent, heading, opening, declaring, closing, labelling, acting, entering, leaving, ending}
 use Rattle.il_text.specs.Tokens.{Symbol, name, keyword_word, type_word, literal, mnemonic_word, mark_symbol}
 use Rattle.il_text.specs.declared.form.Tail.{Tail}
 use Rattle.il_text.specs.declared.program.DeclaredType.{DeclaredType}
@@ -15,7 +15,7 @@ use Rattle.il_text.specs.declared.program.Literal.{Literal}
 use Rattle.il_text.specs.declared.program.Operator.{Operator}
 use Rattle.il_text.specs.declared.program.Output.{Output}
 use Rattle.il_text.specs.declared.program.Output.TheVariants as gives
-use Rattle.il_text.specs.declared.program.Scope.TheVariants.{Local, External}
+use Rattle.il_text.specs.declared.program.VariableScope.TheVariants.{Local, External}
 use Rattle.il_text.specs.declared.token.Keyword.{Keyword}
 use Rattle.il_text.specs.declared.token.Keyword.TheVariants as keyword
 use Rattle.il_text.specs.declared.token.Mark.{Mark}
@@ -97,12 +97,12 @@ only_literal (s ∷ []) = literal_of s
 only_literal (s ∷ t ∷ ss) = None
 
 -- the literal, or else what is named
-abbrev pub literal_or : Option Literal → Option Place → Option Source
+abbrev pub literal_or : Option Literal → Option Place → Option OperandData
 literal_or (Some value) p = Some (constant value)
 literal_or None p = option_map variable p
 
 -- operand ::= literal | name | name "." ("Q" | "ET")
-unfoldable pub operand : List Symbol → Option Source
+unfoldable pub operand : List Symbol → Option OperandData
 operand ss = literal_or (only_literal ss) (place ss)
 
 -- `IN` and `PT`, in letters of either case
@@ -112,7 +112,7 @@ input_named w =
     else (if same_name w (codes "PT") then Some input.Pt else None)
 
 -- arg ::= ("IN" | "PT") ":=" operand
-unfoldable pub argument : List Symbol → Option (Input × Source)
+unfoldable pub argument : List Symbol → Option (Input × OperandData)
 argument [] = None
 argument (i ∷ []) = None
 argument (i ∷ a ∷ ss) =
@@ -129,7 +129,7 @@ same_input input.Pt input.In = false
 same_input input.Pt input.Pt = true
 
 -- two arguments, which are not given to one input
-abbrev pub both : (Input × Source) → (Input × Source) → Option (List (Input × Source))
+abbrev pub both : (Input × OperandData) → (Input × OperandData) → Option (List (Input × OperandData))
 both a b = if same_input a.0 b.0 then None else Some (a ∷ b ∷ [])
 
 -- what stands behind the first token, and the front as it is
@@ -147,28 +147,28 @@ split_at_mark m ss = parts_at (position_or_len (is_mark m) ss) ss
 
 -- one argument, or two where a comma parts them
 abbrev pub argument_list : List Symbol → Option (List Symbol × List Symbol)
-    → Option (List (Input × Source))
+    → Option (List (Input × OperandData))
 argument_list ss None = option_map (λ a. a ∷ []) (argument ss)
 argument_list ss (Some p) =
     option_and_then (λ a. option_and_then (both a) (argument p.1)) (argument p.0)
 
 -- [arg {"," arg}]: as there are two inputs, there are two arguments at most
-unfoldable pub arguments : List Symbol → Option (List (Input × Source))
+unfoldable pub arguments : List Symbol → Option (List (Input × OperandData))
 arguments [] = Some []
 arguments (s ∷ ss) = argument_list (s ∷ ss) (split_at_mark mark.Comma (s ∷ ss))
 
 -- the arguments, where nothing stands behind the `)`
-abbrev pub ends_with : List Symbol → List Symbol → Option (List (Input × Source))
+abbrev pub ends_with : List Symbol → List Symbol → Option (List (Input × OperandData))
 ends_with front [] = arguments front
 ends_with front (s ∷ rest) = None
 
 -- the same of what a `)` parts
-abbrev pub closed_by : Option (List Symbol × List Symbol) → Option (List (Input × Source))
+abbrev pub closed_by : Option (List Symbol × List Symbol) → Option (List (Input × OperandData))
 closed_by None = None
 closed_by (Some p) = ends_with p.0 p.1
 
 -- the arguments, and the one `)` at the end
-unfoldable pub closed_arguments : List Symbol → Option (List (Input × Source))
+unfoldable pub closed_arguments : List Symbol → Option (List (Input × OperandData))
 closed_arguments ss = closed_by (split_at_mark mark.Close ss)
 
 -- name "(" [arg {"," arg}] ")"
@@ -180,29 +180,29 @@ call_action (t ∷ o ∷ ss) =
     (name_of t) else None
 
 -- the one part of an instruction
-abbrev pub one_part : Option Action → Option (List Part)
+abbrev pub one_part : Option Action → Option (List LineContent)
 one_part = option_map (λ a. acting a ∷ [])
 
 -- an operator without an operand
-abbrev pub alone : Action → List Symbol → Option (List Part)
+abbrev pub alone : Action → List Symbol → Option (List LineContent)
 alone a [] = Some (acting a ∷ [])
 alone a (s ∷ ss) = None
 
 -- "(" [operand]: the operand is loaded as the first of the parenthesis
-abbrev pub parenthesis_parts : Operator → Bool → List Symbol → Option (List Part)
+abbrev pub parenthesis_parts : Operator → Bool → List Symbol → Option (List LineContent)
 parenthesis_parts o n [] = Some (entering o n ∷ [])
 parenthesis_parts o n (s ∷ ss) =
     option_map (λ x. entering o n ∷ acting (load false x) ∷ []) (operand (s ∷ ss))
 
 -- an operator that combines, with its operand or with `(`
-abbrev pub operator_parts : Operator → Bool → List Symbol → Option (List Part)
+abbrev pub operator_parts : Operator → Bool → List Symbol → Option (List LineContent)
 operator_parts o n [] = None
 operator_parts o n (s ∷ ss) =
     if is_mark mark.Open s then parenthesis_parts o n ss
     else one_part (option_map (combine o n) (operand (s ∷ ss)))
 
 -- an operator, and what belongs to it
-unfoldable pub statement : Mnemonic → List Symbol → Option (List Part)
+unfoldable pub statement : Mnemonic → List Symbol → Option (List LineContent)
 statement (mnemonic.Load n) ss = one_part (option_map (load n) (operand ss))
 statement (mnemonic.Store k) ss = one_part (option_map (store k) (place ss))
 statement (mnemonic.Combine o n) ss = operator_parts o n ss
@@ -236,16 +236,16 @@ names_from false (s ∷ ss) =
 names_from true (s ∷ ss) = if is_mark mark.Comma s then names_from false ss else None
 
 -- the names of a declaration, and what follows them
-abbrev pub declared_names : Tail → List Symbol → Option (List Part)
+abbrev pub declared_names : Tail → List Symbol → Option (List LineContent)
 declared_names t ss = option_map (λ ns. declaring ns t.kind t.initial ∷ []) (names_from false ss)
 
 -- the names before the colon, and the type and initial value behind it
-abbrev pub declared_by : Option (List Symbol × List Symbol) → Option (List Part)
+abbrev pub declared_by : Option (List Symbol × List Symbol) → Option (List LineContent)
 declared_by None = None
 declared_by (Some p) = option_and_then (λ t. declared_names t p.0) (tail p.1)
 
 -- name {"," name} ":" tail
-unfoldable pub declaration : List Symbol → Option (List Part)
+unfoldable pub declaration : List Symbol → Option (List LineContent)
 declaration ss = declared_by (split_at_mark mark.Colon ss)
 
 -- what may stand behind a label: an operator, or nothing
@@ -259,31 +259,31 @@ label_rest [] = None
 label_rest (c ∷ ss) = if is_mark mark.Colon c && may_follow_label ss then Some ss else None
 
 -- an operator as a token, and what belongs to it
-abbrev pub statement_by : Symbol → List Symbol → Option (List Part)
+abbrev pub statement_by : Symbol → List Symbol → Option (List LineContent)
 statement_by (mnemonic_word m) ss = statement m ss
 statement_by other ss = None
 
 -- a label, and the instruction that may stand behind it
-unfoldable pub label_parts : List ℕ → List Symbol → Option (List Part)
+unfoldable pub label_parts : List ℕ → List Symbol → Option (List LineContent)
 label_parts n [] = Some (labelling n ∷ [])
 label_parts n (m ∷ ss) = option_map (λ ps. labelling n ∷ ps) (statement_by m ss)
 
 -- what stands behind a label, or else a declaration
-abbrev pub label_or : List ℕ → List Symbol → Option (List Symbol) → Option (List Part)
+abbrev pub label_or : List ℕ → List Symbol → Option (List Symbol) → Option (List LineContent)
 label_or n ss (Some rest) = label_parts n rest
 label_or n ss None = declaration ss
 
 -- a line that begins with this name: a label, or a declaration
-unfoldable pub named_line : List ℕ → List Symbol → List Symbol → Option (List Part)
+unfoldable pub named_line : List ℕ → List Symbol → List Symbol → Option (List LineContent)
 named_line n rest ss = label_or n ss (label_rest rest)
 
 -- a part that stands alone on its line
-abbrev pub only : Part → List Symbol → Option (List Part)
+abbrev pub only : LineContent → List Symbol → Option (List LineContent)
 only p [] = Some (p ∷ [])
 only p (s ∷ ss) = None
 
 -- a keyword: PROGRAM has a name, the others stand alone
-unfoldable pub keyword_line : Keyword → List Symbol → Option (List Part)
+unfoldable pub keyword_line : Keyword → List Symbol → Option (List LineContent)
 keyword_line keyword.Program ss = option_map (λ n. heading n ∷ []) (only_name ss)
 keyword_line keyword.EndProgram ss = only ending ss
 keyword_line keyword.Var ss = only (opening Local) ss
@@ -291,12 +291,12 @@ keyword_line keyword.VarExternal ss = only (opening External) ss
 keyword_line keyword.EndVar ss = only closing ss
 
 -- a line that begins with this mark
-unfoldable pub mark_parts : Mark → List Symbol → Option (List Part)
+unfoldable pub mark_parts : Mark → List Symbol → Option (List LineContent)
 mark_parts mark.Close ss = only leaving ss
 mark_parts other ss = None
 
 -- the form of a line by its first token
-abbrev pub by_first : Symbol → List Symbol → List Symbol → Option (List Part)
+abbrev pub by_first : Symbol → List Symbol → List Symbol → Option (List LineContent)
 by_first (name n) rest ss = named_line n rest ss
 by_first (keyword_word w) rest ss = keyword_line w rest
 by_first (type_word k) rest ss = None
@@ -305,7 +305,7 @@ by_first (mnemonic_word m) rest ss = statement m rest
 by_first (mark_symbol m) rest ss = mark_parts m rest
 
 -- the parts of a line, where it has a form; a blank line has none
-unfoldable pub parts_of : List Symbol → Option (List Part)
+unfoldable pub parts_of : List Symbol → Option (List LineContent)
 parts_of [] = Some []
 parts_of (s ∷ ss) = by_first s ss (s ∷ ss)
 

@@ -4,15 +4,15 @@ use Rattle.std.specs.Prelude.{◌≡◌, ℕ, Bool, true, false, ◌&&◌, nat_l
 use Rattle.std.specs.Option.{is_none}
 use Rattle.std.specs.List.{flat_map, list_all}
 use Rattle.il_text.specs.Listing.{Action, load, store, combine, invert, convert, jump, leave, call, Entry, label, action, block, Entries, no_entries, entry, Declared, PlainProgram}
-use Rattle.il_text.specs.Parts.{Part, heading, opening, declaring, closing, labelling, acting, entering, leaving, ending}
+use Rattle.il_text.specs.Parts.{LineContent, heading, opening, declaring, closing, labelling, acting, entering, leaving, ending}
 use Rattle.il_text.specs.declared.program.DeclaredType.{DeclaredType}
 use Rattle.il_text.specs.declared.program.Literal.{Literal}
-use Rattle.il_text.specs.declared.program.Scope.{Scope}
-use Rattle.il_text.specs.declared.program.Scope.TheVariants.{Local, External}
+use Rattle.il_text.specs.declared.program.VariableScope.{VariableScope}
+use Rattle.il_text.specs.declared.program.VariableScope.TheVariants.{Local, External}
 
 -- a part with the number of its line
 abbrev pub Numbered : Type 0
-Numbered = ℕ × Part
+Numbered = ℕ × LineContent
 
 -- name {"," name} ":" type [":=" literal] ";", with its line
 pub record Declaration : Type 0 where
@@ -24,7 +24,7 @@ pub record Declaration : Type 0 where
 -- ("VAR" | "VAR_EXTERNAL") {declaration} "END_VAR", with the lines of both ends
 pub record Block : Type 0 where
   pub line : ℕ
-  pub scope : Scope
+  pub scope : VariableScope
   pub declarations : List Declaration
   pub end : ℕ
 
@@ -38,7 +38,7 @@ block_parts b =
     (b.line, opening b.scope) ∷ (map declaration_part b.declarations ++ (b.end, closing) ∷ [])
 
 -- the names that a declaration in a block declares, one by one
-abbrev pub names_declared : Scope → Declaration → List Declared
+abbrev pub names_declared : VariableScope → Declaration → List Declared
 names_declared scope d =
     map (λ name. record {
       line = d.line;
@@ -53,7 +53,7 @@ abbrev pub block_declared : Block → List Declared
 block_declared b = flat_map (names_declared b.scope) b.declarations
 
 -- an external has no initial value
-abbrev pub may_declare : Scope → Declaration → Bool
+abbrev pub may_declare : VariableScope → Declaration → Bool
 may_declare Local d = true
 may_declare External d = is_none d.initial
 

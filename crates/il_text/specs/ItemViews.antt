@@ -1,6 +1,6 @@
 -- The plain data that declarations and items of the code stand for.
 use Rattle.std.specs.Prelude.{List, [], ◌∷◌}
-use Rattle.il_text.specs.Listing.{Place, named, output, Source, constant, variable, Action, load, store, combine, invert, convert, jump, leave, call, Entry, label, action, block, entries_of, Declared}
+use Rattle.il_text.specs.Listing.{Place, named, output, OperandData, constant, variable, Action, load, store, combine, invert, convert, jump, leave, call, Entry, label, action, block, entries_of, Declared}
 use Rattle.il_text.specs.declared.program.SymbolicVariable.{SymbolicVariable}
 use Rattle.il_text.specs.declared.program.SymbolicVariable.TheVariants as v
 use Rattle.il_text.specs.declared.program.Operand.{Operand}
@@ -21,16 +21,16 @@ place_of (v.Name name) = named name.now
 place_of (v.Output timer gives) = output timer.now gives
 
 -- what an instruction reads
-abbrev pub source_of : Operand → Source
+abbrev pub source_of : Operand → OperandData
 source_of (o.Literal value) = constant value
 source_of (o.Variable place) = variable (place_of place)
 
 -- an input of a timer, and what it is given
-abbrev pub argument_of : Argument → Input × Source
+abbrev pub argument_of : Argument → Input × OperandData
 argument_of given = (given.input, source_of given.operand)
 
 -- the arguments of a call in the order of the text
-abbrev pub arguments_of : Arguments → List (Input × Source)
+abbrev pub arguments_of : Arguments → List (Input × OperandData)
 arguments_of a.None = []
 arguments_of (a.One first) = argument_of first ∷ []
 arguments_of (a.Two first second) = argument_of first ∷ argument_of second ∷ []

@@ -1,7 +1,7 @@
 -- A program with its names in upper case.
 use Rattle.std.specs.Prelude.{ℕ, List, map, Result, Ok, Err}
 use Rattle.bay_base.specs.Names.{upper}
-use Rattle.il_text.specs.Listing.{Place, named, output, Source, constant, variable, Action, load, store, combine, invert, convert, jump, leave, call, Entry, label, action, block, Entries, no_entries, entry, Declared, PlainProgram}
+use Rattle.il_text.specs.Listing.{Place, named, output, OperandData, constant, variable, Action, load, store, combine, invert, convert, jump, leave, call, Entry, label, action, block, Entries, no_entries, entry, Declared, PlainProgram}
 use Rattle.il_text.specs.Texts.{ReadsAs}
 use Rattle.il_text.specs.declared.fault.TextFault.{TextFault}
 use Rattle.il_text.specs.declared.program.Input.{Input}
@@ -12,12 +12,12 @@ upper_place (named n) = named (upper n)
 upper_place (output timer gives) = output (upper timer) gives
 
 -- what is read, with its names in upper case
-abbrev pub upper_source : Source → Source
+abbrev pub upper_source : OperandData → OperandData
 upper_source (constant value) = constant value
 upper_source (variable place) = variable (upper_place place)
 
 -- an argument with its names in upper case
-abbrev pub upper_argument : (Input × Source) → (Input × Source)
+abbrev pub upper_argument : (Input × OperandData) → (Input × OperandData)
 upper_argument a = (a.0, upper_source a.1)
 
 -- an instruction with its names in upper case

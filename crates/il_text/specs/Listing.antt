@@ -1,6 +1,6 @@
 -- A program as plain data (IEC 61131-3:2003, 2.5.3, 2.4.3 and 3.2): names are octets as spelled.
 use Rattle.std.specs.Prelude.{ℕ, Bool, List, [], ◌∷◌, Option}
-use Rattle.il_text.specs.declared.program.Scope.{Scope}
+use Rattle.il_text.specs.declared.program.VariableScope.{VariableScope}
 use Rattle.il_text.specs.declared.program.DeclaredType.{DeclaredType}
 use Rattle.il_text.specs.declared.program.Literal.{Literal}
 use Rattle.il_text.specs.declared.program.Operator.{Operator}
@@ -16,22 +16,22 @@ pub data Place : Type 0 where
   output : List ℕ → Output → Place
 
 -- what an instruction reads
-pub data Source : Type 0 where
-  constant : Literal → Source
-  variable : Place → Source
+pub data OperandData : Type 0 where
+  constant : Literal → OperandData
+  variable : Place → OperandData
 
 -- An instruction: LD, or LDN where the truth value says so; a store of some kind; an operator with
 -- its operand, negated where the truth value says so; NOT; a conversion; a jump to a label; a
 -- return; a call of a timer with its arguments.
 pub data Action : Type 0 where
-  load : Bool → Source → Action
+  load : Bool → OperandData → Action
   store : StoreKind → Place → Action
-  combine : Operator → Bool → Source → Action
+  combine : Operator → Bool → OperandData → Action
   invert : Action
   convert : Conversion → Action
   jump : Condition → List ℕ → Action
   leave : Condition → Action
-  call : List ℕ → List (Input × Source) → Action
+  call : List ℕ → List (Input × OperandData) → Action
 
 mutual
   -- a label with its line; an instruction with its line; an operator, and whether it is negated,
@@ -53,7 +53,7 @@ entries_of (e ∷ es) = entry e (entries_of es)
 -- one declared name, with its line, its type and the initial value that the text gives
 pub record Declared : Type 0 where
   pub line : ℕ
-  pub scope : Scope
+  pub scope : VariableScope
   pub name : List ℕ
   pub kind : DeclaredType
   pub initial : Option Literal

@@ -4,24 +4,24 @@ use Rattle.il_text.specs.Listing.{Action}
 use Rattle.il_text.specs.declared.program.DeclaredType.{DeclaredType}
 use Rattle.il_text.specs.declared.program.Literal.{Literal}
 use Rattle.il_text.specs.declared.program.Operator.{Operator}
-use Rattle.il_text.specs.declared.program.Scope.{Scope}
+use Rattle.il_text.specs.declared.program.VariableScope.{VariableScope}
 
-pub data Part : Type 0 where
+pub data LineContent : Type 0 where
   -- `PROGRAM name`
-  heading : List ℕ → Part
+  heading : List ℕ → LineContent
   -- `VAR` or `VAR_EXTERNAL`
-  opening : Scope → Part
+  opening : VariableScope → LineContent
   -- `name {"," name} ":" type [":=" literal] ";"`
-  declaring : List (List ℕ) → DeclaredType → Option Literal → Part
+  declaring : List (List ℕ) → DeclaredType → Option Literal → LineContent
   -- `END_VAR`
-  closing : Part
+  closing : LineContent
   -- `name ":"`
-  labelling : List ℕ → Part
+  labelling : List ℕ → LineContent
   -- an instruction but for an operator with a parenthesis
-  acting : Action → Part
+  acting : Action → LineContent
   -- an operator, and whether it is negated, with `(`
-  entering : Operator → Bool → Part
+  entering : Operator → Bool → LineContent
   -- `)`
-  leaving : Part
+  leaving : LineContent
   -- `END_PROGRAM`
-  ending : Part
+  ending : LineContent

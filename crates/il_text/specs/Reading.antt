@@ -5,7 +5,7 @@ use Rattle.il_text.specs.Listing.{PlainProgram}
 use Rattle.il_text.specs.Tokens.{Symbol, Piece, blank, line_end, token, bad_token, bad_literal}
 use Rattle.il_text.specs.Symbols.{pieces_of}
 use Rattle.il_text.specs.Forms.{parts_of}
-use Rattle.il_text.specs.Parts.{Part, heading, opening, declaring, closing, labelling, acting, entering, leaving, ending}
+use Rattle.il_text.specs.Parts.{LineContent, heading, opening, declaring, closing, labelling, acting, entering, leaving, ending}
 use Rattle.il_text.specs.Places.{last_line}
 use Rattle.il_text.specs.Steps.{Reached, nothing_read, steps}
 use Rattle.il_text.specs.declared.fault.TextFault.{TextFault}
@@ -42,7 +42,7 @@ pub record Read : Type 0 where
   pub instructions : ℕ
 
 -- the part counts towards the limit of lines
-abbrev pub is_instruction : Part → Bool
+abbrev pub is_instruction : LineContent → Bool
 is_instruction (heading name) = false
 is_instruction (opening scope) = false
 is_instruction (declaring ns kind initial) = false
@@ -54,7 +54,7 @@ is_instruction leaving = true
 is_instruction ending = false
 
 -- an instruction or `)` is among the parts
-abbrev pub has_instruction : List Part → Bool
+abbrev pub has_instruction : List LineContent → Bool
 has_instruction [] = false
 has_instruction (p ∷ ps) = is_instruction p || has_instruction ps
 
@@ -85,19 +85,19 @@ within_bounds line last before s =
     else Err (past_limit line last (TooDeep line))
 
 -- what a line leaves, where the limits count only one with an instruction
-abbrev pub within_limits : ℕ → ℕ → ℕ → List Part → Reached → Result Read TextFault
+abbrev pub within_limits : ℕ → ℕ → ℕ → List LineContent → Reached → Result Read TextFault
 within_limits line last before ps s =
     if has_instruction ps
     then within_bounds line last before s
     else Ok (record { reached = s; instructions = before })
 
 -- the same of a line that may not stand here
-abbrev pub after_text_line : ℕ → ℕ → ℕ → List Part → Option Reached → Result Read TextFault
+abbrev pub after_text_line : ℕ → ℕ → ℕ → List LineContent → Option Reached → Result Read TextFault
 after_text_line line last before ps None = Err (BadLine line)
 after_text_line line last before ps (Some s) = within_limits line last before ps s
 
 -- the same of a line that may have no form
-abbrev pub after_parts : ℕ → ℕ → Read → Option (List Part) → Result Read TextFault
+abbrev pub after_parts : ℕ → ℕ → Read → Option (List LineContent) → Result Read TextFault
 after_parts line last r None = Err (BadLine line)
 after_parts line last r (Some ps) =
     after_text_line line last r.instructions ps (steps line r.reached ps)

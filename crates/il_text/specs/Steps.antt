@@ -2,14 +2,14 @@
 use Rattle.std.specs.Prelude.{ℕ, Bool, true, false, ◌&&◌, ◌||◌, if◌then◌else◌, List, [], ◌∷◌, ◌++◌, map, Option, Some, None, option_and_then}
 use Rattle.il_text.specs.Listing.{Action, load, Entry, label, action, block, entries_of, Declared}
 use Rattle.il_text.specs.Grammar.{is_plain}
-use Rattle.il_text.specs.Parts.{Part, heading, opening, declaring, closing, labelling, acting, entering, leaving, ending}
+use Rattle.il_text.specs.Parts.{LineContent, heading, opening, declaring, closing, labelling, acting, entering, leaving, ending}
 use Rattle.il_text.specs.declared.listing.Stage.{Stage}
 use Rattle.il_text.specs.declared.listing.Stage.TheVariants as place
 use Rattle.il_text.specs.declared.program.DeclaredType.{DeclaredType}
 use Rattle.il_text.specs.declared.program.Literal.{Literal}
 use Rattle.il_text.specs.declared.program.Operator.{Operator}
-use Rattle.il_text.specs.declared.program.Scope.{Scope}
-use Rattle.il_text.specs.declared.program.Scope.TheVariants.{Local, External}
+use Rattle.il_text.specs.declared.program.VariableScope.{VariableScope}
+use Rattle.il_text.specs.declared.program.VariableScope.TheVariants.{Local, External}
 
 -- an open parenthesis: its line, its operator, whether that is negated, and the items before it
 pub record Opened : Type 0 where
@@ -55,7 +55,7 @@ with_name n r =
     }
 
 -- one name of a line of declarations
-abbrev pub declared_in : ℕ → Scope → DeclaredType → Option Literal → List ℕ → Declared
+abbrev pub declared_in : ℕ → VariableScope → DeclaredType → Option Literal → List ℕ → Declared
 declared_in line scope kind initial name =
     record { line = line; scope = scope; name = name; kind = kind; initial = initial }
 
@@ -116,7 +116,7 @@ is_between_blocks place.Declarations = true
 is_between_blocks other = false
 
 -- the scope of the open block
-abbrev pub block_scope : Stage → Option Scope
+abbrev pub block_scope : Stage → Option VariableScope
 block_scope (place.Block scope) = Some scope
 block_scope other = None
 
@@ -142,14 +142,14 @@ is_load (load negated source) = true
 is_load other = false
 
 -- an external has no initial value
-abbrev pub may_begin_with : Scope → Option Literal → Bool
+abbrev pub may_begin_with : VariableScope → Option Literal → Bool
 may_begin_with Local initial = true
 may_begin_with External None = true
 may_begin_with External (Some value) = false
 
 -- declares names in the open block, if there is one
 abbrev pub declared_here : ℕ → List (List ℕ) → DeclaredType → Option Literal → Reached
-    → Option Scope → Option Reached
+    → Option VariableScope → Option Reached
 declared_here n ns kind initial r None = None
 declared_here n ns kind initial r (Some scope) =
     if may_begin_with scope initial
@@ -157,7 +157,7 @@ declared_here n ns kind initial r (Some scope) =
     else None
 
 -- ends the open block, if there is one
-abbrev pub closed_block : Reached → Option Scope → Option Reached
+abbrev pub closed_block : Reached → Option VariableScope → Option Reached
 closed_block r None = None
 closed_block r (Some scope) = Some (at_place place.Declarations r)
 
@@ -184,7 +184,7 @@ left_here n r [] = None
 left_here n r (f ∷ fs) = Some (with_closed n r f fs)
 
 -- one part, of the line of this number
-unfoldable pub step : ℕ → Reached → Part → Option Reached
+unfoldable pub step : ℕ → Reached → LineContent → Option Reached
 step n r (heading name) = if is_start r.place then Some (with_name name r) else None
 step n r (opening scope) =
     if is_between_blocks r.place then Some (at_place (place.Block scope) r) else None
@@ -198,6 +198,6 @@ step n r leaving = if may_leave r then left_here n r r.parentheses else None
 step n r ending = if may_stand r then Some (at_place place.Finished r) else None
 
 -- parts of one line, one after the other
-unfoldable pub steps : ℕ → Reached → List Part → Option Reached
+unfoldable pub steps : ℕ → Reached → List LineContent → Option Reached
 steps n r [] = Some r
 steps n r (p ∷ ps) = option_and_then (λ s. steps n s ps) (step n r p)

@@ -5,7 +5,7 @@ use Rattle.std.specs.List.{flat_map}
 use Rattle.il_text.specs.Forms.{parts_of}
 use Rattle.il_text.specs.Grammar.{Numbered, Derives, CanGoOn}
 use Rattle.il_text.specs.Listing.{PlainProgram}
-use Rattle.il_text.specs.Parts.{Part, entering, leaving}
+use Rattle.il_text.specs.Parts.{LineContent, entering, leaving}
 use Rattle.il_text.specs.Places.{last_line}
 use Rattle.il_text.specs.Reading.{lines, tokens_of, has_instruction, most_instructions, most_open, past_limit, program_of}
 use Rattle.il_text.specs.Symbols.{pieces_of}
@@ -15,7 +15,7 @@ use Rattle.il_text.specs.declared.fault.TextFault.TheVariants.{BadLine, TooDeep,
 
 -- a line: its number, and its parts
 abbrev pub TextLine : Type 0
-TextLine = ℕ × List Part
+TextLine = ℕ × List LineContent
 
 -- the parts of a line, each with its number
 abbrev pub numbered_parts : TextLine → List Numbered
@@ -70,13 +70,13 @@ Ends last ls (Err fault) =
     ((program : PlainProgram) → Derives (all_parts ls) program → ⊥) × (fault ≡ BadLine last)
 
 -- a line that has no form is a bad line
-abbrev pub OnParts : ℕ → (List Part → Type 0) → Option (List Part) → Result PlainProgram TextFault
+abbrev pub OnParts : ℕ → (List LineContent → Type 0) → Option (List LineContent) → Result PlainProgram TextFault
     → Type 0
 OnParts line goes None r = r ≡ Err (BadLine line)
 OnParts line goes (Some ps) r = goes ps
 
 -- a bad token or literal is the fault of its line
-abbrev pub OnTokens : ℕ → (List Part → Type 0) → Result (List Symbol) TextFault
+abbrev pub OnTokens : ℕ → (List LineContent → Type 0) → Result (List Symbol) TextFault
     → Result PlainProgram TextFault → Type 0
 OnTokens line goes (Err fault) r = r ≡ Err fault
 OnTokens line goes (Ok ts) r = OnParts line goes (parts_of ts) r

@@ -8,14 +8,14 @@ ghost use Rattle.il_text.specs.declared.fault.TextFault.TheVariants.{BadLine, Ou
 
 use crate::fault::TextFault;
 use crate::form::{Tail, is_mark, name_of};
-use crate::program::{Declaration, Scope};
+use crate::program::{Declaration, VariableScope};
 use crate::token::{Mark, Token};
 
 /// What one line of declarations gives to each of its names.
 #[derive(Clone, Copy)]
 pub(crate) struct Declaring {
     pub(crate) line: usize,
-    pub(crate) scope: Scope,
+    pub(crate) scope: VariableScope,
     pub(crate) tail: Tail,
 }
 

@@ -9,7 +9,7 @@ ghost use Rattle.il_text.specs.Views.{action_of, argument_of, arguments_of, plac
 
 use crate::program::{
     Argument, Arguments, Condition, DeclaredType, Input, Instruction, Literal, Operand, Operator,
-    Output, Scope, StoreKind, SymbolicVariable,
+    Output, StoreKind, SymbolicVariable, VariableScope,
 };
 use crate::token::{Keyword, Mark, Mnemonic, Token};
 use bay_base::names::same_name;
@@ -36,7 +36,7 @@ pub struct Tail {
 #[derive(Clone, Copy)]
 pub(crate) enum Line<'t, 'a> {
     Heading(&'a str),
-    Opening(Scope),
+    Opening(VariableScope),
     Declaration { names: &'t [Token<'a>], tail: Tail },
     Closing,
     Label(&'a str),
@@ -489,8 +489,8 @@ fn keyword_line<'t, 'a>(word: Keyword, tokens: &'t [Token<'a>]) -> Option<Line<'
     let line = match word {
         Keyword::Program => return only_name(tokens).map(Line::Heading),
         Keyword::EndProgram => Line::Ending,
-        Keyword::Var => Line::Opening(Scope::Local),
-        Keyword::VarExternal => Line::Opening(Scope::External),
+        Keyword::Var => Line::Opening(VariableScope::Local),
+        Keyword::VarExternal => Line::Opening(VariableScope::External),
         Keyword::EndVar => Line::Closing,
     };
     if tokens.is_empty() { Some(line) } else { None }

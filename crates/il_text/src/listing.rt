@@ -4,7 +4,7 @@ ghost use Rattle.il_text.specs.Forms.{declared_names};
 ghost use Rattle.il_text.specs.FormViews.{line_parts, opened_parts, statement_parts};
 ghost use Rattle.il_text.specs.Grammar as grammar;
 ghost use Rattle.il_text.specs.ListingViews.{opened_of, reached_of, read_of};
-ghost use Rattle.il_text.specs.Parts.{Part, heading, opening, closing, labelling, acting, entering, leaving, ending};
+ghost use Rattle.il_text.specs.Parts.{LineContent, heading, opening, closing, labelling, acting, entering, leaving, ending};
 ghost use Rattle.il_text.specs.Reading as spec;
 ghost use Rattle.il_text.specs.Steps as rules;
 ghost use Rattle.il_text.specs.Steps.{step, steps};
@@ -15,7 +15,7 @@ ghost use Rattle.il_text.specs.declared.fault.TextFault.TheVariants.{BadLine, Ou
 use crate::declaring::{Declaring, declare};
 use crate::fault::TextFault;
 use crate::form::{Line, Statement, Tail, line_of};
-use crate::program::{Declaration, Instruction, Item, Literal, Operand, Operator, Scope};
+use crate::program::{Declaration, Instruction, Item, Literal, Operand, Operator, VariableScope};
 use crate::token::Token;
 use std::alloc::Global;
 use std::mem;
@@ -34,7 +34,7 @@ pub enum Stage {
     /// Between declaration blocks.
     Declarations,
     /// In a declaration block.
-    Block(Scope),
+    Block(VariableScope),
     /// After the first line of the body.
     Body,
     /// After END_PROGRAM.
@@ -108,7 +108,7 @@ fn is_between_blocks(place: Stage) -> bool
 }
 
 // Returns the scope of the open declaration block, or `None` if none is open.
-fn block_scope(place: Stage) -> Option<Scope>
+fn block_scope(place: Stage) -> Option<VariableScope>
     ensures { result ≡ rules.block_scope place }
 {
     match place {
@@ -125,18 +125,18 @@ fn is_body(place: Stage) -> bool
 }
 
 // Whether a variable of the scope may have this initial value: an external has none.
-fn may_begin_with(scope: Scope, initial: Option<Literal>) -> bool
+fn may_begin_with(scope: VariableScope, initial: Option<Literal>) -> bool
     ensures { result ≡ rules.may_begin_with scope initial }
 {
     match (scope, initial) {
-        (Scope::Local, _) | (Scope::External, None) => true,
-        (Scope::External, Some(_)) => false,
+        (VariableScope::Local, _) | (VariableScope::External, None) => true,
+        (VariableScope::External, Some(_)) => false,
     }
 }
 
 // Whether a line counts towards the line limit: it holds an instruction or `)`.
 fn has_instruction(line: Line<'_, '_>) -> bool
-    ensures { (ps : List Part) → line_parts line.entry ≡ Some ps
+    ensures { (ps : List LineContent) → line_parts line.entry ≡ Some ps
         → result ≡ spec.has_instruction ps }
 {
     match line {
@@ -309,7 +309,7 @@ impl<'a> Draft<'a> {
 
     // Takes VAR or VAR_EXTERNAL.
     #[tactic(auto, unfolding(crate::specs::Steps::step))]
-    fn take_opening(&mut self, scope: Scope, line: usize) -> Result<(), TextFault>
+    fn take_opening(&mut self, scope: VariableScope, line: usize) -> Result<(), TextFault>
         ensures ok { OnOk result
             (step line (reached_of self.old) (opening scope) ≡ Some (reached_of self.new)) }
         ensures count { OnOk result (self.new.instructions ≡ self.old.instructions) }

@@ -19,7 +19,7 @@ pub struct Program<'a> {
 #[derive(Clone, Copy, Debug)]
 pub struct Declaration<'a> {
     pub line: usize,
-    pub scope: Scope,
+    pub scope: VariableScope,
     pub name: &'a str,
     pub kind: DeclaredType,
     /// The initial value, if the text gives one; an external and a timer have none.
@@ -28,7 +28,7 @@ pub struct Declaration<'a> {
 
 /// The scope of a declared variable (IEC 61131-3:2003, 2.4.3).
 #[derive(Clone, Copy, Debug)]
-pub enum Scope {
+pub enum VariableScope {
     /// `VAR`: a variable of the program.
     Local,
     /// `VAR_EXTERNAL`: a variable provided from outside the program.

@@ -1,8 +1,8 @@
 -- The faults of one instruction by itself, on the kinds before it, in the format's order.
 use Rattle.std.specs.Prelude.{ℕ, Bool, false, not, List, length, nat_lt, slice_get, Option, Some, None, option_map, unwrap_or, if◌then◌else◌}
 use Rattle.bay_base.specs.declared.types.ElementaryType.TheVariants as elementary
-use Rattle.il_image.specs.declared.arithmetic.Operation.{Operation}
-use Rattle.il_image.specs.declared.arithmetic.Operation.TheVariants.{Add}
+use Rattle.il_image.specs.declared.arithmetic.ArithmeticOperation.{ArithmeticOperation}
+use Rattle.il_image.specs.declared.arithmetic.ArithmeticOperation.TheVariants.{Add}
 use Rattle.il_image.specs.declared.arithmetic.Width.{Width}
 use Rattle.il_image.specs.declared.instr.Instr.{Instr}
 use Rattle.il_image.specs.declared.instr.Instr.TheVariants.{Halt, Push, Drop, Slot, Not, Combine, Compute, Compare, Widen, Jump, Timer}
@@ -75,7 +75,7 @@ abbrev pub truth : CellKind
 truth = Plain elementary.Bool
 
 -- the kinds behind an operation of two numbers of a width
-abbrev pub computes : Operation → Width → List CellKind → Option (List CellKind)
+abbrev pub computes : ArithmeticOperation → Width → List CellKind → Option (List CellKind)
 computes o w kinds = two (second_kind o w) (Plain (type_of_width w)) (Plain (type_of_width w)) kinds
 
 -- the slot that an instruction writes may only be read

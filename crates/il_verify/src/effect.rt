@@ -12,17 +12,17 @@ ghost use Rattle.il_verify.specs.Judging as spec_judging;
 ghost use Rattle.il_verify.specs.Slots.{types_of};
 
 use crate::fault::VerifyFault;
-use crate::frame::{MAX_KINDS, Stack};
+use crate::frame::{KindStack, MAX_KINDS};
 use crate::slots::SlotType;
 use bay_base::types::ElementaryType;
-use il_image::arithmetic::{Comparison, Operation, Width};
+use il_image::arithmetic::{ArithmeticOperation, Comparison, Width};
 use il_image::instr::Instr;
 use il_image::kind::{CellKind, is_within};
 use il_image::opcode::{SlotUse, TimerUse, When, Widening};
 use il_image::value::Value;
 
 // Puts a kind on the stack.
-fn put(kinds: &mut Stack, kind: CellKind)
+fn put(kinds: &mut KindStack, kind: CellKind)
     requires { length kinds.old.items ≤ most_cells }
     ensures { reverse kinds.new.items ≡ kind ∷ reverse kinds.old.items }
 {
@@ -30,7 +30,7 @@ fn put(kinds: &mut Stack, kind: CellKind)
 }
 
 // Takes the top, where it is within the wanted kind.
-fn take(kinds: &mut Stack, wanted: CellKind) -> Result<(), VerifyFault>
+fn take(kinds: &mut KindStack, wanted: CellKind) -> Result<(), VerifyFault>
     ensures ok { OnOk result
         (below wanted (reverse kinds.old.items) ≡ Some (reverse kinds.new.items)) }
     ensures err { IfErr result
@@ -68,7 +68,7 @@ fn kind_of(value: Value) -> CellKind
 }
 
 // The two values on top, the first of them the topmost.
-fn take_two(kinds: &mut Stack) -> Option<(CellKind, CellKind)>
+fn take_two(kinds: &mut KindStack) -> Option<(CellKind, CellKind)>
     ensures some { IfSome result
         (λ r. reverse kinds.old.items ≡ r.0 ∷ r.1 ∷ reverse kinds.new.items) }
     ensures none { IfNone result
@@ -81,21 +81,25 @@ fn take_two(kinds: &mut Stack) -> Option<(CellKind, CellKind)>
 }
 
 // Whether an operation needs a divisor that is not zero.
-fn divides(operation: Operation) -> bool
+fn divides(operation: ArithmeticOperation) -> bool
     ensures { result ≡ spec_machine.divides operation }
 {
     match operation {
-        Operation::Div | Operation::Mod => true,
+        ArithmeticOperation::Div | ArithmeticOperation::Mod => true,
         _ => false,
     }
 }
 
 // Two numbers of a width become one. A divisor has to be not zero.
-fn compute(kinds: &mut Stack, operation: Operation, width: Width) -> Result<(), VerifyFault>
+fn compute(
+    kinds: &mut KindStack,
+    operation: ArithmeticOperation,
+    width: Width,
+) -> Result<(), VerifyFault>
     requires room { length kinds.old.items ≤ most_cells }
     ensures ok { OnOk result
         (computes operation width (reverse kinds.old.items) ≡ Some (reverse kinds.new.items)) }
-    ensures err { IfErr result (λ f. unfit (computes Operation.Add width (reverse kinds.old.items))
+    ensures err { IfErr result (λ f. unfit (computes ArithmeticOperation.Add width (reverse kinds.old.items))
         (computes operation width (reverse kinds.old.items)) ≡ Some f) }
 {
     let number = CellKind::Plain(width.elementary());
@@ -112,7 +116,7 @@ fn compute(kinds: &mut Stack, operation: Operation, width: Width) -> Result<(), 
 }
 
 // Two BOOLs become one.
-fn combine(kinds: &mut Stack) -> Result<(), VerifyFault>
+fn combine(kinds: &mut KindStack) -> Result<(), VerifyFault>
     requires room { length kinds.old.items ≤ most_cells }
     ensures ok { OnOk result
         (two truth truth truth (reverse kinds.old.items) ≡ Some (reverse kinds.new.items)) }
@@ -153,7 +157,7 @@ fn are_compared(comparison: Comparison, first: ElementaryType, second: Elementar
 }
 
 // Two values that show one type become a BOOL.
-fn compare(kinds: &mut Stack, comparison: Comparison) -> Result<(), VerifyFault>
+fn compare(kinds: &mut KindStack, comparison: Comparison) -> Result<(), VerifyFault>
     requires room { length kinds.old.items ≤ most_cells }
     ensures ok { OnOk result
         (compares comparison (reverse kinds.old.items) ≡ Some (reverse kinds.new.items)) }
@@ -173,7 +177,7 @@ fn compare(kinds: &mut Stack, comparison: Comparison) -> Result<(), VerifyFault>
 }
 
 // The top becomes one of a wider type, and stays not zero.
-fn widen(kinds: &mut Stack, from: Width, to: Width) -> Result<(), VerifyFault>
+fn widen(kinds: &mut KindStack, from: Width, to: Width) -> Result<(), VerifyFault>
     requires room { length kinds.old.items ≤ most_cells }
     ensures ok { OnOk result
         (widens from to (reverse kinds.old.items) ≡ Some (reverse kinds.new.items)) }
@@ -214,7 +218,7 @@ fn use_slot(
     slots: &[SlotType],
     slot_use: SlotUse,
     number: u16,
-    kinds: &mut Stack,
+    kinds: &mut KindStack,
 ) -> Result<(), VerifyFault>
     requires room { length kinds.old.items ≤ most_cells }
     ensures ok { OnOk result
@@ -241,7 +245,7 @@ fn use_slot(
 }
 
 // What an instruction does with a timer that is there.
-fn use_timer(timer_use: TimerUse, kinds: &mut Stack) -> Result<(), VerifyFault>
+fn use_timer(timer_use: TimerUse, kinds: &mut KindStack) -> Result<(), VerifyFault>
     requires room { length kinds.old.items ≤ most_cells }
     ensures ok { OnOk result
         (effect [] 1 (Instr.Timer timer_use 0) (reverse kinds.old.items)
@@ -269,7 +273,7 @@ fn apply(
     slots: &[SlotType],
     timers: usize,
     instr: Instr,
-    kinds: &mut Stack,
+    kinds: &mut KindStack,
 ) -> Result<(), VerifyFault>
     requires named { missing (length slots.now) timers instr ≡ None }
     requires room { length kinds.old.items ≤ most_cells }
@@ -351,7 +355,7 @@ pub(crate) fn transfer(
     slots: &[SlotType],
     timers: usize,
     instr: Instr,
-    kinds: &mut Stack,
+    kinds: &mut KindStack,
 ) -> Result<(), VerifyFault>
     requires room { length kinds.old.items ≤ most_cells }
     ensures ok { OnOk result

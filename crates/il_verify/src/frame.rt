@@ -20,19 +20,19 @@ pub(crate) const MAX_KINDS: usize = 32;
 const ROOM: usize = MAX_KINDS + 1;
 
 /// The kinds on a stack, the top last. It holds one more than the stack may.
-pub(crate) type Stack = ArrayVec<CellKind, ROOM>;
+pub(crate) type KindStack = ArrayVec<CellKind, ROOM>;
 
 /// What is known of the stack before an instruction, and the length of the longest path to it.
 #[derive(Drop)]
 pub(crate) struct Frame {
     /// The kinds on the stack.
-    pub kinds: Stack,
+    pub kinds: KindStack,
     /// The number of places on a longest path from the first place to this one.
     pub longest: u32,
 }
 
 // A copy of the kinds on a stack.
-fn copy_of(kinds: &[CellKind]) -> Stack
+fn copy_of(kinds: &[CellKind]) -> KindStack
     requires { length kinds.now ≤ most_cells }
     ensures { result.items ≡ kinds.now }
 {
@@ -45,7 +45,7 @@ fn copy_of(kinds: &[CellKind]) -> Stack
 }
 
 // Joins each kind with the other at its place: the least kind above both.
-fn join_all(kinds: &mut Stack, others: &[CellKind])
+fn join_all(kinds: &mut KindStack, others: &[CellKind])
     requires { length kinds.old.items ≡ length others.now }
     ensures { kinds.new.items ≡ join_all kinds.old.items others.now }
 {

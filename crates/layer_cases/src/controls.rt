@@ -16,7 +16,7 @@ use bay_config::read::read_bay;
 use bay_control::cause::AddCause;
 use bay_control::control::ControlTable;
 use bay_control::controls::Controls;
-use bay_control::request::{Ask, Identity, Origin, View};
+use bay_control::request::{Ask, Identity, Originator, View};
 use bay_nodes::switch::Operation;
 use cases::octets::octets_of;
 use cases::told::check_text;
@@ -32,13 +32,13 @@ fn is_first(word: &str, first: &str, second: &str) -> Result<bool> {
 }
 
 // Reads who asks, as `CATEGORY/IDENTITY`.
-fn origin_of(alloc: Global, word: &str) -> Result<Origin> {
+fn origin_of(alloc: Global, word: &str) -> Result<Originator> {
     let (category, identity) = word.split_once("/").context("no identity")?;
     let octets = octets_of(alloc, identity)?;
     if octets.len() > 64 {
         bail!("the identity has more than 64 octets");
     }
-    Ok(Origin {
+    Ok(Originator {
         cat: category.parse::<i8>().context(category)?,
         ident: Identity::new(octets.as_slice()),
     })

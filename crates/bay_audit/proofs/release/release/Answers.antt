@@ -4,7 +4,7 @@ use Rattle.bay_rules.specs.Process.{Process}
 use Rattle.bay_audit.specs.declared.demand.Demand.{Demand}
 use Rattle.bay_audit.specs.Rules.{AreTold, IsVerdict, case_count, program, told_count}
 use Rattle.bay_audit.specs.declared.answer.ToldCase.{ToldCase}
-use Rattle.bay_audit.specs.declared.case.Literal.{Literal}
+use Rattle.bay_audit.specs.declared.case.TestAnswer.{TestAnswer}
 use Rattle.bay_audit.proofs.ReleaseLemmas.{one-split, one-told, told-more, verdict-told}
 use Rattle.bay_audit.proofs.release.release.Goals as goal
 use Rattle.bay_audit.proofs.release.release.Goals.{in-Ok+in_ok-push-in-Ok, in-Err+in_ok-split-in-Err, else-loop-test, then-loop-test+in_default}
@@ -18,7 +18,7 @@ loop-preserved c =
     let case = c.in-Some.case in
     let before : (p : Process) → told_count c.loop.cases.items p
     + case_count (c.pop.new.self.items ++ case ∷ []) p ≡ 1 =
-    λ p. subst (λ (cs : List (List Literal)). told_count c.loop.cases.items p + case_count cs p ≡ 1)
+    λ p. subst (λ (cs : List (List TestAnswer)). told_count c.loop.cases.items p + case_count cs p ≡ 1)
     c.in-Some.ensures.items (c.loop.invariant.one p) in
     elim c.match-told_by.branch [
       | in-Ok+in_ok-push-in-Ok w ↦
@@ -33,7 +33,7 @@ loop-preserved c =
                 c.in_ok-demand.ensures c.in_ok-verdict.ensures) w.in-Ok.ensures));
             one = λ p. subst (λ (ds : List ToldCase). told_count ds p
                 + case_count c.match-told_by.left.items p ≡ 1) (sym cases)
-                (subst (λ (cs : List (List Literal)).
+                (subst (λ (cs : List (List TestAnswer)).
                 told_count (c.loop.cases.items ++ record { case = case; told = w.in-Ok.told } ∷ [])
                 p
                 + case_count cs p ≡ 1) (sym (ap (λ v. v.items) w.left-is))
@@ -46,7 +46,7 @@ loop-preserved c =
             told = subst (AreTold g k operation) (sym cases) c.loop.invariant.told;
             one = λ p. subst (λ (ds : List ToldCase). told_count ds p
                 + case_count c.match-told_by.left.items p ≡ 1) (sym cases)
-                (subst (λ (cs : List (List Literal)). told_count c.loop.cases.items p
+                (subst (λ (cs : List (List TestAnswer)). told_count c.loop.cases.items p
                 + case_count cs p ≡ 1)
                 (sym (ap (λ v. v.items) w.left-is ∙ w.in_ok-split-in-Err.ensures))
                 (one-split c.loop.cases.items c.pop.new.self.items case w.in-Err.test p
@@ -65,6 +65,6 @@ returns-clause-right c =
     ] in
     record {
       told = c.loop.invariant.told;
-      one = λ p. subst (λ (cs : List (List Literal)). told_count c.loop.cases.items p
+      one = λ p. subst (λ (cs : List (List TestAnswer)). told_count c.loop.cases.items p
           + case_count cs p ≡ 1) left (c.loop.invariant.one p);
     }

@@ -6,9 +6,9 @@ abbrev pub invariant-loop-turn : goal.invariant-loop-turn
 invariant-loop-turn g l = record {
   within : l.count ≤ l.limit;
   at_least : l.turn ≤ l.count;
-  asked : HasAsked g.R.Source.does l.initial.reader.inner l.initial.reader.has_failed
-      l.reader.inner l.reader.has_failed (g.R.Source.remaining l.initial.reader.inner)
-      (g.R.Source.remaining l.reader.inner) l.turn l.count (is_ok l.kept) l.all.items;
+  asked : HasAsked g.R.OctetSource.does l.initial.reader.inner l.initial.reader.has_failed
+      l.reader.inner l.reader.has_failed (g.R.OctetSource.remaining l.initial.reader.inner)
+      (g.R.OctetSource.remaining l.reader.inner) l.turn l.count (is_ok l.kept) l.all.items;
   counted : l.reader.reads ≤ l.initial.reader.reads + l.turn;
   quiet : l.reader.has_failed ≡ false;
   sized : length l.piece ≡ 65536;

@@ -2,7 +2,7 @@ use Rattle.std.proofs.Common.{None, [], arith}
 use Rattle.bay_base.specs.declared.types.ElementaryType.TheVariants as elementary
 use Rattle.il_text.specs.declared.program.Declaration.{Declaration}
 use Rattle.il_text.specs.declared.program.DeclaredType.TheVariants.{Elementary}
-use Rattle.il_text.specs.declared.program.Scope.TheVariants.{Local}
+use Rattle.il_text.specs.declared.program.VariableScope.TheVariants.{Local}
 use Rattle.il_check.proofs.DeclarationsViewLemmas.{so_far-more, so_far-none, so_far-stands, so_far-found}
 use Rattle.il_check.proofs.declare.declare_all.Goals as goal
 

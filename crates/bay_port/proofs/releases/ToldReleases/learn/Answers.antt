@@ -2,7 +2,7 @@ use Rattle.std.proofs.Common.{◌≡◌, None, length, length-set, ap, sym, ◌�
 use Rattle.std.proofs.lemmas.List.Edits.{fill_by_more}
 use Rattle.std.proofs.lemmas.List.FromFn.{fill_by_all}
 use Rattle.bay_device.specs.LookUps.{enabled_of}
-use Rattle.bay_port.proofs.releases.Told.learn.Goals as goal
+use Rattle.bay_port.proofs.releases.ToldReleases.learn.Goals as goal
 
 pub loop-place-preserved : goal.loop-place-preserved
 loop-place-preserved c =
