@@ -7,7 +7,7 @@ use Rattle.bay_base.specs.Options.{◌>>=◌}
 use Rattle.bay_ber.specs.Values.{Part, value, SpellAll, value_in, few_in, known_in, under}
 use Rattle.bay_ber.proofs.ReadLemmas.{IsBytes}
 use Rattle.bay_ber.proofs.BackLemmas.{bind-some, AllBytes, under-is, under-bytes, under-one, one-under, known-back}
-use Rattle.bay_mms.specs.Tags.{constructed}
+use Rattle.bay_ber.specs.Tags.{constructed}
 use Rattle.bay_assoc.specs.Tags.{oid_tag, external_tag, application, mms_application}
 use Rattle.bay_assoc.specs.Presentation.{Carried, carried_of}
 use Rattle.bay_assoc.specs.Acse.{application_of, application_as, information_as, associate_of, associate_in, release_in}

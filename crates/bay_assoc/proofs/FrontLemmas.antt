@@ -6,7 +6,7 @@ use Rattle.bay_ber.specs.declared.tag.Tag.{Tag}
 use Rattle.bay_ber.specs.Spelling.{octet_of}
 use Rattle.bay_ber.specs.Writing.{length_octets, element, is_needless, without_needless, integer_octets}
 use Rattle.bay_ber.proofs.SmallLemmas.{eight-bytes, id-one}
-use Rattle.bay_mms.specs.Tags.{constructed, sequence, int_tag}
+use Rattle.bay_ber.specs.Tags.{constructed, sequence, int_tag}
 use Rattle.bay_assoc.specs.Tags.{application}
 use Rattle.bay_assoc.specs.Texts.{user_text, transfer_text}
 

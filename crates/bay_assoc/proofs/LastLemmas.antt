@@ -5,7 +5,7 @@ use Rattle.bay_ber.specs.declared.tag.Tag.{Tag}
 use Rattle.bay_ber.specs.Spelling.{Spells}
 use Rattle.bay_ber.specs.Values.{Part, value, SpellAll}
 use Rattle.bay_ber.proofs.ReadLemmas.{IsBytes}
-use Rattle.bay_mms.specs.Tags.{constructed, sequence, int_tag}
+use Rattle.bay_ber.specs.Tags.{constructed, sequence, int_tag}
 use Rattle.bay_assoc.specs.declared.hearing.Heard.{Heard}
 use Rattle.bay_assoc.specs.declared.hearing.Heard.TheVariants as heard
 use Rattle.bay_assoc.specs.declared.hearing.Phase.{Phase}

@@ -1,10 +1,9 @@
 -- A request for a connection has the normal mode.
 use Rattle.std.proofs.Common.{◌≡◌, ℕ, ℤ, Bool, true, false, cond, List, [], ◌∷◌, Option, Some, None, IsSome, refl, subst, sym}
 use Rattle.bay_base.specs.Options.{◌>>=◌}
-use Rattle.bay_ber.specs.Tags.{same_tag}
+use Rattle.bay_ber.specs.Tags.{same_tag, constructed}
 use Rattle.bay_ber.specs.Values.{Part, value_in, known_in, under}
 use Rattle.bay_ber.proofs.BackLemmas.{bind-some}
-use Rattle.bay_mms.specs.Tags.{constructed}
 use Rattle.bay_assoc.specs.Tags.{set_tag}
 use Rattle.bay_assoc.specs.Presentation.{Connect, mode_as, mode_among, mode_in, normal_as, request_of, request_in}
 

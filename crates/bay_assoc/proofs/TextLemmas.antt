@@ -8,7 +8,7 @@ use Rattle.bay_ber.specs.Sheets.{Sheet, sheet_with, within}
 use Rattle.bay_ber.specs.Writing.{element, integer_octets, length_octets}
 use Rattle.bay_ber.proofs.SheetLemmas.{put_nil, put-put, fits}
 use Rattle.bay_ber.proofs.SizeLemmas.{length-element, length-integer}
-use Rattle.bay_mms.specs.Tags.{context, constructed, sequence, int_tag}
+use Rattle.bay_ber.specs.Tags.{context, constructed, sequence, int_tag}
 use Rattle.bay_assoc.specs.Tags.{oid_tag, set_tag, external_tag, application, mms_application}
 use Rattle.bay_assoc.specs.Texts.{carried_text, user_text, result_text, results_text, selector_text, connected_text, associated_text, release_text}
 use Rattle.bay_assoc.specs.declared.presentation.Context.{Context}

@@ -7,13 +7,11 @@ use Rattle.std.proofs.lemmas.Bool.{eqb-true, ltb-true, ltb-false, and_parts}
 use Rattle.bay_ber.specs.declared.tag.Tag.{Tag}
 use Rattle.bay_base.specs.Options.{◌>>=◌}
 use Rattle.bay_ber.specs.Content.{IsInteger, integer_in}
-use Rattle.bay_ber.specs.Tags.{same_tag}
-use Rattle.bay_ber.specs.Values.{Part, value, SpellAll, value_in, few_in, all_of, each_in, known_in, under, integer_under}
+use Rattle.bay_ber.specs.Tags.{same_tag, context, constructed, sequence, int_tag}
+use Rattle.bay_ber.specs.Values.{Part, value, SpellAll, value_in, few_in, all_of, each_in, known_in, under, integer_under, AreEach}
 use Rattle.bay_ber.proofs.ReadLemmas.{IsBytes}
 use Rattle.bay_ber.proofs.BackLemmas.{bind-some, AllBytes, tag-is, unguarded, under-is, under-bytes, under-one, integer-back, number-back, one-back, one-under, few-back, known-back, each-back}
-use Rattle.bay_mms.specs.Spelled.{AreEach}
-use Rattle.bay_mms.proofs.EachLemmas.{each-listed}
-use Rattle.bay_mms.specs.Tags.{context, constructed, sequence, int_tag}
+use Rattle.bay_ber.proofs.EachLemmas.{each-listed}
 use Rattle.bay_assoc.specs.Tags.{oid_tag, set_tag, application, acse_syntax, mms_syntax, ber_syntax}
 use Rattle.bay_assoc.specs.declared.presentation.Context.{Context}
 use Rattle.bay_assoc.specs.Presentation.{is_ber, offers_ber, context_id, context_with, context_of, context_as, are_distinct, few_contexts, contexts_in, Carried, carried_as, carried_of, carried_in, carried_under, user_in, Connect, selector_of, selector_as, connect_with, connect_of, normal_in, normal_as, mode_of, mode_as, request_of, request_in}

@@ -9,8 +9,8 @@ use Rattle.bay_ber.specs.Values.{Part, value, SpellAll, at_most_five, few_in, al
 use Rattle.bay_ber.proofs.ContentLemmas.{integer-again}
 use Rattle.bay_ber.proofs.ListingLemmas.{values-again}
 use Rattle.bay_ber.proofs.BackLemmas.{one-read, few-read, known-read}
-use Rattle.bay_mms.proofs.EachLemmas.{each-read}
-use Rattle.bay_mms.specs.Tags.{context, constructed, sequence, int_tag}
+use Rattle.bay_ber.proofs.EachLemmas.{each-read}
+use Rattle.bay_ber.specs.Tags.{context, constructed, sequence, int_tag}
 use Rattle.bay_assoc.specs.Tags.{oid_tag, set_tag, external_tag, application, mms_syntax, ber_syntax, mms_application}
 use Rattle.bay_assoc.specs.declared.presentation.Context.{Context}
 use Rattle.bay_assoc.specs.Presentation.{is_ber, offers_ber, context_id, context_with, context_as, contexts_in, Carried, carried_as, carried_of, carried_in, carried_under, user_in, Connect, selector_of, selector_as, connect_with, connect_of, normal_in, normal_as, mode_as, request_in}

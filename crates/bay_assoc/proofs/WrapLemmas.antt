@@ -12,7 +12,7 @@ use Rattle.bay_ber.proofs.ContentLemmas.{integer-again}
 use Rattle.bay_ber.proofs.ListingLemmas.{values-again}
 use Rattle.bay_ber.proofs.SizeLemmas.{length-element, length-integer_octets}
 use Rattle.bay_ber.proofs.WriteLemmas.{element-spells, integer-is}
-use Rattle.bay_mms.specs.Tags.{constructed, sequence, int_tag}
+use Rattle.bay_ber.specs.Tags.{constructed, sequence, int_tag}
 use Rattle.bay_assoc.specs.Tags.{application}
 use Rattle.bay_assoc.specs.declared.hearing.AssociationTerms.{AssociationTerms}
 use Rattle.bay_assoc.specs.declared.hearing.Phase.{Phase}

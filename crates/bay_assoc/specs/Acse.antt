@@ -3,7 +3,7 @@ use Rattle.std.specs.Prelude.{List, [], ◌∷◌, ℕ, Option, Some, None, if�
 use Rattle.std.specs.Str.{bytes_eq}
 use Rattle.bay_base.specs.Options.{◌>>=◌}
 use Rattle.bay_ber.specs.Values.{Part, value_in, few_in, known_in, under}
-use Rattle.bay_mms.specs.Tags.{constructed}
+use Rattle.bay_ber.specs.Tags.{constructed}
 use Rattle.bay_assoc.specs.Tags.{oid_tag, external_tag, application, mms_application}
 use Rattle.bay_assoc.specs.Presentation.{Carried, carried_of}
 

@@ -4,10 +4,9 @@ use Rattle.std.specs.List.{list_any}
 use Rattle.std.specs.Str.{bytes_eq}
 use Rattle.bay_base.specs.Options.{◌>>=◌}
 use Rattle.bay_ber.specs.declared.tag.Tag.{Tag}
-use Rattle.bay_ber.specs.Tags.{same_tag}
+use Rattle.bay_ber.specs.Tags.{same_tag, context, constructed, sequence, int_tag}
 use Rattle.bay_ber.specs.Content.{integer_in}
 use Rattle.bay_ber.specs.Values.{Part, value_in, few_in, known_in, each_in, under, integer_under}
-use Rattle.bay_mms.specs.Tags.{context, constructed, sequence, int_tag}
 use Rattle.bay_assoc.specs.Tags.{oid_tag, set_tag, application, acse_syntax, mms_syntax, ber_syntax}
 use Rattle.bay_assoc.specs.declared.presentation.Context.{Context}
 

@@ -2,7 +2,7 @@
 ghost use Rattle.std.specs.Prelude.{◌≡◌, ◌+◌, ◌<◌, ◌≤◌, ◌∷◌, ◌++◌, length, pos};
 ghost use Rattle.arrayvec.specs.ArrayVec.{array_vec_len};
 ghost use Rattle.bay_ber.specs.Writing.{length_octets, element, integer_octets};
-ghost use Rattle.bay_mms.specs.Tags.{int_tag};
+ghost use Rattle.bay_ber.specs.Tags.{int_tag};
 ghost use Rattle.bay_assoc.specs.Texts.{user_text, transfer_text};
 
 use arrayvec::ArrayVec;

@@ -3,7 +3,7 @@ ghost use Rattle.std.specs.Prelude.{◌≡◌, ◌+◌, ◌<◌, ◌≤◌, ◌+
 ghost use Rattle.std.specs.Option.{ForSome};
 ghost use Rattle.bay_ber.specs.Sheets.{sheet_with};
 ghost use Rattle.bay_ber.specs.Writing.{element};
-ghost use Rattle.bay_mms.specs.Tags.{constructed};
+ghost use Rattle.bay_ber.specs.Tags.{constructed};
 ghost use Rattle.bay_assoc.specs.Tags.{oid_tag, external_tag, mms_application};
 ghost use Rattle.bay_assoc.specs.Texts.{size_text, unit_text, accept_text, disconnect_text, transfer_text, carried_text, user_text, result_text, results_text, selector_text, connected_text, associated_text, release_text};
 

@@ -1,6 +1,6 @@
 -- What octets are read as, they spell, and what they spell they are read as: values, fields and
 -- contents.
-use Rattle.std.proofs.Common.{◌≡◌, ℕ, zero, suc, ℤ, ◌+◌, ◌-◌, ◌*◌, ◌<◌, Bool, true, false, cond, ltb, List, [], ◌∷◌, ◌++◌, length, filter, Option, Some, None, refl, sym, ap, subst, ◌∙◌, arith}
+use Rattle.std.proofs.Common.{◌≡◌, ℕ, zero, suc, ℤ, ◌+◌, ◌-◌, ◌*◌, ◌<◌, Bool, true, false, cond, ltb, List, [], ◌∷◌, ◌++◌, length, filter, Option, Some, None, refl, sym, ap, subst, ◌∙◌, ◌⊎◌, inl, inr, arith}
 use Rattle.std.proofs.lemmas.Option.{cond_some, same_Some}
 use Rattle.std.specs.Bool.{beq}
 use Rattle.std.proofs.lemmas.Bool.{eqb-true, lt-ltb, ltb-true, ltb-false, cond-true, and_parts}
@@ -284,3 +284,14 @@ pub truth-again : (content : List ℕ) (b : Bool) → IsTruth content b → trut
 truth-again (octet ∷ []) false is = rw is refl
 truth-again (octet ∷ []) true is = rw (lt-ltb 0 octet is) refl
 truth-again content b is = absurd is
+
+-- which of two a tag chooses
+pub by-tag : {A : Type 0} (tag : Tag) (part : Part) (x y z : A)
+    → cond (same_tag part.tag tag) x y ≡ z
+    → ((part ≡ value tag part.content) × (x ≡ z)) ⊎ ((same_tag part.tag tag ≡ false) × (y ≡ z))
+by-tag {A = A} tag part x y z e = pick (same_tag part.tag tag) refl e
+  where
+    pick : (b : Bool) → same_tag part.tag tag ≡ b → cond b x y ≡ z
+        → ((part ≡ value tag part.content) × (x ≡ z)) ⊎ ((same_tag part.tag tag ≡ false) × (y ≡ z))
+    pick true s f = inl (ap (λ (t : Tag). value t part.content) (tag-is part.tag tag s), f)
+    pick false s f = inr (s, f)

@@ -1,5 +1,6 @@
 pub mod BackLemmas
 pub mod ContentLemmas
+pub mod EachLemmas
 pub mod KnownLemmas
 pub mod ListingLemmas
 pub mod OctetLemmas

@@ -1,5 +1,5 @@
--- Whether two tags are one.
-use Rattle.std.specs.Prelude.{Bool, true, false, ◌&&◌, ◌==◌}
+-- When two tags are one, and the tags that messages have (X.690 8.1.2.2, 8.4).
+use Rattle.std.specs.Prelude.{ℕ, Bool, true, false, ◌&&◌, ◌==◌}
 use Rattle.std.specs.Bool.{beq}
 use Rattle.bay_ber.specs.declared.tag.Class.{Class}
 use Rattle.bay_ber.specs.declared.tag.Class.TheVariants.{Universal, Application, ContextSpecific, Private}
@@ -18,3 +18,22 @@ abbrev pub same_tag : Tag → Tag → Bool
 same_tag first second =
     same_class first.class second.class
     && (beq first.constructed second.constructed && (first.number == second.number))
+
+-- the context-specific tag of a simple value
+abbrev pub context : ℕ → Tag
+context number = record { class = ContextSpecific; constructed = false; number = number }
+
+-- the context-specific tag of a value that is made of values
+abbrev pub constructed : ℕ → Tag
+constructed number = record { class = ContextSpecific; constructed = true; number = number }
+
+-- a sequence
+abbrev pub sequence : Tag
+sequence = record { class = Universal; constructed = true; number = 16 }
+
+-- an integer, and a visible string
+abbrev pub int_tag : Tag
+int_tag = record { class = Universal; constructed = false; number = 2 }
+
+abbrev pub visible_tag : Tag
+visible_tag = record { class = Universal; constructed = false; number = 26 }

@@ -8,7 +8,7 @@ use Rattle.bay_ber.proofs.BackLemmas.{one-read}
 use Rattle.bay_ber.proofs.ListingLemmas.{values-again}
 use Rattle.bay_ber.proofs.SizeLemmas.{length-element, length-integer_octets}
 use Rattle.bay_ber.proofs.WriteLemmas.{element-spells}
-use Rattle.bay_mms.specs.Tags.{constructed, int_tag, sequence}
+use Rattle.bay_ber.specs.Tags.{constructed, int_tag, sequence}
 use Rattle.bay_transport.specs.Doings.{Run}
 use Rattle.bay_transport.specs.Wrap.{full_before, tpdus_of}
 use Rattle.bay_transport.proofs.WrapLemmas.{run-data_frames}

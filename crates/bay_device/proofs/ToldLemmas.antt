@@ -12,7 +12,7 @@ use Rattle.bay_process.specs.Names.{field_names}
 use Rattle.il_scan.specs.Scans.{outputs_of}
 use Rattle.bay_mms.specs.Grammar.{answer_to}
 use Rattle.bay_mms.specs.Requests.{identify, names, attributes, read, write, Message, initiate, conclude, confirmed}
-use Rattle.bay_mms.specs.Tags.{constructed}
+use Rattle.bay_ber.specs.Tags.{constructed}
 use Rattle.bay_mms.specs.declared.fault.MmsFault.{MmsFault}
 use Rattle.bay_assoc.specs.Hears.{association_terms}
 use Rattle.bay_assoc.specs.Sized.{IsSized}

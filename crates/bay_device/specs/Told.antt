@@ -4,7 +4,7 @@ use Rattle.std.specs.Prelude.{ℕ, ◌≡◌, Bool, List, [], ◌∷◌, ◌++�
 use Rattle.bay_base.specs.Options.{◌>>=◌}
 use Rattle.bay_ber.specs.Values.{under, value_in, values_in}
 use Rattle.bay_mms.specs.Grammar.{answer_to}
-use Rattle.bay_mms.specs.Tags.{constructed, sequence}
+use Rattle.bay_ber.specs.Tags.{constructed, sequence}
 use Rattle.bay_transport.specs.Doings.{Doing, Answers, Delivers, Ends, Fails, Going, run_of}
 use Rattle.bay_assoc.specs.Session.{Spdu, connect, accept, finish, disconnect, abort, transfer, spdu_in}
 use Rattle.bay_assoc.specs.Sized.{IsSized}

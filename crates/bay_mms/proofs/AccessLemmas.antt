@@ -4,18 +4,17 @@ use Rattle.std.proofs.lemmas.Option.{same_Some}
 use Rattle.std.proofs.lemmas.Bool.{lt-ltb, le-ltb, ltb-true, ltb-false, or_parts}
 use Rattle.bay_ber.specs.declared.tag.Tag.{Tag}
 use Rattle.bay_base.specs.Options.{◌>>=◌}
-use Rattle.bay_ber.specs.Tags.{same_tag}
+use Rattle.bay_ber.specs.Tags.{same_tag, context, constructed, sequence, visible_tag}
 use Rattle.bay_ber.specs.Values.{Part, value, SpellAll, value_in, one_or_two_in, each_in, under}
 use Rattle.bay_ber.proofs.ReadLemmas.{IsBytes}
 use Rattle.bay_ber.proofs.ListingLemmas.{values-again}
 use Rattle.bay_ber.proofs.BackLemmas.{bind-some, tag-is, under-is, under-bytes, listed, one-back, two-back, each-back, one-read, two-read}
-use Rattle.bay_mms.specs.Tags.{context, constructed, sequence, visible_tag}
 use Rattle.bay_base.specs.Results.{◌>>=◌ as ◌>>◌}
 use Rattle.bay_mms.specs.Spelled.{or_misspelled}
 use Rattle.bay_mms.specs.Requests.{Naming, vmd, domain, association, VariableSpecification, Access, variables, named_list}
 use Rattle.bay_mms.specs.Grammar.{domain_name, name_as, name_in, is_partial, variable_of, variable_as, any_alternate, names_asked, listed_in, names_as}
 use Rattle.bay_mms.specs.SpelledNames.{IsName, IsPartial, IsVariable, IsAccess, as_whole, AreServed, AreUnserved, AreMany}
-use Rattle.bay_mms.proofs.EachLemmas.{each-read, each-listed}
+use Rattle.bay_ber.proofs.EachLemmas.{each-read, each-listed}
 use Rattle.bay_mms.specs.declared.fault.Refusal.{Refusal}
 use Rattle.bay_mms.specs.declared.fault.Refusal.TheVariants.{Bad, Unknown, Many, OutOfMemory}
 
@@ -29,17 +28,6 @@ pub spelled-then : {A B : Type 0} (o : Option A) (f : A → Result B Refusal) (r
     → IsFair r → (or_misspelled o >> f) ≡ r → (x : A) × (o ≡ Some x) × (f x ≡ r)
 spelled-then None f r fair e = absurd (fair (sym e))
 spelled-then (Some x) f r fair e = (x, refl, e)
-
--- which of two a tag chooses
-pub by-tag : {A : Type 0} (tag : Tag) (part : Part) (x y z : A)
-    → cond (same_tag part.tag tag) x y ≡ z
-    → ((part ≡ value tag part.content) × (x ≡ z)) ⊎ ((same_tag part.tag tag ≡ false) × (y ≡ z))
-by-tag {A = A} tag part x y z e = pick (same_tag part.tag tag) refl e
-  where
-    pick : (b : Bool) → same_tag part.tag tag ≡ b → cond b x y ≡ z
-        → ((part ≡ value tag part.content) × (x ≡ z)) ⊎ ((same_tag part.tag tag ≡ false) × (y ≡ z))
-    pick true s f = inl (ap (λ (t : Tag). value t part.content) (tag-is part.tag tag s), f)
-    pick false s f = inr (s, f)
 
 pub spelled-under : (octets : List ℕ) (p q : Part) → p ≡ q → SpellAll octets (p ∷ [])
     → SpellAll octets (q ∷ [])

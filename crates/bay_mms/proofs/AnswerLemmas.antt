@@ -5,8 +5,8 @@ use Rattle.std.specs.Prelude.{IsTrue, IsErrOf}
 use Rattle.bay_base.specs.Exact.{Gives}
 use Rattle.bay_ber.specs.Values.{Part, value, SpellAll, one_or_two_in, value_in}
 use Rattle.bay_ber.proofs.ReadLemmas.{IsBytes}
-use Rattle.bay_ber.proofs.BackLemmas.{listed, one-back, two-back}
-use Rattle.bay_mms.specs.Tags.{constructed}
+use Rattle.bay_ber.proofs.BackLemmas.{listed, one-back, two-back, by-tag}
+use Rattle.bay_ber.specs.Tags.{constructed}
 use Rattle.bay_mms.specs.RequestViews.{message}
 use Rattle.bay_mms.specs.Requests.{Asking, read, write}
 use Rattle.bay_mms.specs.SpelledServices.{IsService}
@@ -16,7 +16,7 @@ use Rattle.bay_mms.specs.Answers.{TakesMemory, IsAnswer, has_list, is_empty, tak
 use Rattle.bay_mms.specs.declared.request.Request.{Request}
 use Rattle.bay_mms.specs.declared.fault.MmsFault.{MmsFault}
 use Rattle.bay_mms.specs.declared.fault.MmsFault.TheVariants.{BadPdu, UnknownService, TooMany, OutOfMemory}
-use Rattle.bay_mms.proofs.AccessLemmas.{by-tag, spelled-under}
+use Rattle.bay_mms.proofs.AccessLemmas.{spelled-under}
 use Rattle.bay_mms.proofs.AskLemmas.{asked-read, asked-back, unknown-is, many-is, bad-is}
 
 -- ---- where memory is taken

@@ -8,22 +8,22 @@ use Rattle.bay_ber.specs.declared.tag.Tag.{Tag}
 use Rattle.bay_ber.specs.Content.{IsInteger, integer_in}
 use Rattle.bay_base.specs.Options.{◌>>=◌}
 use Rattle.bay_ber.specs.Reading.{Reading, Begins, tlv_at}
-use Rattle.bay_ber.specs.Tags.{same_tag}
+use Rattle.bay_ber.specs.Tags.{same_tag, context, constructed, int_tag}
 use Rattle.bay_ber.specs.Values.{Part, value, SpellAll, part_in, value_in, one_or_two_in, under}
 use Rattle.bay_ber.proofs.ReadLemmas.{IsBytes, tlv-takes, tlv-again}
-use Rattle.bay_ber.proofs.BackLemmas.{bind-some, bytes-before, content-bytes, AllBytes, under-is, integer-back, listed, one-back, two-back, one-read}
-use Rattle.bay_mms.specs.Tags.{context, constructed, int_tag}
+use Rattle.bay_ber.proofs.BackLemmas.{bind-some, bytes-before, content-bytes, AllBytes, under-is, integer-back, listed, one-back, two-back, one-read, by-tag}
 use Rattle.bay_base.specs.Results.{◌>>=◌ as ◌>>◌}
 use Rattle.bay_mms.specs.Requests.{Asking, Message, initiate, conclude, confirmed}
-use Rattle.bay_mms.specs.Grammar.{nothing, service_as, proposal_in, id_of, id_as, with_id, or_bad, confirmed_of, message_as, front_of, id_in, answer_to}
+use Rattle.bay_mms.specs.Grammar.{nothing, service_as, id_of, id_as, with_id, or_bad, confirmed_of, message_as, front_of, id_in, answer_to}
+use Rattle.bay_assoc.specs.Initiate.{proposal_in}
 use Rattle.bay_mms.specs.Asks.{IsConfirmed, Asks, AsksUnknown, AsksMany, HasId, IsIdOf, AsksNothing}
 use Rattle.bay_mms.specs.declared.fault.Refusal.{Refusal}
 use Rattle.bay_mms.specs.declared.fault.Refusal.TheVariants.{Bad, OutOfMemory}
 use Rattle.bay_mms.specs.declared.fault.MmsFault.{MmsFault}
 use Rattle.bay_mms.specs.declared.fault.MmsFault.TheVariants as fault
-use Rattle.bay_mms.proofs.AccessLemmas.{by-tag, spelled-under}
+use Rattle.bay_mms.proofs.AccessLemmas.{spelled-under}
 use Rattle.bay_mms.proofs.ConfirmedLemmas.{id-read, known, confirmed-read}
-use Rattle.bay_mms.proofs.InitiateLemmas.{proposal-in-read, initiate-with}
+use Rattle.bay_assoc.proofs.InitiateLemmas.{proposal-in-read, initiate-with}
 use Rattle.bay_mms.proofs.ServiceBackLemmas.{Serves, service-back}
 use Rattle.bay_mms.proofs.ServiceLemmas.{service-read, unserved-read, overfull-read}
 

@@ -9,7 +9,7 @@ use Rattle.bay_ber.proofs.ContentLemmas.{integer-again}
 use Rattle.bay_ber.proofs.ListingLemmas.{values-again}
 use Rattle.bay_ber.proofs.BackLemmas.{two-read}
 use Rattle.bay_ber.proofs.ReadLemmas.{tlv-again}
-use Rattle.bay_mms.specs.Tags.{constructed, int_tag}
+use Rattle.bay_ber.specs.Tags.{constructed, int_tag}
 use Rattle.bay_mms.specs.Grammar.{id_as, with_id, service_as, message_as, id_in, answer_to}
 use Rattle.bay_mms.specs.Asks.{IsConfirmed}
 

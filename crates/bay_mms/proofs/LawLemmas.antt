@@ -6,7 +6,7 @@ use Rattle.bay_ber.specs.Writing.{element}
 use Rattle.bay_ber.proofs.WriteLemmas.{element-spells}
 use Rattle.bay_mms.specs.declared.response.Response.{Response}
 use Rattle.bay_mms.specs.declared.response.Response.TheVariants as response
-use Rattle.bay_mms.specs.Tags.{context, constructed}
+use Rattle.bay_ber.specs.Tags.{context, constructed}
 use Rattle.bay_mms.specs.Data.{Datum, Data, structure, truth, bits, integer, unsigned, octets, text, utc, other, datum_text}
 use Rattle.bay_mms.specs.Reports.{report_text}
 use Rattle.bay_mms.specs.Responses.{confirmed_response, response_text}

@@ -1,12 +1,9 @@
 pub mod AccessLemmas
-pub mod AgreedLemmas
 pub mod AnswerLemmas
 pub mod AskLemmas
 pub mod ConfirmedLemmas
 pub mod ControlLemmas
 pub mod DataLemmas
-pub mod EachLemmas
-pub mod InitiateLemmas
 pub mod LawLemmas
 pub mod MarkLemmas
 pub mod NodeLemmas

@@ -11,7 +11,7 @@ use Rattle.bay_tree.specs.declared.leaf.Leaf.{Leaf}
 use Rattle.bay_ber.specs.Writing.{element}
 use Rattle.bay_ber.specs.Sheets.{Sheet, sheet_with}
 use Rattle.bay_ber.proofs.SheetLemmas.{put_nil, put-put}
-use Rattle.bay_mms.specs.Tags.{context, constructed, sequence}
+use Rattle.bay_ber.specs.Tags.{context, constructed, sequence}
 use Rattle.bay_mms.specs.Nodes.{Nodes, no_nodes, node, node_of, nodes_in, node_at, node_datum, nodes_data, data_at, node_type, nodes_types, type_at}
 
 -- the first row found, its node, and those behind it

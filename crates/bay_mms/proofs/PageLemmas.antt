@@ -9,7 +9,7 @@ use Rattle.bay_ber.specs.Sheets.{within}
 use Rattle.bay_ber.proofs.SizeLemmas.{length-integer_octets}
 use Rattle.bay_tree.specs.declared.row.Row.{Row}
 use Rattle.bay_tree.specs.Rows.{names_of}
-use Rattle.bay_mms.specs.Tags.{visible_tag}
+use Rattle.bay_ber.specs.Tags.{visible_tag}
 use Rattle.bay_mms.specs.Responses.{names_text, page_text}
 use Rattle.bay_mms.specs.Pages.{AreEnds, NamesText, begin_at, ends_from, text_of_names, greatest, fits, page_count, first_page, length_of_page, page_length, response_of_texts}
 use Rattle.bay_mms.proofs.ResponseLemmas.{page-is}

@@ -5,7 +5,7 @@ use Rattle.bay_ber.specs.Content.{IsBits}
 use Rattle.bay_ber.specs.Values.{Part, value, SpellAll}
 use Rattle.bay_ber.specs.Writing.{bit_string_octets}
 use Rattle.bay_ber.proofs.WriteLemmas.{truth-is, integer-is, bit-string-is}
-use Rattle.bay_mms.specs.Tags.{constructed}
+use Rattle.bay_ber.specs.Tags.{constructed}
 use Rattle.bay_mms.specs.Data.{Datum, Data, structure, truth, bits, integer, unsigned, octets, text, utc, other, no_data, datum, datum_text, data_text}
 use Rattle.bay_mms.specs.SpelledData.{IsDatum, AreData}
 use Rattle.bay_mms.specs.Laws.{IsHeld, IsPlain, ArePlain, datum_tag, datum_content}

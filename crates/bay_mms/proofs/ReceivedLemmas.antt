@@ -6,19 +6,17 @@ use Rattle.std.proofs.lemmas.Bool.{eq-eqb, eqb-true, eqb-false, ne_eqb, or_parts
 use Rattle.bay_ber.specs.declared.tag.Tag.{Tag}
 use Rattle.bay_ber.specs.Content.{IsInteger, IsBits, IsTruth, integer_in, bits_in, truth_in}
 use Rattle.bay_base.specs.Options.{◌>>=◌}
-use Rattle.bay_ber.specs.Tags.{same_tag}
+use Rattle.bay_ber.specs.Tags.{same_tag, context, constructed}
 use Rattle.bay_ber.specs.Values.{Part, value, SpellAll, is_known, all_of, each_in}
 use Rattle.bay_ber.proofs.ReadLemmas.{IsBytes}
 use Rattle.bay_ber.proofs.ContentLemmas.{integer-again}
 use Rattle.bay_ber.proofs.ListingLemmas.{values-again}
-use Rattle.bay_ber.proofs.BackLemmas.{bind-some, AllBytes, integer-back, bits-back, bits-again, truth-back, truth-again, each-back}
+use Rattle.bay_ber.proofs.BackLemmas.{bind-some, AllBytes, integer-back, bits-back, bits-again, truth-back, truth-again, each-back, by-tag}
 use Rattle.bay_mms.specs.Data as mms
 use Rattle.bay_mms.specs.Data.{Datum, Data, structure, truth, bits, integer, unsigned, octets, text, utc, other, no_data, datum}
-use Rattle.bay_mms.specs.Tags.{context, constructed}
 use Rattle.bay_mms.specs.Views.{data_before}
 use Rattle.bay_mms.specs.Grammar.{utc_as, string_as, simple_as, datum_as}
 use Rattle.bay_mms.specs.SpelledData.{kinds, IsOther, IsDatum, AreData, depth_of, depth_in, AreWritten}
-use Rattle.bay_mms.proofs.AccessLemmas.{by-tag}
 use Rattle.bay_mms.proofs.RequestLemmas.{structure-is, simple-is}
 
 -- ---- what is spelled is read

@@ -7,7 +7,7 @@ use Rattle.bay_mms.specs.Data.{Datum, no_data, datum, datum_text}
 use Rattle.bay_mms.specs.Controls.{operate_datum}
 use Rattle.bay_mms.specs.ControlViews.{operating}
 use Rattle.bay_mms.specs.Reports.{variable_text, report_text, failure_name, item_name, failure_datum, failure_data, operate_text, failure_text, termination_text, failed_text}
-use Rattle.bay_mms.specs.Tags.{constructed}
+use Rattle.bay_ber.specs.Tags.{constructed}
 use Rattle.bay_ber.specs.Sheets.{Sheet, sheet_with, close_sheet, IsEnd}
 use Rattle.bay_ber.specs.Writing.{element}
 use Rattle.bay_ber.proofs.SheetLemmas.{put-twice, long-value}

@@ -7,13 +7,12 @@ use Rattle.std.proofs.lemmas.List.Folds.{list_any-append}
 use Rattle.bay_base.specs.Exact.{Gives}
 use Rattle.bay_base.specs.Options.{◌>>=◌}
 use Rattle.bay_base.specs.Results.{◌>>=◌ as ◌>>◌}
-use Rattle.bay_ber.specs.Tags.{same_tag}
+use Rattle.bay_ber.specs.Tags.{same_tag, constructed}
 use Rattle.bay_ber.specs.Values.{Part, values_in, onto, all_of, each_in}
 use Rattle.bay_ber.proofs.ListingLemmas.{Passed, passed-more, bind-some}
 use Rattle.bay_mms.specs.Answers.{names_none}
 use Rattle.bay_mms.specs.Data as mms
 use Rattle.bay_mms.specs.Data.{Datum}
-use Rattle.bay_mms.specs.Tags.{constructed}
 use Rattle.bay_mms.specs.Views.{data_before, datum_of, data_in}
 use Rattle.bay_mms.specs.declared.data.Data as given
 use Rattle.bay_mms.specs.Spelled.{or_misspelled}

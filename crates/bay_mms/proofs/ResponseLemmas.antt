@@ -11,7 +11,7 @@ use Rattle.bay_ber.proofs.SheetLemmas.{no-room, room, put_nil, put-put, heads-pu
 use Rattle.bay_ber.proofs.SizeLemmas.{length-element-is, length-integer}
 use Rattle.bay_mms.specs.declared.fault.EncodeFault.{EncodeFault}
 use Rattle.bay_mms.specs.declared.fault.EncodeFault.TheVariants.{TooLong, OutOfMemory}
-use Rattle.bay_mms.specs.Tags.{context, constructed, int_tag, visible_tag}
+use Rattle.bay_ber.specs.Tags.{context, constructed, int_tag, visible_tag}
 use Rattle.bay_mms.specs.Responses.{names_text, page_text, read_text}
 use Rattle.bay_mms.specs.Writing.{Adds, Held, HoldsResults, octets_in}
 use Rattle.bay_ber.proofs.SheetLemmas.{content-less}

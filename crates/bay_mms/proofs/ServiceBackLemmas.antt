@@ -7,21 +7,19 @@ use Rattle.bay_ber.specs.declared.tag.Class.TheVariants.{ContextSpecific}
 use Rattle.bay_ber.specs.declared.tag.Tag.{Tag}
 use Rattle.bay_ber.specs.Content.{IsInteger, integer_in}
 use Rattle.bay_base.specs.Options.{◌>>=◌}
-use Rattle.bay_ber.specs.Tags.{same_class, same_tag}
-use Rattle.bay_ber.specs.Values.{Part, value, SpellAll, value_in, one_or_two_in, few_in, each_in, under}
+use Rattle.bay_ber.specs.Tags.{same_class, same_tag, context, constructed}
+use Rattle.bay_ber.specs.Values.{Part, value, SpellAll, value_in, one_or_two_in, few_in, each_in, under, field}
 use Rattle.bay_ber.proofs.ReadLemmas.{IsBytes}
-use Rattle.bay_ber.proofs.BackLemmas.{bind-some, AllBytes, class-is, under-is, under-bytes, under-one, integer-back, listed, one-back, two-back, few-back, each-back}
+use Rattle.bay_ber.proofs.BackLemmas.{bind-some, AllBytes, class-is, under-is, under-bytes, under-one, integer-back, listed, one-back, two-back, few-back, each-back, by-tag}
 use Rattle.bay_mms.specs.Data.{Datum}
-use Rattle.bay_mms.specs.Tags.{context, constructed}
 use Rattle.bay_base.specs.Results.{◌>>=◌ as ◌>>◌}
 use Rattle.bay_mms.specs.Spelled.{or_misspelled}
 use Rattle.bay_mms.specs.Requests.{Naming, Place, whole_vmd, in_domain, of_association, Access, variables, named_list, Asking, identify, names, attributes, read, write}
 use Rattle.bay_mms.specs.Grammar.{nothing, place_as, class_as, scope_as, names_of, listing_in, name_in, names_as, names_asked, attributes_as, read_as, read_of, datum_as, write_of, is_unlisted, other_as, service_as}
-use Rattle.bay_mms.specs.SpelledInitiate.{field}
 use Rattle.bay_mms.specs.SpelledServices.{IsPlace, IsListing, IsWish, IsReading, AreAsMany, IsWriting, IsNamed, IsService, IsUnlisted, IsUnserved, IsOverfull}
 use Rattle.bay_mms.specs.declared.fault.Refusal.{Refusal}
 use Rattle.bay_mms.specs.declared.fault.Refusal.TheVariants.{Bad, Unknown, Many, OutOfMemory}
-use Rattle.bay_mms.proofs.AccessLemmas.{IsFair, spelled-then, by-tag, spelled-under, name-back, access-back, Judged, judged-back}
+use Rattle.bay_mms.proofs.AccessLemmas.{IsFair, spelled-then, spelled-under, name-back, access-back, Judged, judged-back}
 use Rattle.bay_mms.proofs.ReceivedLemmas.{written-back}
 use Rattle.bay_mms.proofs.ServiceLemmas.{answered_read, answered_write}
 

@@ -5,20 +5,18 @@ use Rattle.std.proofs.lemmas.Bool.{eq-eqb, ne_eqb, false_from_ne_true}
 use Rattle.bay_ber.specs.declared.tag.Tag.{Tag}
 use Rattle.bay_ber.specs.Content.{IsInteger}
 use Rattle.bay_base.specs.Options.{◌>>=◌}
-use Rattle.bay_ber.specs.Tags.{same_tag}
-use Rattle.bay_ber.specs.Values.{Part, value, SpellAll, value_in, one_or_two_in}
+use Rattle.bay_ber.specs.Tags.{same_tag, context, constructed}
+use Rattle.bay_ber.specs.Values.{Part, value, SpellAll, value_in, one_or_two_in, field}
 use Rattle.bay_ber.proofs.ContentLemmas.{integer-again}
 use Rattle.bay_ber.proofs.ListingLemmas.{values-again}
 use Rattle.bay_ber.proofs.BackLemmas.{tag-is, one-read, two-read, few-read}
 use Rattle.bay_mms.specs.Data.{Datum}
-use Rattle.bay_mms.specs.Tags.{context, constructed}
 use Rattle.bay_base.specs.Results.{◌>>=◌ as ◌>>◌}
 use Rattle.bay_mms.specs.Spelled.{or_misspelled}
 use Rattle.bay_mms.specs.Requests.{Naming, Place, whole_vmd, in_domain, of_association, Access, variables, named_list, Asking, identify, names, attributes, read, write}
 use Rattle.bay_mms.specs.Grammar.{place_as, class_as, scope_as, listing_in, names_asked, attributes_as, read_as, read_of, write_of, is_unlisted, other_as, service_as}
 use Rattle.bay_mms.specs.SpelledNames.{IsAccess}
 use Rattle.bay_mms.specs.SpelledData.{AreWritten}
-use Rattle.bay_mms.specs.SpelledInitiate.{field}
 use Rattle.bay_mms.specs.SpelledServices.{IsPlace, IsListing, IsWish, IsReading, AreAsMany, IsWriting, IsNamed, IsService, IsUnlisted, IsUnserved, IsOverfull}
 use Rattle.bay_mms.specs.declared.fault.Refusal.{Refusal}
 use Rattle.bay_mms.specs.declared.fault.Refusal.TheVariants.{Unknown, Many}

@@ -1,8 +1,7 @@
 -- What is answered of octets that a client sent.
 use Rattle.std.specs.Prelude.{ℕ, IsTrue, Bool, true, false, not, ◌&&◌, ◌||◌, List, [], ◌∷◌, Option, Some, None, Result, Ok, Err, if◌then◌else◌}
-use Rattle.bay_ber.specs.Tags.{same_tag}
+use Rattle.bay_ber.specs.Tags.{same_tag, constructed}
 use Rattle.bay_ber.specs.Values.{Part, value, SpellAll, one_or_two_in}
-use Rattle.bay_mms.specs.Tags.{constructed}
 use Rattle.bay_mms.specs.Requests.{Naming, Asking, read, write}
 use Rattle.bay_mms.specs.SpelledServices.{IsService}
 use Rattle.bay_mms.specs.Grammar.{service_as}

@@ -4,9 +4,9 @@ use Rattle.std.specs.Prelude.{ℕ, pos, ◌<◌, ◌^◌, List, [], ◌∷◌, O
 use Rattle.bay_ber.specs.Content.{IsInteger}
 use Rattle.bay_ber.specs.Reading.{Begins}
 use Rattle.bay_ber.specs.Values.{Part, value, SpellAll}
-use Rattle.bay_mms.specs.Tags.{context, constructed, int_tag}
+use Rattle.bay_ber.specs.Tags.{context, constructed, int_tag}
 use Rattle.bay_mms.specs.Requests.{Message, initiate, conclude, confirmed}
-use Rattle.bay_mms.specs.SpelledInitiate.{IsInitiate}
+use Rattle.bay_assoc.specs.SpelledInitiate.{IsInitiate}
 use Rattle.bay_mms.specs.SpelledServices.{IsService, IsUnserved, IsOverfull}
 
 -- The octets are one value under A0, whose content is an invoke id of 32 bits and a service, and

@@ -6,7 +6,7 @@ use Rattle.bay_ber.specs.Spelling.{Spells}
 use Rattle.bay_ber.specs.Writing.{truth_octets, integer_octets, bit_octets, bit_string_octets}
 use Rattle.bay_mms.specs.declared.response.Response.{Response}
 use Rattle.bay_mms.specs.declared.response.Response.TheVariants as response
-use Rattle.bay_mms.specs.Tags.{context, constructed}
+use Rattle.bay_ber.specs.Tags.{context, constructed}
 use Rattle.bay_mms.specs.Data.{Datum, Data, structure, truth, bits, integer, unsigned, octets, text, utc, other, no_data, datum, data_text}
 
 -- the tag of data (ISO 9506-2, Data)

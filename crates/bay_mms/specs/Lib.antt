@@ -6,8 +6,8 @@
 -- id. `Grammar` is the function: it works on the values that bytes are (`Values` of bay_ber), part
 -- by part: a value's tag says what it is, and its content is read as values again. `Asks` is the
 -- relation: a request, a service that is not served, too many variables, the invoke id in front, or
--- none of these. Its parts are `SpelledNames`, `SpelledData`, `SpelledInitiate` and
--- `SpelledServices`; `Spelled` has their common words.
+-- none of these. Its parts are `SpelledNames`, `SpelledData` and `SpelledServices`, and the initiate is that
+-- of bay_assoc; `Spelled` has their common words.
 --
 -- `Answers` joins them: the request that some bytes ask, or their fault. Memory may run out only
 -- for a read or a write that names a variable or has data.
@@ -19,8 +19,8 @@
 --
 -- `Responses`: the one text of each response, error and reject. `Pages`: the greatest number of
 -- names, up to 100, whose response fits a PDU. `Reports`: LastApplError and CommandTermination.
--- `Writing`: what a call that writes answers. `Laws`: data whose text stands as it is. `Tags`:
--- tags. `Sizes`: how long PDUs are. `Code` numbers the faults; `Views`, `RequestViews` and
+-- `Writing`: what a call that writes answers. `Laws`: data whose text stands as it is. `Code`
+-- numbers the faults; `Views`, `RequestViews` and
 -- `ControlViews` map the code's values to plain data.
 
 -- What public clauses cite of the crates below.
@@ -46,13 +46,10 @@ pub mod Reports
 pub mod RequestViews
 pub mod Requests
 pub mod Responses
-pub mod Sizes
 pub mod Spelled
 pub mod SpelledData
-pub mod SpelledInitiate
 pub mod SpelledNames
 pub mod SpelledServices
-pub mod Tags
 pub mod Types
 pub mod Utc
 pub mod Views

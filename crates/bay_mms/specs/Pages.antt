@@ -4,7 +4,7 @@ use Rattle.bay_ber.specs.Writing.{element, element_length, integer_octets, truth
 use Rattle.bay_tree.specs.declared.row.Row.{Row}
 use Rattle.bay_tree.specs.Rows.{names_of}
 use Rattle.bay_mms.specs.Responses.{confirmed_response, names_text, page_text}
-use Rattle.bay_mms.specs.Tags.{constructed, context, visible_tag}
+use Rattle.bay_ber.specs.Tags.{constructed, context, visible_tag}
 
 -- the greatest number, up to a bound, that passes a test; 0 where none does
 unfoldable pub greatest : (ℕ → Bool) → ℕ → ℕ

@@ -8,7 +8,7 @@ use Rattle.bay_mms.specs.declared.report.LastApplError.{LastApplError}
 use Rattle.bay_mms.specs.Data.{Datum, Data, structure, integer, unsigned, text, no_data, datum, data_text}
 use Rattle.bay_mms.specs.Controls.{origin_datum, check_octet, operate_datum}
 use Rattle.bay_mms.specs.ControlViews.{originating, operating}
-use Rattle.bay_mms.specs.Tags.{context, constructed, sequence, visible_tag}
+use Rattle.bay_ber.specs.Tags.{context, constructed, sequence, visible_tag}
 
 -- a variable, by its name
 abbrev pub variable_text : List ℕ → List ℕ

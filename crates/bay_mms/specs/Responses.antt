@@ -6,14 +6,13 @@ use Rattle.bay_mms.specs.Code.{access_code_of}
 use Rattle.bay_mms.specs.declared.fault.DataAccessError.{DataAccessError}
 use Rattle.bay_mms.specs.declared.response.Response.{Response}
 use Rattle.bay_mms.specs.declared.response.Response.TheVariants as response
-use Rattle.bay_mms.specs.declared.response.Agreed.{Agreed}
 use Rattle.bay_mms.specs.declared.response.Service.{Service}
 use Rattle.bay_mms.specs.declared.response.Service.TheVariants as service
 use Rattle.bay_mms.specs.declared.response.ErrorClass.{ErrorClass}
 use Rattle.bay_mms.specs.declared.response.ErrorClass.TheVariants as error
 use Rattle.bay_mms.specs.declared.response.RejectReason.{RejectReason}
 use Rattle.bay_mms.specs.declared.response.RejectReason.TheVariants as reject
-use Rattle.bay_mms.specs.Tags.{context, constructed, int_tag, visible_tag}
+use Rattle.bay_ber.specs.Tags.{context, constructed, int_tag, visible_tag}
 use Rattle.bay_mms.specs.Types.{type_text}
 use Rattle.bay_mms.specs.Nodes.{type_at}
 
@@ -118,41 +117,7 @@ content_text (service.Attributes tree handle) =
 abbrev pub service_text : Service → List ℕ
 service_text s = element (constructed (service_number s)) (content_text s)
 
--- ---- an initiate's answer
-
--- how deep data nest, where that was proposed
-abbrev pub nesting_text : Option ℤ → List ℕ
-nesting_text None = []
-nesting_text (Some nesting) = element (context 3) (integer_octets nesting)
-
--- the size of a PDU, the outstanding requests of both sides, and the nesting
-abbrev pub limits_text : Agreed → List ℕ
-limits_text a =
-    element (context 0) (integer_octets (pos a.size))
-    ++ (element (context 1) (integer_octets (pos a.calling))
-    ++ (element (context 2) (integer_octets (pos a.called)) ++ nesting_text a.nesting))
-
--- the first three parameter conformance blocks, of eleven
-abbrev pub parameters_text : ℕ → List ℕ
-parameters_text parameters =
-    element (context 1) (bit_string_octets (parameters / 32 * 32 ∷ 0 ∷ []) 11)
-
--- of 85 services those that are offered: getNameList, identify, read, write,
--- getVariableAccessAttributes, informationReport and conclude (ISO 9506-2, ServiceSupportOptions)
-abbrev pub services_text : List ℕ
-services_text =
-    element (context 2) (bit_string_octets (0x6E ∷ 0 ∷ 0 ∷ 0 ∷ 0 ∷ 0 ∷ 0 ∷ 0 ∷ 0 ∷ 0x01 ∷ 0x10 ∷ [])
-    85)
-
--- the version 1, the parameters and the services
-abbrev pub detail_text : ℕ → List ℕ
-detail_text parameters =
-    element (context 0) (integer_octets (pos 1)) ++ (parameters_text parameters ++ services_text)
-
--- the answer to an initiate
-abbrev pub agreed_text : Agreed → List ℕ
-agreed_text a =
-    element (constructed 9) (limits_text a ++ element (constructed 4) (detail_text a.parameters))
+-- ---- a response
 
 -- the response
 abbrev pub response_text : Response → List ℕ

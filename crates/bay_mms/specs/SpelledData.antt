@@ -3,9 +3,8 @@
 use Rattle.std.specs.Prelude.{ℕ, suc, ◌≡◌, ◌≤◌, ◌⊎◌, false, max, List, [], ◌∷◌, length}
 use Rattle.bay_ber.specs.declared.tag.Tag.{Tag}
 use Rattle.bay_ber.specs.Content.{IsInteger, IsBits, IsTruth}
-use Rattle.bay_ber.specs.Values.{Part, value, SpellAll, is_known}
-use Rattle.bay_mms.specs.Spelled.{AreEach}
-use Rattle.bay_mms.specs.Tags.{context, constructed}
+use Rattle.bay_ber.specs.Values.{Part, value, SpellAll, is_known, AreEach}
+use Rattle.bay_ber.specs.Tags.{context, constructed}
 use Rattle.bay_mms.specs.Data.{Datum, Data, structure, truth, bits, integer, unsigned, octets, text, utc, other, no_data, datum}
 
 -- the tags of the kinds that are listed

@@ -2,9 +2,8 @@
 -- VariableAccessSpecification), by the relation of bay_ber: octets spell exactly these values.
 use Rattle.std.specs.Prelude.{ℕ, ◌≡◌, ◌<◌, ◌≤◌, Bool, true, false, List, [], ◌∷◌, length, map}
 use Rattle.std.specs.List.{list_any}
-use Rattle.bay_ber.specs.Values.{Part, value, SpellAll}
-use Rattle.bay_mms.specs.Spelled.{AreEach}
-use Rattle.bay_mms.specs.Tags.{context, constructed, sequence, visible_tag}
+use Rattle.bay_ber.specs.Values.{Part, value, SpellAll, AreEach}
+use Rattle.bay_ber.specs.Tags.{context, constructed, sequence, visible_tag}
 use Rattle.bay_mms.specs.Requests.{Naming, vmd, domain, association, VariableSpecification, Access, variables, named_list}
 
 -- The octets are a name: of the device's own, a domain and an item of it, or a name of the

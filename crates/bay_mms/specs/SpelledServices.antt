@@ -4,13 +4,12 @@ use Rattle.std.specs.Prelude.{ℕ, ℤ, ◌≡◌, ◌⊎◌, List, [], ◌∷�
 use Rattle.bay_ber.specs.declared.tag.Class.TheVariants.{ContextSpecific}
 use Rattle.bay_ber.specs.declared.tag.Tag.{Tag}
 use Rattle.bay_ber.specs.Content.{IsInteger}
-use Rattle.bay_ber.specs.Values.{Part, value, SpellAll}
+use Rattle.bay_ber.specs.Values.{Part, value, SpellAll, field}
 use Rattle.bay_mms.specs.Data.{Datum}
-use Rattle.bay_mms.specs.Tags.{context, constructed}
+use Rattle.bay_ber.specs.Tags.{context, constructed}
 use Rattle.bay_mms.specs.Requests.{Naming, Place, whole_vmd, in_domain, of_association, Access, variables, named_list, Asking, identify, names, attributes, read, write}
 use Rattle.bay_mms.specs.SpelledNames.{IsName, IsAccess, AreServed, AreUnserved, AreMany}
 use Rattle.bay_mms.specs.SpelledData.{AreWritten}
-use Rattle.bay_mms.specs.SpelledInitiate.{field}
 
 -- The octets are where names are asked for.
 abbrev pub IsPlace : List ℕ → Place → Type 0

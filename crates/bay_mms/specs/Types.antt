@@ -3,7 +3,7 @@ use Rattle.std.specs.Prelude.{ℕ, ℤ, pos, negsuc, List, [], ◌++◌}
 use Rattle.bay_tree.specs.declared.leaf.Leaf.{Leaf}
 use Rattle.bay_tree.specs.declared.leaf.Leaf.TheVariants as leaf
 use Rattle.bay_ber.specs.Writing.{element, integer_octets}
-use Rattle.bay_mms.specs.Tags.{context, constructed, sequence}
+use Rattle.bay_ber.specs.Tags.{context, constructed, sequence}
 
 mutual
   pub data TypeSpec : Type 0 where

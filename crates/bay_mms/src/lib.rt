@@ -6,14 +6,13 @@
 // `control`: what data ask of a control. `response`: responses and their texts, and `results` those
 // to reads and writes. `report`: the reports of controls. `names`: the texts of a tree's names.
 // `page`: pages of them. `fault`: why nothing is read or written. `laws`: what is written is read
-// back. Within the crate `service`, `access`, `received` and `initiate` read the parts of requests.
+// back. Within the crate `service`, `access` and `received` read the parts of requests.
 #![tactic(auto)]
 
 mod access;
 pub mod control;
 pub mod data;
 pub mod fault;
-mod initiate;
 pub mod laws;
 mod leaf;
 pub mod names;

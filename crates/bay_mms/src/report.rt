@@ -3,7 +3,7 @@ ghost use Rattle.std.specs.Prelude.{◌≡◌, ◌++◌, codes};
 ghost use Rattle.bay_ber.specs.Sheets.{sheet_with};
 ghost use Rattle.bay_ber.specs.Writing.{element};
 ghost use Rattle.bay_mms.specs.Controls as spec;
-ghost use Rattle.bay_mms.specs.Tags.{constructed};
+ghost use Rattle.bay_ber.specs.Tags.{constructed};
 ghost use Rattle.bay_mms.specs.Reports.{variable_text, origin_text, operate_front, operate_back, operate_text, failure_front, failure_back, failure_data, failure_name, item_name, failure_text, termination_text, failed_text};
 ghost use Rattle.bay_mms.specs.Writing.{text_within};
 ghost use Rattle.bay_base.specs.Exact.{Gives};

@@ -5,14 +5,14 @@ ghost use Rattle.bay_ber.specs.Reading.{tlv_at};
 ghost use Rattle.bay_ber.specs.Values.{part_of, value_in};
 ghost use Rattle.bay_mms.specs.Answers.{IsAnswer, takes_list, lists_of, lists_as, lists_at};
 ghost use Rattle.bay_mms.specs.Requests as asked;
-ghost use Rattle.bay_mms.specs.Grammar.{or_bad, initiate_in, nothing};
+ghost use Rattle.bay_mms.specs.Grammar.{or_bad, nothing};
 ghost use Rattle.bay_mms.specs.Grammar as spec;
 ghost use Rattle.bay_mms.specs.RequestViews.{asking, message};
 
 use crate::data::Data;
 use crate::fault::{MmsFault, Refusal};
-use crate::initiate::initiate_of;
 use crate::service::service_as;
+use bay_assoc::initiate::{Proposal, proposal_in};
 use bay_ber::content::int_of;
 use bay_ber::tag::Tag;
 use bay_ber::tlv::read_tlv;
@@ -36,21 +36,6 @@ pub enum Scope<'a> {
     Vmd,
     Domain(&'a [u8]),
     Association,
-}
-
-/// The proposal for an association (ISO 9506-2, InitiateRequestPDU).
-#[derive(Clone, Copy, Debug)]
-pub struct Proposal {
-    /// The size of the largest PDU in octets.
-    pub size: Option<i64>,
-    /// The most outstanding requests of the calling side, 1 or more.
-    pub calling: i64,
-    /// The most outstanding requests of the called side, 1 or more.
-    pub called: i64,
-    /// The deepest nesting of data.
-    pub nesting: Option<i64>,
-    /// The first three parameter conformance blocks, in the three highest bits; the others are 0.
-    pub parameters: u8,
 }
 
 /// A request for a confirmed service.
@@ -176,24 +161,6 @@ fn confirmed_of<'a>(
     let service = service.ok_or_else(|| bad_pdu(octets))?;
     let id = id_as(id).ok_or_else(|| bad_pdu(octets))?;
     with_id(alloc, octets, id, &service)
-}
-
-// What the content of an initiate proposes.
-fn proposal_in(content: &[u8]) -> Option<Proposal>
-    ensures { result ≡ spec.proposal_in content.now }
-{
-    let parts = few_values(content)?;
-    initiate_of(parts.as_slice())
-}
-
-/// Reads octets as an initiate and returns its proposal (ISO 9506-2, InitiateRequestPDU). `None` if
-/// they are no initiate. Does not allocate.
-#[tactic(auto, unfolding(crate::specs::Grammar::initiate_in))]
-pub fn read_initiate(octets: &[u8]) -> Option<Proposal>
-    ensures { result ≡ initiate_in octets.now }
-{
-    let value = whole_value(octets)?;
-    proposal_in(value.under(Tag::context_constructed(8))?)
 }
 
 // A conclude, which has no content.

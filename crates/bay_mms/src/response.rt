@@ -4,17 +4,16 @@ ghost use Rattle.bay_base.specs.Exact.{Gives};
 ghost use Rattle.bay_ber.specs.Sheets.{sheet_with};
 ghost use Rattle.bay_ber.specs.Writing.{element, integer_octets, truth_octets};
 ghost use Rattle.bay_tree.specs.Rows.{IsHandle};
-ghost use Rattle.bay_mms.specs.Tags.{context, constructed, int_tag};
+ghost use Rattle.bay_ber.specs.Tags.{context, constructed, int_tag};
 ghost use Rattle.bay_mms.specs.Types.{type_text};
 ghost use Rattle.bay_mms.specs.Nodes.{type_at};
-ghost use Rattle.bay_mms.specs.Responses.{nesting_text, parameters_text, services_text, limits_text, detail_text, agreed_text, confirmed_response, error_text, identity_text, names_text, listing_text, class_text, id_text, reason_text, reject_text, concluded_text, service_text, response_text, IsOfTree, IsAnswerable};
-ghost use Rattle.bay_mms.specs.Sizes.{IsPduSize};
-ghost use Rattle.bay_mms.specs.Sizes as spec;
+ghost use Rattle.bay_mms.specs.Responses.{confirmed_response, error_text, identity_text, names_text, listing_text, class_text, id_text, reason_text, reject_text, concluded_text, service_text, response_text, IsOfTree, IsAnswerable};
 ghost use Rattle.bay_mms.specs.Writing.{text_within};
 
 use crate::fault::EncodeFault;
 use crate::put::finish;
 use crate::value::put_type;
+use bay_assoc::initiate::{Agreed, put_agreed};
 use bay_base::text::Text;
 use bay_ber::outgoing::Outgoing;
 use bay_ber::tag::Tag;
@@ -59,35 +58,6 @@ pub enum Service<'a> {
         tree: &'a Tree,
         handle: Handle,
     },
-}
-
-// The octets of the longest PDU.
-const LONGEST_PDU: i64 = 65_000;
-
-/// Returns the size of the largest PDU in octets that is agreed where this one is proposed, or none
-/// is: at most 65,000. `None` below 256.
-pub fn agreed_size(proposed: Option<i64>) -> Option<u32>
-    ensures size { result ≡ spec.agreed_size proposed }
-    ensures sized { IfSome result IsPduSize }
-{
-    let size = proposed.unwrap_or(LONGEST_PDU).min(LONGEST_PDU);
-    if size < 256 { None } else { Some(size as u32) }
-}
-
-/// What is agreed for an association (ISO 9506-2, InitiateResponsePDU), in version 1 of the
-/// protocol.
-#[derive(Clone, Copy)]
-pub struct Agreed {
-    /// The size of the largest PDU in octets.
-    pub size: u32,
-    /// The most outstanding requests of the calling side; `called` is that of the called side.
-    pub calling: u32,
-    pub called: u32,
-    /// The deepest nesting of data, if it was proposed.
-    pub nesting: Option<i64>,
-    /// The first three parameter conformance blocks, in the three highest bits. The other bits are
-    /// ignored.
-    pub parameters: u8,
 }
 
 /// A response to a client.
@@ -274,66 +244,6 @@ fn put_concluded(writer: &mut Writer)
     writer.append(&[0x8C, 0]);
 }
 
-// Writes the agreed nesting, if one was proposed.
-#[tactic(auto, using(bay_ber::proofs::SheetLemmas::put_nil))]
-fn put_nesting(writer: &mut Writer, nesting: Option<i64>)
-    ensures { writer.new ≡ sheet_with writer.old (nesting_text nesting) }
-{
-    if let Some(nesting) = nesting {
-        writer.int(Tag::context(3), nesting);
-    }
-}
-
-// Writes the first parameter conformance blocks, of eleven.
-#[tactic(auto, unfolding(bay_ber::specs::Writing::element, bay_ber::specs::Writing::length_octets))]
-fn put_parameters(writer: &mut Writer, parameters: u8)
-    ensures { writer.new ≡ sheet_with writer.old (parameters_text parameters) }
-{
-    writer.append(&[0x81, 3, 5, parameters / 32 * 32, 0]);
-}
-
-// Writes the services that are offered.
-#[tactic(auto, unfolding(bay_ber::specs::Writing::element, bay_ber::specs::Writing::length_octets))]
-fn put_services(writer: &mut Writer)
-    ensures { writer.new ≡ sheet_with writer.old services_text }
-{
-    writer.append(&[0x82, 12, 3, 0x6E, 0, 0, 0, 0, 0, 0, 0, 0, 0x01, 0x10]);
-}
-
-// Writes the agreed size, how many requests are outstanding either way, and the nesting.
-#[tactic(auto, using(bay_ber::proofs::SheetLemmas::sheet_rules))]
-fn put_limits(writer: &mut Writer, agreed: Agreed)
-    ensures { writer.new ≡ sheet_with writer.old (limits_text agreed) }
-{
-    put_number(writer, 0, agreed.size);
-    put_number(writer, 1, agreed.calling);
-    put_number(writer, 2, agreed.called);
-    put_nesting(writer, agreed.nesting);
-}
-
-// The version, the parameters and the services (ISO 9506-2, InitResponseDetail).
-#[tactic(auto, using(bay_ber::proofs::SheetLemmas::sheet_rules))]
-fn put_detail(writer: &mut Writer, parameters: u8)
-    ensures { writer.new ≡ sheet_with writer.old (detail_text parameters) }
-{
-    put_number(writer, 0, 1);
-    put_parameters(writer, parameters);
-    put_services(writer);
-}
-
-// Writes the PDU of an initiate's response.
-#[tactic(auto, using(bay_ber::proofs::SheetLemmas::sheet_rules))]
-fn put_agreed(writer: &mut Writer, agreed: Agreed)
-    ensures { writer.new ≡ sheet_with writer.old (agreed_text agreed) }
-{
-    let start = writer.open(Tag::context_constructed(9));
-    put_limits(writer, agreed);
-    let inner = writer.open(Tag::context_constructed(4));
-    put_detail(writer, agreed.parameters);
-    writer.close(inner);
-    writer.close(start);
-}
-
 // Writes a response.
 fn put_response(writer: &mut Writer, response: &Response<'_>)
     requires { IsAnswerable response.now }
@@ -363,18 +273,6 @@ pub fn write_response(
     let mut writer = Writer::new(alloc, size)?;
     put_response(&mut writer, response);
     finish(writer)
-}
-
-/// Writes the answer to an initiate (ISO 9506-2, InitiateResponsePDU) in its one canonical
-/// spelling, at most 200 octets.
-#[tactic(auto, using(bay_ber::proofs::SheetLemmas::message_put, crate::proofs::AgreedLemmas::agreed_short, crate::proofs::AgreedLemmas::agreed_within))]
-pub fn write_agreed(alloc: Global, agreed: Agreed) -> Result<Outgoing, AllocError>
-    ensures text { IfOk result (λ octets. octets ≡ agreed_text agreed) }
-    ensures few { IfOk result (λ octets. length octets ≤ 200) }
-{
-    let mut writer = Writer::new(alloc, 200)?;
-    put_agreed(&mut writer, agreed);
-    Ok(writer.finish_held())
 }
 
 /// Writes a confirmed error with an invoke id (ISO 9506-2, Confirmed-ErrorPDU), at most 60 octets.

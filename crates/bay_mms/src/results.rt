@@ -6,7 +6,7 @@ ghost use Rattle.bay_base.specs.Exact.{Gives};
 ghost use Rattle.bay_tree.specs.Rows.{IsHandle};
 ghost use Rattle.bay_ber.specs.Sheets.{sheet_with};
 ghost use Rattle.bay_ber.specs.Writing.{element, integer_octets};
-ghost use Rattle.bay_mms.specs.Tags.{constructed, int_tag};
+ghost use Rattle.bay_ber.specs.Tags.{constructed, int_tag};
 ghost use Rattle.bay_mms.specs.Data.{datum_text};
 ghost use Rattle.bay_mms.specs.Nodes.{data_at};
 ghost use Rattle.bay_mms.specs.Responses.{text_result, failure_result, success_result, result_text, read_text, write_text};

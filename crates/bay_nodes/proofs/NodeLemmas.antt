@@ -1,5 +1,5 @@
 -- The rows of the nodes, as they are appended.
-use Rattle.std.proofs.Common.{◌≡◌, ℕ, arith, ◌+◌, ◌<◌, Bool, true, false, cond, List, [], ◌∷◌, ◌++◌, length, map, filter, get_or, drop, codes, None, Some, append_assoc, append-nil, pos, refl, sym, ap, ◌∙◌}
+use Rattle.std.proofs.Common.{◌≡◌, ℕ, suc, arith, ◌+◌, ◌-◌, ◌<◌, Bool, true, false, cond, List, [], ◌∷◌, ◌++◌, length, map, filter, get_or, drop, codes, None, Some, append_assoc, append-nil, pos, refl, sym, ap, ◌∙◌}
 use Rattle.std.specs.Borrow.{Bor}
 use Rattle.std.proofs.lemmas.List.{drop_more, map-append}
 use Rattle.std.specs.List.{flat_map, enumerate_from}
@@ -10,8 +10,8 @@ use Rattle.bay_nodes.specs.declared.switch.Switch.{Switch}
 use Rattle.bay_nodes.specs.declared.switch.SwitchKind.{SwitchKind}
 use Rattle.bay_nodes.specs.declared.nameplate.Nameplate.{Nameplate}
 use Rattle.bay_nodes.specs.declared.tables.InitialValue.{InitialValue}
-use Rattle.bay_nodes.specs.Node.{NodePart, Parts, Node, row, rows_of, rows_of_parts, parts_of, inside, value, commands, model_of, node_rows, device_node, device_parts, physical_node, physical_parts, position_node, position_parts, control_parts, is_of}
-use Rattle.bay_nodes.specs.NodeRows.{line_row, under, table_rows, status_group, type_rows, position_model, command_rows, control_group, control_model}
+use Rattle.bay_nodes.specs.Node.{NodePart, Parts, Node, row, rows_of, rows_of_parts, parts_of, inside, value, commands, model_of, node_name, node_rows, device_node, device_parts, physical_node, physical_parts, position_node, position_parts, control_parts, is_of}
+use Rattle.bay_nodes.specs.NodeRows.{line_row, under, table_rows, tabled_nodes, status_group, type_rows, position_model, command_rows, control_group, control_model}
 
 -- a node's own row, and the rows of its table
 pub node-appended : (n : Nameplate) (node : List ℕ) (table : List (Bor (List ℕ) × InitialValue))
@@ -156,20 +156,29 @@ numbered-turn make ts i t done h at =
     ∙ sym (append_assoc done (node_rows (make (i + 1, t)))
     (numbered_from make (i + 1 + 1) (drop (i + 1) ts)))
 
-first-of-drop : {T : Type 0} (ts : List T) (i : ℕ) → i < length ts
-    → (t : T) × (drop i ts ≡ t ∷ drop (i + 1) ts)
-first-of-drop [] i h = absurd (omega arith)
-first-of-drop (t ∷ ts) i h = (get_or (t ∷ ts) i t, drop_more (t ∷ ts) i t h)
+-- one turn of nodes of a table
+pub tabled-turn : (p : Nameplate) (class : List ℕ) (table : List (Bor (List ℕ) × InitialValue))
+    (i count : ℕ) (done : List Row) → i < count
+    → done ++ tabled_nodes p class table (i + 1) (count - i)
+    ≡ (done ++ row (node_name class (i + 1)) None ∷ table_rows p (node_name class (i + 1)) table)
+    ++ tabled_nodes p class table (i + 1 + 1) (count - (i + 1))
+tabled-turn p class table i count done h =
+    let e : count - i ≡ suc (count - (i + 1)) = omega (arith, h) in
+    ap (λ k. done ++ tabled_nodes p class table (i + 1) k) e
+    ∙ sym (append_assoc done
+    (row (node_name class (i + 1)) None ∷ table_rows p (node_name class (i + 1)) table)
+    (tabled_nodes p class table (i + 1 + 1) (count - (i + 1))))
 
--- one turn of nodes that are the same but for their numbers
-pub alike-turn : {T : Type 0} (make : ℕ × T → Node) (node : ℕ → Node) (ts : List T) (i : ℕ)
-    (done : List Row) → i < length ts → ((t : T) → make (i + 1, t) ≡ node (i + 1))
-    → done ++ numbered_from make (i + 1) (drop i ts)
-    ≡ (done ++ node_rows (node (i + 1))) ++ numbered_from make (i + 1 + 1) (drop (i + 1) ts)
-alike-turn make node ts i done h alike =
-    let t = first-of-drop ts i h in
-    ap (λ us. done ++ numbered_from make (i + 1) us) t.1
-    ∙ sym (append_assoc done (node_rows (make (i + 1, t.0)))
-    (numbered_from make (i + 1 + 1) (drop (i + 1) ts)))
-    ∙ ap (λ m. (done ++ node_rows m) ++ numbered_from make (i + 1 + 1) (drop (i + 1) ts))
-    (alike t.0)
+-- nodes that are the same but for their numbers, of which a table has the rows
+pub tabled-are : {T : Type 0} (make : ℕ × T → Node) (p : Nameplate) (class : List ℕ)
+    (table : List (Bor (List ℕ) × InitialValue)) (parts : Parts)
+    → map (line_row p) table ≡ rows_of_parts [] parts
+    → ((n : ℕ) (t : T) → make (n, t) ≡ record { name = node_name class n; parts = parts })
+    → (n : ℕ) (ts : List T)
+    → tabled_nodes p class table n (length ts) ≡ numbered_from make n ts
+tabled-are make p class table parts same alike n [] = refl
+tabled-are make p class table parts same alike n (t ∷ ts) =
+    ap (λ rs. rs ++ tabled_nodes p class table (n + 1) (length ts))
+    (node-appended p (node_name class n) table parts same ∙ ap node_rows (sym (alike n t)))
+    ∙ ap (λ rs. node_rows (make (n, t)) ++ rs)
+    (tabled-are make p class table parts same alike (n + 1) ts)

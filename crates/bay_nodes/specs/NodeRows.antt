@@ -1,6 +1,6 @@
 -- The rows of nodes as tables hold them: what the lines of a table begin with, and the rows of the
 -- groups that are appended one after the other.
-use Rattle.std.specs.Prelude.{ℕ, pos, false, List, [], ◌∷◌, ◌++◌, map, codes, Option, None, Some}
+use Rattle.std.specs.Prelude.{ℕ, zero, suc, ◌+◌, pos, false, List, [], ◌∷◌, ◌++◌, map, codes, Option, None, Some}
 use Rattle.std.specs.Borrow.{Bor}
 use Rattle.bay_tree.specs.declared.row.Row.{Row}
 use Rattle.bay_tree.specs.declared.leaf.Leaf.{Leaf}
@@ -12,7 +12,7 @@ use Rattle.bay_nodes.specs.declared.switch.SwitchKind.{SwitchKind}
 use Rattle.bay_nodes.specs.declared.nameplate.Nameplate.{Nameplate}
 use Rattle.bay_nodes.specs.declared.tables.InitialValue.{InitialValue}
 use Rattle.bay_nodes.specs.declared.tables.InitialValue.TheVariants.{Structure, False, Intermediate, Good, Invalid, Int8, Int32, Unsigned8, Octets, Reference, Moment, Vendor, Model, Revision}
-use Rattle.bay_nodes.specs.Node.{row, rows_of, rows_of_parts, parts_of, inside, status, status_only, stamp, value, switch_type, commands, model_of}
+use Rattle.bay_nodes.specs.Node.{node_name, row, rows_of, rows_of_parts, parts_of, inside, status, status_only, stamp, value, switch_type, commands, model_of}
 
 -- the value that a row begins with, where the nameplate says this
 abbrev pub leaf_from : Nameplate → InitialValue → Option Leaf
@@ -42,6 +42,13 @@ under node r = row (node ++ r.name) r.leaf
 -- the rows of a node that a table holds
 abbrev pub table_rows : Nameplate → List ℕ → List (Bor (List ℕ) × InitialValue) → List Row
 table_rows n node table = map (under node) (map (line_row n) table)
+
+-- the rows of so many nodes of a class, with the rows of a table, numbered from n
+abbrev pub tabled_nodes : Nameplate → List ℕ → List (Bor (List ℕ) × InitialValue) → ℕ → ℕ → List Row
+tabled_nodes p class table n zero = []
+tabled_nodes p class table n (suc k) =
+    (row (node_name class n) None ∷ table_rows p (node_name class n) table)
+    ++ tabled_nodes p class table (n + 1) k
 
 -- the groups of XCBR and XSWI
 abbrev pub status_group : List Row

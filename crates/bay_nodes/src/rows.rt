@@ -2,9 +2,9 @@
 ghost use Rattle.std.specs.Prelude.{◌≡◌, ◌<◌, ◌^◌, length, ◌++◌, ◌∷◌, [], codes, map, None, IfOk};
 ghost use Rattle.std.specs.List.{flat_map};
 ghost use Rattle.bay_tree.specs.Rows.{IsTree};
-ghost use Rattle.bay_nodes.specs.Node.{row, node_rows, operation, cancelling, position_parts, control_parts, interlocking_parts, meter_parts, class_of, device_node, physical_node, position_node, position_nodes, control_node, control_nodes, interlocking_nodes, meter_nodes, rows_of_all};
+ghost use Rattle.bay_nodes.specs.Node.{row, node_rows, operation, cancelling, position_parts, control_parts, class_of, device_node, physical_node, position_node, position_nodes, control_node, control_nodes, rows_of_all};
 ghost use Rattle.bay_nodes.specs.Node as spec;
-ghost use Rattle.bay_nodes.specs.NodeRows.{line_row, under, table_rows, group_row, command_rows};
+ghost use Rattle.bay_nodes.specs.NodeRows.{line_row, under, table_rows, tabled_nodes, group_row, command_rows};
 ghost use Rattle.bay_nodes.specs.NodeRows as spec_node_rows;
 
 use crate::nameplate::Nameplate;
@@ -245,41 +245,22 @@ fn push_control(
     Ok(())
 }
 
-// Adds the node of the interlocking with this number (IEC 61850-7-4, CILO).
-fn push_interlocking(
+// Adds so many nodes of a class, with the rows of a table, numbered from 1.
+fn push_nodes(
     alloc: Global,
     rows: &mut Vec<Row>,
     nameplate: &Nameplate,
-    number: usize,
+    class: &str,
+    table: &[(&str, InitialValue)],
+    count: usize,
 ) -> Result<(), AllocError>
     ensures { IfOk result (λ _. rows.new.items
-        ≡ rows.old.items ++ node_rows
-        (record { name = spec.node_name (codes "CILO") number; parts = interlocking_parts })) }
+        ≡ rows.old.items ++ tabled_nodes nameplate.now class.now table.now 1 count) }
 {
-    let node = node_name(alloc, INTERLOCKING, number)?;
-    push_node(
-        alloc,
-        rows,
-        nameplate,
-        node.as_str(),
-        tables::interlocking_table(),
-    )?;
-    Ok(())
-}
-
-// Adds the node of the meter with this number (IEC 61850-7-4, MMXU).
-fn push_meter(
-    alloc: Global,
-    rows: &mut Vec<Row>,
-    nameplate: &Nameplate,
-    number: usize,
-) -> Result<(), AllocError>
-    ensures { IfOk result (λ _. rows.new.items
-        ≡ rows.old.items ++ node_rows
-        (record { name = spec.node_name (codes "MMXU") number; parts = meter_parts })) }
-{
-    let node = node_name(alloc, METER, number)?;
-    push_node(alloc, rows, nameplate, node.as_str(), tables::meter_table())?;
+    for i in 0..count {
+        let node = node_name(alloc, class, i + 1)?;
+        push_node(alloc, rows, nameplate, node.as_str(), table)?;
+    }
     Ok(())
 }
 
@@ -320,38 +301,6 @@ fn push_controls(
     Ok(())
 }
 
-// Adds the nodes of the interlocking of the switches, numbered from 1.
-fn push_interlockings(
-    alloc: Global,
-    rows: &mut Vec<Row>,
-    nameplate: &Nameplate,
-    switches: &[Switch],
-) -> Result<(), AllocError>
-    ensures { IfOk result (λ _. rows.new.items
-        ≡ rows.old.items ++ flat_map node_rows (interlocking_nodes switches.now)) }
-{
-    for i in 0..switches.len() {
-        push_interlocking(alloc, rows, nameplate, i + 1)?;
-    }
-    Ok(())
-}
-
-// Adds the nodes of the meters, numbered from 1.
-fn push_meters(
-    alloc: Global,
-    rows: &mut Vec<Row>,
-    nameplate: &Nameplate,
-    meters: &[Text],
-) -> Result<(), AllocError>
-    ensures { IfOk result (λ _. rows.new.items
-        ≡ rows.old.items ++ flat_map node_rows (meter_nodes meters.now)) }
-{
-    for i in 0..meters.len() {
-        push_meter(alloc, rows, nameplate, i + 1)?;
-    }
-    Ok(())
-}
-
 /// Returns the rows of a bay's nodes with their initial values: those of the device, the breakers,
 /// the other switches, the controls, the interlocking, and the meters.
 pub fn rows_of(
@@ -370,7 +319,16 @@ pub fn rows_of(
     push_positions(alloc, &mut rows, nameplate, switches, true)?;
     push_positions(alloc, &mut rows, nameplate, switches, false)?;
     push_controls(alloc, &mut rows, nameplate, switches)?;
-    push_interlockings(alloc, &mut rows, nameplate, switches)?;
-    push_meters(alloc, &mut rows, nameplate, meters)?;
+    let interlocking = tables::interlocking_table();
+    push_nodes(
+        alloc,
+        &mut rows,
+        nameplate,
+        INTERLOCKING,
+        interlocking,
+        switches.len(),
+    )?;
+    let meter = tables::meter_table();
+    push_nodes(alloc, &mut rows, nameplate, METER, meter, meters.len())?;
     Ok(Listing::new(rows))
 }

@@ -4,7 +4,7 @@ use Rattle.std.proofs.lemmas.List.Elements.{All-nil}
 use Rattle.bay_device.specs.Commands.{CommandedAt}
 use Rattle.bay_device.specs.Device.{State, bay_of}
 use Rattle.bay_device.specs.Entries.{IsIdle}
-use Rattle.bay_device.specs.Fresh.{Past}
+use Rattle.bay_device.specs.Fresh.{Came, Past}
 use Rattle.bay_device.specs.Load.{IsCompiled, IsLoaded}
 use Rattle.bay_device.specs.Meaning.{HaltsAt, MeansAt, Runs}
 use Rattle.bay_device.specs.Steps.{Steps}
@@ -20,37 +20,36 @@ use Rattle.bay_report.specs.TextLines.{lines_of}
 use Rattle.bay_replay.specs.Replay.{DeviceReport, LoadReport, LoadsReport}
 use Rattle.bay_replay.specs.Scenario.{ScenarioParts}
 use Rattle.bay_replay.specs.History.{EachPast, answers_of, device_after, events_of}
-use Rattle.bay_replay.specs.Runs.{IsBlank, IsGuarded, IsOfRun, IsRun}
+use Rattle.bay_replay.specs.Runs.{IsBlank, IsOfRun, IsOneRun, IsRun}
 use Rattle.bay_replay.proofs.BudgetLemmas.{step-halts}
 use Rattle.bay_replay.proofs.HistoryLemmas.{past-came, past-does, past-fresh, past-so, past-tells}
 use Rattle.bay_replay.proofs.LoadedLemmas.{loaded-from, loaded-runs}
 use Rattle.bay_replay.proofs.TraceLemmas.{goes}
 
+-- what has happened to a device since load is one run of it
+pub one-run : (first : State) (past : List Past) → Came [] first → IsIdle first
+    → EachPast Steps first past → IsOneRun first past (device_after first past)
+one-run first past begin idle steps =
+    let tells =
+    past-tells first past (ap (λ talks. length talks) idle.closed) (idle-talks first idle) steps
+    in
+    record {
+      came = past-came begin.0 begin.1 first past begin.2 steps;
+      commanded = past-so CommandedAt step-commanded first past steps;
+      fresh = past-fresh begin.0 begin.1 first past begin.2 steps;
+      operated = tells.operates;
+      backed =
+          tells-backed (bay_of first) (events_of past) first (answers_of past)
+          (device_after first past) idle.unselected tells;
+      halts = λ c runs. (past-does HaltsAt (Runs c) (step-halts c) first past runs steps).0;
+      means = λ c runs. (past-does (MeansAt c) (Runs c) (means-step c) first past runs steps).0;
+    }
+
 module _ (bay logic : List ℕ) (first : State)
     (loaded : IsLoaded (file_of bay) (IsCompiled (text_of logic)) first) where
-  pub idle : IsIdle first
+  idle : IsIdle first
   idle = loaded-idle (file_of bay) (IsCompiled (text_of logic))
       (let r : Result State LoadFault = Ok first in r) loaded
-
-  pub guarded : (past : List Past) → EachPast Steps first past
-      → IsGuarded loaded.made.checked first past
-  guarded past steps =
-      let c = loaded.made.checked in
-      let tells =
-      past-tells first past (ap (λ talks. length talks) idle.closed) (idle-talks first idle) steps
-      in
-      let runs = loaded-runs bay logic first loaded in
-      record {
-        came = past-came loaded.bay loaded.image first past loaded.is steps;
-        halts = (past-does HaltsAt (Runs c) (step-halts c) first past runs steps).0;
-        means = (past-does (MeansAt c) (Runs c) (means-step c) first past runs steps).0;
-        commanded = past-so CommandedAt step-commanded first past steps;
-        fresh = past-fresh loaded.bay loaded.image first past loaded.is steps;
-        operated = tells.operates;
-        backed =
-            tells-backed (bay_of first) (events_of past) first (answers_of past)
-            (device_after first past) idle.unselected tells;
-      }
 
   pub run-of : (trace : List ℕ) (log : Option (List ℕ)) (text : List ℕ) (status : ℕ)
       → DeviceReport first (lines_of trace) log text status
@@ -74,7 +73,8 @@ module _ (bay logic : List ℕ) (first : State)
               ends = e.ends;
               whole = told.2.1 ∙ ap (λ t. report_text told.0 ++ t) e.printed;
             };
-        guarded = guarded e.whole e.steps;
+        runs = loaded-runs bay logic first loaded;
+        guarded = one-run first e.whole (loaded.bay, loaded.image, loaded.is) idle e.steps;
       }
 
 -- What is printed for parts that load is of a run.

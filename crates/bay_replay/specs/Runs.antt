@@ -6,7 +6,7 @@ use Rattle.bay_device.specs.Commands.{CommandedAt}
 use Rattle.bay_device.specs.Device.{State, bay_of}
 use Rattle.bay_device.specs.Fresh.{Came, Past}
 use Rattle.bay_device.specs.Load.{IsCompiled, IsLoaded}
-use Rattle.bay_device.specs.Meaning.{HaltsAt, MeansAt}
+use Rattle.bay_device.specs.Meaning.{HaltsAt, MeansAt, Runs}
 use Rattle.bay_device.specs.Operates.{AllOperate}
 use Rattle.bay_device.specs.Report.{IsReport as IsReportOf}
 use Rattle.bay_device.specs.Steps.{Steps}
@@ -79,13 +79,10 @@ pub record IsTextOf (first : State) (past : List Past) (trace text : List ℕ) (
 
 -- ---- a run
 
--- What holds of the events of a device that runs a program, from load on.
-pub record IsGuarded (c : Checked) (first : State) (past : List Past) : Type 0 where
-  pub came : Came past (device_after first past)
-  -- each scan halts without a trap, within the budget, and leaves what the program means;
-  pub halts : EachPast HaltsAt first past
-  pub means : EachPast (MeansAt c) first past
-  -- each command is one that the interlocking releases, on a fresh scan, while no switch is
+-- All that has happened to a device since load, which led from the first to the last.
+pub record IsOneRun (first : State) (past : List Past) (last : State) : Type 0 where
+  pub came : Came past last
+  -- Each command is one that the interlocking releases, on a fresh scan, while no switch is
   -- operating, and something is sent with it;
   pub commanded : EachPast CommandedAt first past
   -- behind it stands a scan of these events, not too old, since which the process has not changed;
@@ -95,6 +92,10 @@ pub record IsGuarded (c : Checked) (first : State) (past : List Past) : Type 0 w
   pub operated : AllOperate (bay_of first) first.connections (events_of past) (answers_of past)
   pub backed : AreBacked first.controls.controls
       (told_all (bay_of first) first.connections (events_of past) (answers_of past))
+  -- Each scan of a device that runs a program halts without a trap, within the budget, and leaves
+  -- what the program means.
+  pub halts : (c : Checked) → Runs c first → EachPast HaltsAt first past
+  pub means : (c : Checked) → Runs c first → EachPast (MeansAt c) first past
 
 -- The text and the status are those of a run of a device, which was loaded from the parts of a
 -- scenario.
@@ -104,7 +105,8 @@ pub record IsRun (parts : ScenarioParts) (first : State) (text : List ℕ) (stat
   pub past : List Past
   pub steps : EachPast Steps first past
   pub printed : IsTextOf first past parts.trace text status
-  pub guarded : IsGuarded loaded.made.checked first past
+  pub runs : Runs loaded.made.checked first
+  pub guarded : IsOneRun first past (device_after first past)
 
 -- Where the parts of a scenario load to a device, the text and the status are those of a run of it,
 -- or say that there was no memory for its load.

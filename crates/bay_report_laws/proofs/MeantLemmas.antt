@@ -227,7 +227,7 @@ run-meant parts first text status run before after line read e reads =
     (scan-meant run.loaded.made.checked first run.past run.steps known.ids
     (past-few first run.printed.report.budget known.small known.ids run.printed.reported.budget
     run.past run.steps known.within)
-    run.guarded.means most both begin (load parts first text status run)
+    (run.guarded.means run.loaded.made.checked run.runs) most both begin (load parts first text status run)
     (load-is run.printed.report) o.behind line o.at l read reads)
 
 pub scans-are-meant : ScansAreMeant

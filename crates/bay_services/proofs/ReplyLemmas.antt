@@ -9,7 +9,7 @@ use Rattle.bay_ber.specs.Writing.{element, integer_octets}
 use Rattle.bay_ber.specs.declared.tag.Tag.{Tag}
 use Rattle.bay_ber.proofs.SizeLemmas.{length-element-is}
 use Rattle.bay_mms.proofs.PageLemmas.{more-than}
-use Rattle.bay_mms.specs.Tags.{constructed, int_tag}
+use Rattle.bay_ber.specs.Tags.{constructed, int_tag}
 use Rattle.bay_mms.specs.Responses.{error_text, read_text, write_text}
 use Rattle.bay_mms.specs.declared.fault.EncodeFault.{EncodeFault}
 use Rattle.bay_mms.specs.declared.fault.EncodeFault.TheVariants.{TooLong, OutOfMemory}

@@ -24,7 +24,7 @@ use Rattle.bay_mms.specs.Laws.{datum_tag, datum_content}
 use Rattle.bay_mms.specs.Nodes.{Node, data_at, node_at, node_datum, value as leaf-node, structure as rows-node}
 use Rattle.bay_mms.specs.Requests.{Naming, vmd, domain, association}
 use Rattle.bay_mms.specs.Responses.{failure_result, text_result}
-use Rattle.bay_mms.specs.Tags.{context}
+use Rattle.bay_ber.specs.Tags.{context}
 use Rattle.bay_mms.specs.declared.fault.DataAccessError.{DataAccessError}
 use Rattle.bay_mms.specs.declared.fault.DataAccessError.TheVariants.{ObjectAccessDenied, ObjectNonExistent}
 use Rattle.bay_mms.proofs.LawLemmas.{datum-spells}

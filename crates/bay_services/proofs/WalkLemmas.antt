@@ -14,7 +14,7 @@ use Rattle.bay_mms.specs.Controls.{Control, operate_in, cancel_in}
 use Rattle.bay_mms.specs.Data.{Datum}
 use Rattle.bay_mms.specs.Requests.{Naming, Asking, identify, names, attributes, read, write, Message, initiate, conclude, confirmed}
 use Rattle.bay_mms.specs.Responses.{concluded_text, error_text, failure_result, read_text, reject_text, write_text}
-use Rattle.bay_mms.specs.Tags.{context}
+use Rattle.bay_ber.specs.Tags.{context}
 use Rattle.bay_mms.specs.declared.fault.DataAccessError.{DataAccessError}
 use Rattle.bay_mms.specs.declared.fault.DataAccessError.TheVariants.{ObjectAccessDenied, ObjectNonExistent}
 use Rattle.bay_mms.specs.declared.fault.MmsFault.{MmsFault}

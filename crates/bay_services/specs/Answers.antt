@@ -7,7 +7,7 @@ use Rattle.bay_mms.specs.Nodes.{type_at}
 use Rattle.bay_mms.specs.Requests.{Naming, Asking, identify, names, attributes, read, write, Message, initiate, conclude, confirmed}
 use Rattle.bay_mms.specs.Responses as response
 use Rattle.bay_mms.specs.Responses.{concluded_text, error_text, identity_text, read_text, reject_text, write_text}
-use Rattle.bay_mms.specs.Tags.{context, constructed}
+use Rattle.bay_ber.specs.Tags.{context, constructed}
 use Rattle.bay_mms.specs.Types.{type_text}
 use Rattle.bay_mms.specs.declared.fault.MmsFault.{MmsFault}
 use Rattle.bay_mms.specs.declared.fault.MmsFault.TheVariants.{BadPdu, UnknownService, TooMany, OutOfMemory}

@@ -1,26 +1,22 @@
 -- A history grows by an event, by those of a turn, and by those of all turns.
 use Rattle.std.proofs.Common.{◌≡◌, ℕ, List, [], ◌∷◌, length, refl, ap, sym, subst, ◌∙◌}
 use Rattle.bay_services.specs.Accepted.{AreNamedAlike}
-use Rattle.bay_device.specs.Commands.{CommandedAt}
 use Rattle.bay_device.specs.Device.{State, bay_of}
 use Rattle.bay_device.specs.Entries.{IsIdle}
 use Rattle.bay_device.specs.Fresh.{Came, Past}
 use Rattle.bay_device.specs.Load.{initial_device}
-use Rattle.bay_device.specs.Meaning.{HaltsAt, MeansAt, Runs}
 use Rattle.bay_device.specs.Outcomes.{outcome}
 use Rattle.bay_device.specs.Steps.{Steps}
 use Rattle.bay_device.specs.Told.{AreTalks}
-use Rattle.bay_device.proofs.CommandLemmas.{step-commanded}
 use Rattle.bay_device.proofs.EntryLemmas.{eight-places, leading}
 use Rattle.bay_device.proofs.FreshLemmas.{Tracks, tracks-event, tracks-first}
-use Rattle.bay_device.proofs.MeaningLemmas.{means-step}
-use Rattle.bay_device.proofs.RunLemmas.{Tells, tells-backed}
 use Rattle.bay_device.proofs.ToldLemmas.{idle-talks, telling}
-use Rattle.bay_replay.specs.History.{EachPast, answers_of, device_after, events_of}
-use Rattle.bay_replay.proofs.BudgetLemmas.{step-halts}
-use Rattle.bay_replay.proofs.HistoryLemmas.{past-came, past-does, past-fixed, past-fresh, past-so, past-tells}
+use Rattle.bay_replay.specs.History.{EachPast, device_after}
+use Rattle.bay_replay.proofs.HistoryLemmas.{past-fixed}
 use Rattle.bay_serve_laws.specs.Events.{ChosenEvent, done_at}
-use Rattle.bay_serving_laws.specs.Service.{IsOneRun, past_behind}
+use Rattle.bay_replay.specs.Runs.{IsOneRun}
+use Rattle.bay_replay.proofs.RunLemmas.{one-run as past-run}
+use Rattle.bay_serving_laws.specs.Service.{past_behind}
 
 -- ---- a device, and all that has happened to it since it was the first
 
@@ -87,21 +83,4 @@ module _ (first : State) (now : ℕ) where
 pub one-run : (first : State) (past : List Past) (last : State) → Came [] first
     → Stands first past last → IsOneRun first past last
 one-run first past last begin at =
-    let idle : IsIdle first = idle first begin in
-    let t : Tells (bay_of first) (events_of past) first (answers_of past)
-    (device_after first past) =
-    past-tells first past (ap (λ talks. length talks) idle.closed) (idle-talks first idle) at.steps
-    in
-    record {
-      came = subst (Came past) at.last
-          (past-came begin.0 begin.1 first past begin.2 at.steps);
-      commanded = past-so CommandedAt step-commanded first past at.steps;
-      fresh = past-fresh begin.0 begin.1 first past begin.2 at.steps;
-      operated = t.operates;
-      backed = tells-backed (bay_of first) (events_of past) first (answers_of past)
-          (device_after first past) idle.unselected t;
-      halts = λ c runs.
-          (past-does HaltsAt (Runs c) (step-halts c) first past runs at.steps).0;
-      means = λ c runs.
-          (past-does (MeansAt c) (Runs c) (means-step c) first past runs at.steps).0;
-    }
+    subst (IsOneRun first past) at.last (past-run first past begin (idle first begin) at.steps)

@@ -1,19 +1,13 @@
 -- The turns of a service, and all that happens to its device in them.
 use Rattle.std.specs.Prelude.{ℕ, ◌≡◌, ◌≤◌, zero, suc, List, [], ◌∷◌, length, replicate, Option, Result, Ok, Err}
 use mathlib.Core.Logic.{inl, inr}
-use Rattle.bay_control.specs.Backing.{AreBacked}
-use Rattle.il_check.specs.Program.{Checked}
-use Rattle.bay_device.specs.Commands.{CommandedAt}
-use Rattle.bay_device.specs.Device.{State, bay_of}
+use Rattle.bay_device.specs.Device.{State}
 use Rattle.bay_device.specs.Fresh.{Came, Past}
-use Rattle.bay_device.specs.Meaning.{HaltsAt, MeansAt, Runs}
-use Rattle.bay_device.specs.Operates.{AllOperate}
 use Rattle.bay_device.specs.Outcomes.{associations, outcome}
-use Rattle.bay_device.specs.Told.{told_all}
 use Rattle.bay_io.specs.Calls.{WriteCall}
 use Rattle.bay_io.specs.Watched.{Writing}
 use Rattle.bay_io.specs.declared.outbox.WriteFault.{WriteFault}
-use Rattle.bay_replay.specs.History.{AllFresh, EachPast, answers_of, events_of}
+use Rattle.bay_replay.specs.Runs.{IsOneRun}
 use Rattle.bay_serve.specs.Calls.{Call}
 use Rattle.bay_serve.specs.Served.{event_in}
 use Rattle.bay_serve.specs.Turns.{Held, Script, after_turn, moment_at}
@@ -113,24 +107,6 @@ past_of (t ∷ ts) h past =
     (past_behind t.now (turn_events t.now t.line t.script h) h.device past)
 
 -- ---- one run
-
--- All that has happened to a device since load, which led from the first to the last.
-pub record IsOneRun (first : State) (past : List Past) (last : State) : Type 0 where
-  pub came : Came past last
-  -- Each command is one that the interlocking releases, on a fresh scan, while no switch is
-  -- operating, and something is sent with it;
-  pub commanded : EachPast CommandedAt first past
-  -- behind it stands a scan of these events, not too old, since which the process has not changed;
-  pub fresh : AllFresh first.scan_max_age_ms past
-  -- and the commands are the operates that are accepted in what the octets of the events and of the
-  -- answers tell, each backed by a select where its switch has to be selected.
-  pub operated : AllOperate (bay_of first) first.connections (events_of past) (answers_of past)
-  pub backed : AreBacked first.controls.controls
-      (told_all (bay_of first) first.connections (events_of past) (answers_of past))
-  -- Each scan of a device that runs a program halts without a trap, within the budget, and leaves
-  -- what the program means.
-  pub halts : (c : Checked) → Runs c first → EachPast HaltsAt first past
-  pub means : (c : Checked) → Runs c first → EachPast (MeansAt c) first past
 
 -- Turns were done on a server, and what happened in them since load is one run of its device.
 pub record IsService (first : Held) (turns : List DoneTurn) : Type 0 where

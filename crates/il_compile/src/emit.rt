@@ -203,7 +203,7 @@ pub(crate) fn put_entry(
         ≡ code.old.items ++ spec.entry_code externals (entry_view entry.now)) }
 {
     match entry {
-        TypedEntry::ArithmeticOperation(operation) => put_operation(code, externals, *operation),
+        TypedEntry::Operation(operation) => put_operation(code, externals, *operation),
         TypedEntry::Block {
             operator,
             kind,

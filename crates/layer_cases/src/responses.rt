@@ -8,7 +8,8 @@ use bay_mms::fault::DataAccessError;
 use bay_mms::report::{
     LastApplError, write_failed_termination, write_last_appl_error, write_termination,
 };
-use bay_mms::response::{Agreed, ErrorClass, RejectReason, Response, Service, write_response};
+use bay_assoc::initiate::Agreed;
+use bay_mms::response::{ErrorClass, RejectReason, Response, Service, write_response};
 use bay_mms::results::{ReadResponse, WriteResponse};
 use bay_mms::seen::Seen;
 use bay_tree::tree::Tree;

@@ -1,9 +1,8 @@
 use Rattle.std.proofs.Common.{◌≡◌, true, false, sym, ap, ◌∙◌, arith, inr, Ok}
 use Rattle.std.proofs.lemmas.Result.{err_from_is_err_and}
-use Rattle.bay_ber.specs.Tags.{same_tag}
+use Rattle.bay_ber.specs.Tags.{same_tag, constructed}
 use Rattle.bay_ber.specs.Values.{part_of, each_in}
 use Rattle.bay_ber.proofs.ListingLemmas.{passed-more, passed-bad}
-use Rattle.bay_mms.specs.Tags.{constructed}
 use Rattle.bay_mms.specs.Grammar.{datum_as, simple_as}
 use Rattle.bay_mms.specs.Views.{datum_of, data_in}
 use Rattle.bay_mms.proofs.RequestLemmas.{gives-stop, some-value, gives-option, spelled-ok, too_deep, structure-ok, structure-err, simple-is, view-structure}

@@ -4,7 +4,7 @@ use Rattle.bay_ber.specs.Writing.{element}
 use Rattle.bay_ber.proofs.SheetLemmas.{put-put, put-twice, open-value, long-value, is_open-put}
 use Rattle.bay_tree.specs.Names.{word_of}
 use Rattle.bay_tree.specs.Rows.{name_at}
-use Rattle.bay_mms.specs.Tags.{context, constructed, sequence}
+use Rattle.bay_ber.specs.Tags.{context, constructed, sequence}
 use Rattle.bay_mms.specs.Types.{type_text}
 use Rattle.bay_mms.specs.Nodes.{type_at}
 use Rattle.bay_mms.proofs.NodeLemmas.{nodes_types_text, component_text, parts_at, written-first, written-more, written-end, structure-type}

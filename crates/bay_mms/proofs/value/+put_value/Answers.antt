@@ -1,7 +1,7 @@
 use Rattle.std.proofs.Common.{◌∙◌, refl, sym}
 use Rattle.bay_ber.proofs.SheetLemmas.{is_open-put, closed-put, element-tagged}
 use Rattle.bay_mms.specs.Data.{datum_text}
-use Rattle.bay_mms.specs.Tags.{constructed}
+use Rattle.bay_ber.specs.Tags.{constructed}
 use Rattle.bay_mms.specs.Nodes.{data_at}
 use Rattle.bay_mms.proofs.NodeLemmas.{nodes_text, parts_at, written-first, written-more, written-end, structure-at}
 use Rattle.bay_mms.proofs.value.+put_value.Goals as goal

@@ -1,6 +1,6 @@
 use Rattle.std.proofs.Common.{ℕ, List, Option, length, ap, arith, subst, pos}
 use Rattle.bay_base.specs.Exact.{Gives}
-use Rattle.bay_mms.specs.Tags.{int_tag}
+use Rattle.bay_ber.specs.Tags.{int_tag}
 use Rattle.bay_mms.specs.Writing.{or_long}
 use Rattle.bay_mms.specs.declared.fault.EncodeFault.TheVariants.{OutOfMemory}
 use Rattle.bay_mms.proofs.ResponseLemmas.{number-few, response-is}

@@ -2,10 +2,9 @@
 use Rattle.std.proofs.Common.{◌≡◌, List, [], ◌∷◌, map, Option, Some, refl, ap, subst, ◌∙◌}
 use Rattle.std.proofs.lemmas.Option.{same_Some}
 use Rattle.bay_base.specs.Options.{◌>>=◌}
-use Rattle.bay_ber.specs.Values.{Part, all_of}
+use Rattle.bay_ber.specs.Values.{Part, all_of, AreEach}
 use Rattle.bay_ber.proofs.ReadLemmas.{IsBytes}
 use Rattle.bay_ber.proofs.BackLemmas.{bind-some, AllBytes}
-use Rattle.bay_mms.specs.Spelled.{AreEach}
 
 -- What spells each of them is read as them.
 pub each-read : {A B : Type 0} (f : Part → Option B) (part : A → Part) (Is : A → B → Type 0)

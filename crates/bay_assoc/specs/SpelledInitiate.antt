@@ -3,14 +3,9 @@
 use Rattle.std.specs.Prelude.{ℕ, ℤ, pos, ◌≡◌, ◌*◌, ◌/◌, ◌<◌, ◌≤◌, List, [], ◌∷◌, ◌++◌, filter, Option, Some, None}
 use Rattle.bay_ber.specs.declared.tag.Tag.{Tag}
 use Rattle.bay_ber.specs.Content.{IsInteger, IsBits}
-use Rattle.bay_ber.specs.Values.{Part, value, SpellAll, is_known}
-use Rattle.bay_mms.specs.Tags.{context, constructed}
-use Rattle.bay_mms.specs.declared.request.Proposal.{Proposal}
-
--- a value that may be left out
-abbrev pub field : Tag → Option (List ℕ) → List Part
-field tag None = []
-field tag (Some content) = value tag content ∷ []
+use Rattle.bay_ber.specs.Values.{Part, field, value, SpellAll, is_known}
+use Rattle.bay_ber.specs.Tags.{context, constructed}
+use Rattle.bay_assoc.specs.declared.initiate.Proposal.{Proposal}
 
 -- A content that may be left out is an integer where it came.
 abbrev pub IsNumber : Option (List ℕ) → Option ℤ → Type 0

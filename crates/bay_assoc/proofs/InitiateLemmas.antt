@@ -5,16 +5,14 @@ use Rattle.std.proofs.lemmas.Bool.{le-ltb, ltb-false}
 use Rattle.bay_ber.specs.declared.tag.Tag.{Tag}
 use Rattle.bay_ber.specs.Content.{IsInteger, IsBits, BitString, bits_in}
 use Rattle.bay_base.specs.Options.{◌>>=◌}
-use Rattle.bay_ber.specs.Tags.{same_tag}
-use Rattle.bay_ber.specs.Values.{Part, value, SpellAll, value_in, at_most_five, few_in, known_in, under, integer_under}
+use Rattle.bay_ber.specs.Tags.{same_tag, context, constructed}
+use Rattle.bay_ber.specs.Values.{Part, value, SpellAll, value_in, at_most_five, few_in, known_in, under, integer_under, field}
 use Rattle.bay_ber.proofs.ReadLemmas.{IsBytes}
 use Rattle.bay_ber.proofs.ContentLemmas.{integer-again}
-use Rattle.bay_ber.proofs.BackLemmas.{bind-some, AllBytes, unguarded, under-is, under-bytes, number-back, bits-back, bits-again, one-under, few-back, known-back, one-read, few-read, known-read}
-use Rattle.bay_mms.specs.Tags.{context, constructed}
-use Rattle.bay_mms.specs.declared.request.Proposal.{Proposal}
-use Rattle.bay_mms.specs.Grammar.{some_of, outstanding_as, three_bits, parameters_of, parameters_as, services_as, detail_of, detail_in, proposed_under, proposal_of, initiate_of, proposal_in, initiate_in}
-use Rattle.bay_mms.specs.SpelledInitiate.{field, IsNumber, IsPositive, IsDetail, IsInitiate}
-use Rattle.bay_mms.proofs.AccessLemmas.{by-tag}
+use Rattle.bay_ber.proofs.BackLemmas.{bind-some, AllBytes, unguarded, under-is, under-bytes, number-back, bits-back, bits-again, one-under, few-back, known-back, one-read, few-read, known-read, by-tag}
+use Rattle.bay_assoc.specs.declared.initiate.Proposal.{Proposal}
+use Rattle.bay_assoc.specs.Initiate.{some_of, outstanding_as, three_bits, parameters_of, parameters_as, services_as, detail_of, detail_in, proposed_under, proposal_of, initiate_of, proposal_in, initiate_in}
+use Rattle.bay_assoc.specs.SpelledInitiate.{IsNumber, IsPositive, IsDetail, IsInitiate}
 
 -- ---- what is spelled is read
 

@@ -1,0 +1,281 @@
+// The request that opens an association, and its answer (ISO 9506-2, InitiateRequestPDU and
+// InitiateResponsePDU).
+ghost use Rattle.std.specs.Prelude.{◌≡◌, ◌≤◌, length, map, option_map, IfOk, IfSome};
+ghost use Rattle.std.specs.Option.{option_copied};
+ghost use Rattle.bay_ber.specs.Content.{bits_of};
+ghost use Rattle.bay_ber.specs.Sheets.{sheet_with};
+ghost use Rattle.bay_ber.specs.Values.{part_of};
+ghost use Rattle.bay_assoc.specs.Agreed.{agreed_text, detail_text, limits_text, nesting_text, parameters_text, services_text};
+ghost use Rattle.bay_assoc.specs.Initiate as spec;
+ghost use Rattle.bay_assoc.specs.Sizes.{IsPduSize};
+ghost use Rattle.bay_assoc.specs.Sizes as sizes;
+
+use bay_ber::content::{Bits, bits_of};
+use bay_ber::known::known_values;
+use bay_ber::outgoing::Outgoing;
+use bay_ber::tag::Tag;
+use bay_ber::values::{Value, few_values, whole_value};
+use bay_ber::writer::Writer;
+use std::alloc::{AllocError, Global};
+
+/// The proposal for an association (ISO 9506-2, InitiateRequestPDU).
+#[derive(Clone, Copy, Debug)]
+pub struct Proposal {
+    /// The size of the largest PDU in octets.
+    pub size: Option<i64>,
+    /// The most outstanding requests of the calling side, 1 or more.
+    pub calling: i64,
+    /// The most outstanding requests of the called side, 1 or more.
+    pub called: i64,
+    /// The deepest nesting of data.
+    pub nesting: Option<i64>,
+    /// The first three parameter conformance blocks, in the three highest bits; the others are 0.
+    pub parameters: u8,
+}
+
+// A number of at least 1.
+fn some_of(number: i64) -> Option<i64>
+    ensures { result ≡ spec.some_of number }
+{
+    if number > 0 { Some(number) } else { None }
+}
+
+// How many requests may be outstanding.
+#[tactic(auto, unfolding(crate::specs::Initiate::outstanding_as))]
+fn outstanding_as(tag: Tag, value: &Value<'_>) -> Option<i64>
+    ensures { result ≡ spec.outstanding_as tag (part_of value.now) }
+{
+    some_of(value.integer_under(tag)?)
+}
+
+// The first three of the bits.
+fn parameters_of(bits: Bits<'_>) -> Option<u8>
+    ensures { result ≡ spec.parameters_of (bits_of bits.entry) }
+{
+    if bits.count < 3 {
+        return None;
+    }
+    match bits.octets {
+        [first, ..] => Some(first / 32 * 32),
+        [] => None,
+    }
+}
+
+// The first three parameter conformance blocks.
+#[tactic(auto, unfolding(crate::specs::Initiate::parameters_as))]
+fn parameters_as(value: &Value<'_>) -> Option<u8>
+    ensures { result ≡ spec.parameters_as (part_of value.now) }
+{
+    let bits = bits_of(value.under(Tag::context(1))?).ok()?;
+    parameters_of(bits)
+}
+
+// The services that the one who calls has.
+#[tactic(auto, unfolding(crate::specs::Initiate::services_as))]
+fn services_as<'a>(value: &Value<'a>) -> Option<Bits<'a>>
+    ensures { option_map bits_of result ≡ spec.services_as (part_of value.now) }
+{
+    bits_of(value.under(Tag::context(2))?).ok()
+}
+
+// The parameters of the three parts of an InitRequestDetail.
+fn detail_of(parts: &[Value<'_>]) -> Option<u8>
+    ensures { result ≡ spec.detail_of (map part_of parts.now) }
+{
+    match parts {
+        [version, parameters, services] => {
+            version.integer_under(Tag::context(0))?;
+            let first = parameters_as(parameters)?;
+            services_as(services)?;
+            Some(first)
+        }
+        _ => None,
+    }
+}
+
+// The version, the parameters and the services (ISO 9506-2, InitRequestDetail), among other fields.
+#[tactic(auto, unfolding(crate::specs::Initiate::detail_in))]
+fn detail_in(octets: &[u8]) -> Option<u8>
+    ensures { result ≡ spec.detail_in octets.now }
+{
+    let tags = [Tag::context(0), Tag::context(1), Tag::context(2)];
+    let known = known_values(octets, &tags)?;
+    detail_of(known.as_slice())
+}
+
+// The integer with this tag that is proposed, if one is.
+fn proposed_under(tag: Tag, value: Option<&Value<'_>>) -> Option<Option<i64>>
+    ensures { result ≡ spec.proposed_under tag (option_map part_of (option_copied value.entry)) }
+{
+    match value {
+        Some(value) => Some(Some(value.integer_under(tag)?)),
+        None => Some(None),
+    }
+}
+
+// What an initiate proposes, by its fields: a size, how many requests are outstanding either way, a
+// nesting, and the detail.
+#[tactic(auto, unfolding(crate::specs::Initiate::proposal_of))]
+fn proposal_of(
+    size: Option<&Value<'_>>,
+    calling: &Value<'_>,
+    called: &Value<'_>,
+    nesting: Option<&Value<'_>>,
+    detail: &Value<'_>,
+) -> Option<Proposal>
+    ensures { result ≡ spec.proposal_of (option_map part_of (option_copied size.entry))
+        (part_of calling.now) (part_of called.now)
+        (option_map part_of (option_copied nesting.entry)) (part_of detail.now) }
+{
+    let size = proposed_under(Tag::context(0), size)?;
+    let calling = outstanding_as(Tag::context(1), calling)?;
+    let called = outstanding_as(Tag::context(2), called)?;
+    let nesting = proposed_under(Tag::context(3), nesting)?;
+    let parameters = detail_in(detail.under(Tag::context_constructed(4))?)?;
+    Some(Proposal {
+        size,
+        calling,
+        called,
+        nesting,
+        parameters,
+    })
+}
+
+// What values propose.
+fn initiate_of(parts: &[Value<'_>]) -> Option<Proposal>
+    ensures { result ≡ spec.initiate_of (map part_of parts.now) }
+{
+    match parts {
+        [calling, called, detail] => proposal_of(None, calling, called, None, detail),
+        [first, second, third, detail] => {
+            if first.tag.is(Tag::context(0)) {
+                proposal_of(Some(first), second, third, None, detail)
+            } else {
+                proposal_of(None, first, second, Some(third), detail)
+            }
+        }
+        [size, calling, called, nesting, detail] => {
+            proposal_of(Some(size), calling, called, Some(nesting), detail)
+        }
+        _ => None,
+    }
+}
+
+/// Reads the content of an initiate as its proposal.
+pub fn proposal_in(content: &[u8]) -> Option<Proposal>
+    ensures { result ≡ spec.proposal_in content.now }
+{
+    let parts = few_values(content)?;
+    initiate_of(parts.as_slice())
+}
+
+/// Reads octets as an initiate and returns its proposal (ISO 9506-2, InitiateRequestPDU). `None` if
+/// they are no initiate. Does not allocate.
+#[tactic(auto, unfolding(crate::specs::Initiate::initiate_in))]
+pub fn read_initiate(octets: &[u8]) -> Option<Proposal>
+    ensures { result ≡ spec.initiate_in octets.now }
+{
+    let value = whole_value(octets)?;
+    proposal_in(value.under(Tag::context_constructed(8))?)
+}
+
+// The octets of the longest PDU.
+const LONGEST_PDU: i64 = 65_000;
+
+/// Returns the size of the largest PDU in octets that is agreed where this one is proposed, or none
+/// is: at most 65,000. `None` below 256.
+pub fn agreed_size(proposed: Option<i64>) -> Option<u32>
+    ensures size { result ≡ sizes.agreed_size proposed }
+    ensures sized { IfSome result IsPduSize }
+{
+    let size = proposed.unwrap_or(LONGEST_PDU).min(LONGEST_PDU);
+    if size < 256 { None } else { Some(size as u32) }
+}
+
+/// What is agreed for an association (ISO 9506-2, InitiateResponsePDU), in version 1 of the
+/// protocol.
+#[derive(Clone, Copy)]
+pub struct Agreed {
+    /// The size of the largest PDU in octets.
+    pub size: u32,
+    /// The most outstanding requests of the calling side; `called` is that of the called side.
+    pub calling: u32,
+    pub called: u32,
+    /// The deepest nesting of data, if it was proposed.
+    pub nesting: Option<i64>,
+    /// The first three parameter conformance blocks, in the three highest bits. The other bits are
+    /// ignored.
+    pub parameters: u8,
+}
+
+// Writes the agreed nesting, if one was proposed.
+#[tactic(auto, using(bay_ber::proofs::SheetLemmas::put_nil))]
+fn put_nesting(writer: &mut Writer, nesting: Option<i64>)
+    ensures { writer.new ≡ sheet_with writer.old (nesting_text nesting) }
+{
+    if let Some(nesting) = nesting {
+        writer.int(Tag::context(3), nesting);
+    }
+}
+
+// Writes the first parameter conformance blocks, of eleven.
+#[tactic(auto, unfolding(bay_ber::specs::Writing::element, bay_ber::specs::Writing::length_octets))]
+fn put_parameters(writer: &mut Writer, parameters: u8)
+    ensures { writer.new ≡ sheet_with writer.old (parameters_text parameters) }
+{
+    writer.append(&[0x81, 3, 5, parameters / 32 * 32, 0]);
+}
+
+// Writes the services that are offered.
+#[tactic(auto, unfolding(bay_ber::specs::Writing::element, bay_ber::specs::Writing::length_octets))]
+fn put_services(writer: &mut Writer)
+    ensures { writer.new ≡ sheet_with writer.old services_text }
+{
+    writer.append(&[0x82, 12, 3, 0x6E, 0, 0, 0, 0, 0, 0, 0, 0, 0x01, 0x10]);
+}
+
+// Writes the agreed size, how many requests are outstanding either way, and the nesting.
+#[tactic(auto, using(bay_ber::proofs::SheetLemmas::sheet_rules))]
+fn put_limits(writer: &mut Writer, agreed: Agreed)
+    ensures { writer.new ≡ sheet_with writer.old (limits_text agreed) }
+{
+    writer.int(Tag::context(0), i64::from(agreed.size));
+    writer.int(Tag::context(1), i64::from(agreed.calling));
+    writer.int(Tag::context(2), i64::from(agreed.called));
+    put_nesting(writer, agreed.nesting);
+}
+
+// The version, the parameters and the services (ISO 9506-2, InitResponseDetail).
+#[tactic(auto, using(bay_ber::proofs::SheetLemmas::sheet_rules))]
+fn put_detail(writer: &mut Writer, parameters: u8)
+    ensures { writer.new ≡ sheet_with writer.old (detail_text parameters) }
+{
+    writer.int(Tag::context(0), 1);
+    put_parameters(writer, parameters);
+    put_services(writer);
+}
+
+/// Writes the answer to an initiate behind what the writer holds.
+#[tactic(auto, using(bay_ber::proofs::SheetLemmas::sheet_rules))]
+pub fn put_agreed(writer: &mut Writer, agreed: Agreed)
+    ensures { writer.new ≡ sheet_with writer.old (agreed_text agreed) }
+{
+    let start = writer.open(Tag::context_constructed(9));
+    put_limits(writer, agreed);
+    let inner = writer.open(Tag::context_constructed(4));
+    put_detail(writer, agreed.parameters);
+    writer.close(inner);
+    writer.close(start);
+}
+
+/// Writes the answer to an initiate (ISO 9506-2, InitiateResponsePDU) in its one canonical
+/// spelling, at most 200 octets.
+#[tactic(auto, using(bay_ber::proofs::SheetLemmas::message_put, crate::proofs::AgreedLemmas::agreed_short, crate::proofs::AgreedLemmas::agreed_within))]
+pub fn write_agreed(alloc: Global, agreed: Agreed) -> Result<Outgoing, AllocError>
+    ensures text { IfOk result (λ octets. octets ≡ agreed_text agreed) }
+    ensures few { IfOk result (λ octets. length octets ≤ 200) }
+{
+    let mut writer = Writer::new(alloc, 200)?;
+    put_agreed(&mut writer, agreed);
+    Ok(writer.finish_held())
+}
