@@ -1,10 +1,12 @@
 // The request that opens an association, and its answer (ISO 9506-2, InitiateRequestPDU and
 // InitiateResponsePDU).
-ghost use Rattle.std.specs.Prelude.{◌≡◌, ◌≤◌, length, map, option_map, IfOk, IfSome};
+ghost use Rattle.std.specs.Prelude.{◌≡◌, ◌≤◌, ◌<◌, length, map, option_map, pos, IfOk, IfSome};
 ghost use Rattle.std.specs.Option.{option_copied};
 ghost use Rattle.bay_ber.specs.Content.{bits_of};
 ghost use Rattle.bay_ber.specs.Sheets.{sheet_with};
+ghost use Rattle.bay_ber.specs.Tags.{context};
 ghost use Rattle.bay_ber.specs.Values.{part_of};
+ghost use Rattle.bay_ber.specs.Writing.{element, integer_octets};
 ghost use Rattle.bay_assoc.specs.Agreed.{agreed_text, detail_text, limits_text, nesting_text, parameters_text, services_text};
 ghost use Rattle.bay_assoc.specs.Initiate as spec;
 ghost use Rattle.bay_assoc.specs.Sizes.{IsPduSize};
@@ -208,6 +210,15 @@ pub struct Agreed {
     pub parameters: u8,
 }
 
+/// Writes a number under a context-specific tag.
+pub fn put_number(writer: &mut Writer, number: u8, value: u32)
+    requires { number < 31 }
+    ensures { writer.new ≡ sheet_with writer.old
+        (element (context number) (integer_octets (pos value))) }
+{
+    writer.int(Tag::context(number), i64::from(value));
+}
+
 // Writes the agreed nesting, if one was proposed.
 #[tactic(auto, using(bay_ber::proofs::SheetLemmas::put_nil))]
 fn put_nesting(writer: &mut Writer, nesting: Option<i64>)
@@ -239,9 +250,9 @@ fn put_services(writer: &mut Writer)
 fn put_limits(writer: &mut Writer, agreed: Agreed)
     ensures { writer.new ≡ sheet_with writer.old (limits_text agreed) }
 {
-    writer.int(Tag::context(0), i64::from(agreed.size));
-    writer.int(Tag::context(1), i64::from(agreed.calling));
-    writer.int(Tag::context(2), i64::from(agreed.called));
+    put_number(writer, 0, agreed.size);
+    put_number(writer, 1, agreed.calling);
+    put_number(writer, 2, agreed.called);
     put_nesting(writer, agreed.nesting);
 }
 
@@ -250,7 +261,7 @@ fn put_limits(writer: &mut Writer, agreed: Agreed)
 fn put_detail(writer: &mut Writer, parameters: u8)
     ensures { writer.new ≡ sheet_with writer.old (detail_text parameters) }
 {
-    writer.int(Tag::context(0), 1);
+    put_number(writer, 0, 1);
     put_parameters(writer, parameters);
     put_services(writer);
 }

@@ -13,7 +13,7 @@ ghost use Rattle.bay_mms.specs.Writing.{text_within};
 use crate::fault::EncodeFault;
 use crate::put::finish;
 use crate::value::put_type;
-use bay_assoc::initiate::{Agreed, put_agreed};
+use bay_assoc::initiate::{Agreed, put_agreed, put_number};
 use bay_base::text::Text;
 use bay_ber::outgoing::Outgoing;
 use bay_ber::tag::Tag;
@@ -142,15 +142,6 @@ pub(crate) fn put_id(writer: &mut Writer, id: u32)
     ensures { writer.new ≡ sheet_with writer.old (element int_tag (integer_octets (pos id))) }
 {
     writer.int(Tag::universal(2), i64::from(id));
-}
-
-// Writes a number under a context-specific tag.
-fn put_number(writer: &mut Writer, number: u8, value: u32)
-    requires { number < 31 }
-    ensures { writer.new ≡ sheet_with writer.old
-        (element (context number) (integer_octets (pos value))) }
-{
-    writer.int(Tag::context(number), i64::from(value));
 }
 
 // Writes what answers a confirmed request.

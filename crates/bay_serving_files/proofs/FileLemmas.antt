@@ -19,10 +19,10 @@ use Rattle.bay_serving.specs.ServeReport.{Serving, ServesTurns}
 use Rattle.bay_serving_files.specs.Serve.{RunsText, ServesLoaded, ServesRun}
 use Rattle.bay_serving_files.specs.declared.serve.Loaded.{Loaded}
 use Rattle.bay_serving_files.specs.declared.serve.Numbers.{Numbers}
-use Rattle.bay_serving_laws.specs.Service.{DoneTurn, IsBegun, turns_in}
-use Rattle.bay_serving_laws.proofs.BeginLemmas.{ordered-from}
-use Rattle.bay_serving_laws.proofs.TextLemmas.{printed-from}
-use Rattle.bay_serving_laws.proofs.TurnLemmas.{service-of, turned}
+use Rattle.bay_serving_files.specs.Service.{DoneTurn, IsBegun, turns_in}
+use Rattle.bay_serving_files.proofs.BeginLemmas.{ordered-from}
+use Rattle.bay_serving_files.proofs.TextLemmas.{printed-from}
+use Rattle.bay_serving_files.proofs.TurnLemmas.{service-of, turned}
 
 -- a device that was loaded from a text runs it
 pub text-runs : (form : Form) (both : FilesData) (s : State)

@@ -1,1 +1,10 @@
+pub mod BeginLemmas
 pub mod FileLemmas
+pub mod FrontLemmas
+pub mod HistoryLemmas
+pub mod OnceLemmas
+pub mod OrderLemmas
+pub mod ScanLemmas
+pub mod SentLemmas
+pub mod TextLemmas
+pub mod TurnLemmas

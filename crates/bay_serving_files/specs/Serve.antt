@@ -27,9 +27,9 @@ use Rattle.bay_serving.specs.Host.{HostCall, Binds, Tells}
 use Rattle.bay_serving.specs.LogLines.{ports_log, unbound_log}
 use Rattle.bay_serving.specs.ServeReport.{AfterTurn, Hearing, Serving, ServesTurns, told_lines}
 use Rattle.bay_serving.specs.declared.host.BindFault.{BindFault}
-use Rattle.bay_serving_laws.specs.Orders.{AreOrdered}
-use Rattle.bay_serving_laws.specs.Service.{DoneTurn, IsService, turns_in}
-use Rattle.bay_serving_laws.specs.Texts.{ArePrinted}
+use Rattle.bay_serving_files.specs.Orders.{AreOrdered}
+use Rattle.bay_serving_files.specs.Service.{DoneTurn, IsService, turns_in}
+use Rattle.bay_serving_files.specs.Texts.{ArePrinted}
 use Rattle.bay_serving_files.specs.declared.serve.Bound.{Bound}
 use Rattle.bay_serving_files.specs.declared.serve.Loaded.{Loaded}
 use Rattle.bay_serving_files.specs.declared.serve.NamedFiles.{NamedFiles}

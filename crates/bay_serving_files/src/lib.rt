@@ -2,6 +2,9 @@
 // one run of the device.
 //
 // - `serve`: all of it.
+// - `laws`: all turns are one run of the device, and each command that is told was asked for by a
+//   client and released by the interlocking.
 #![tactic(auto)]
 
+pub mod laws;
 pub mod serve;

@@ -7,7 +7,7 @@ ghost use Rattle.bay_serving_files.specs.Serve.{BindsPorts, BindsProcess, IsBoun
 ghost use Rattle.bay_serving_files.specs.declared.serve.Unserved.TheVariants as unserved;
 ghost use Rattle.bay_report_laws.specs.ReadBack.{HaveIds};
 ghost use Rattle.bay_serve.specs.Calls.{Called};
-ghost use Rattle.bay_serving_laws.specs.Service.{IsBegun};
+ghost use Rattle.bay_serving_files.specs.Service.{IsBegun};
 
 use bay_device::device::Device;
 use bay_device::fault::LoadFault;

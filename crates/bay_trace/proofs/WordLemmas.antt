@@ -2,7 +2,6 @@
 use Rattle.std.proofs.Common.{◌≡◌, ◌≢◌, if◌then◌else◌, take, drop, subst, ℕ, suc, ◌+◌, ◌-◌, ◌*◌, ◌<◌, ◌≤◌, ◌^◌, Bool, true, false, ◌&&◌, cond, eqb, nat_lt, List, Option, option_map, [], ◌∷◌, length, get_or, Some, None, refl, sym, ap, ◌∙◌, arith}
 use Rattle.std.proofs.lemmas.Grind.{common_steps}
 use Rattle.std.proofs.lemmas.Bool.Decides.{nat_tests}
-use Rattle.std.proofs.lemmas.List.{take_all}
 use Rattle.std.proofs.lemmas.List.Splits.{slice_split-cons_no, slice_split_first}
 use Rattle.std.proofs.lemmas.Slice.Eq.{bytes_eq-Decides}
 use Rattle.std.proofs.lemmas.Str.{digit_value_digit}
@@ -13,12 +12,9 @@ use Rattle.std.specs.Str.Parse.{digits_value_after}
 use Rattle.std.specs.Str.{is_utf8, IsUtf8}
 use Rattle.std.proofs.lemmas.Str.{IsUtf8-from_is_utf8, is_utf8-from_IsUtf8}
 use Rattle.bay_base.specs.Decimals.{with_digit}
+use Rattle.bay_base.proofs.ListLemmas.{is-utf8-false}
 use Rattle.bay_base.proofs.DecimalLemmas.{number_from, number_from-none, read_number-some}
 use Rattle.bay_trace.specs.Trace.{is_space, first_number, name_of}
-
--- what is left of a list is all of it
-pub take-rest : (xs : List ℕ) (n : ℕ) → take (length xs - n) (drop n xs) ≡ drop n xs
-take-rest xs n = take_all (length xs - n) (drop n xs) (grind (arith, common_steps))
 
 -- a text with a space is the word before it and what follows
 pub some-space : (bs : List ℕ) (at : ℕ) → position is_space bs ≡ Some at
@@ -97,13 +93,6 @@ chosen P word text x y rest has more e = by_test (bytes_eq word text) refl
 pub none-chosen : {X : Type 0} (P : List ℕ → Type 0) (word : List ℕ) (y : X) → None ≡ Some y
     → P word
 none-chosen P word y e = absurd cc
-
-pub is-utf8-false : (bs : List ℕ) → ¬ (IsUtf8 bs) → is_utf8 bs ≡ false
-is-utf8-false bs bad = by_test (is_utf8 bs) refl
-  where
-    by_test : (v : Bool) → is_utf8 bs ≡ v → v ≡ false
-    by_test true e = absurd (bad (IsUtf8-from_is_utf8 bs e))
-    by_test false e = refl
 
 pub name_of-text : (bs : List ℕ) → eqb (length bs) 0 ≡ false → IsUtf8 bs → name_of bs ≡ Some bs
 name_of-text [] e text = absurd (grind (arith, nat_tests))

@@ -1,6 +1,6 @@
 use Rattle.std.proofs.Common.{◌≡◌, true, false}
 use Rattle.std.specs.Str.{is_utf8}
-use Rattle.bay_trace.proofs.WordLemmas.{is-utf8-false}
+use Rattle.bay_base.proofs.ListLemmas.{is-utf8-false}
 use Rattle.bay_auditing.proofs.audit_files.bay_again.Goals as goal
 
 pub unreachable-requires : goal.unreachable-requires

@@ -1,7 +1,7 @@
 use Rattle.std.proofs.Common.{◌≡◌, true, false}
 use Rattle.std.proofs.lemmas.Str.{is_utf8-from_IsUtf8}
 use Rattle.std.specs.Str.{is_utf8}
-use Rattle.bay_trace.proofs.WordLemmas.{is-utf8-false}
+use Rattle.bay_base.proofs.ListLemmas.{is-utf8-false}
 use Rattle.bay_report.proofs.load.load_logic.Goals as goal
 
 pub returns-in-Ok-clause-device : goal.returns-in-Ok-clause-device

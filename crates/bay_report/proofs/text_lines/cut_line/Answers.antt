@@ -2,7 +2,7 @@ use Rattle.std.proofs.Common.{rules, ◌+◌, ◌-◌, ◌<◌, length, subst, a
 use Rattle.bay_report.specs.TextLines.{CutsLine}
 use Rattle.bay_report.proofs.FeedLemmas.{first-feed, no-feed}
 use Rattle.bay_report.proofs.PieceLemmas.{cuts-fed, cuts-unfed}
-use Rattle.bay_trace.proofs.WordLemmas.{take-rest}
+use Rattle.bay_base.proofs.ListLemmas.{take-rest}
 use Rattle.bay_report.proofs.text_lines.cut_line.Goals as goal
 
 pub slice_bounds-without_return-end : goal.slice_bounds-without_return-end

@@ -3,8 +3,8 @@ use Rattle.std.proofs.lemmas.Result.{err_from_is_err_and}
 use Rattle.bay_files.specs.Files.{FilesData}
 use Rattle.bay_serving_files.proofs.FileLemmas.{text-runs}
 use Rattle.bay_serving_files.proofs.serve.load_files.Goals as goal
-use Rattle.bay_serving_laws.proofs.BeginLemmas.{begun-of}
-use Rattle.bay_serving_laws.proofs.TextLemmas.{loaded-named}
+use Rattle.bay_serving_files.proofs.BeginLemmas.{begun-of}
+use Rattle.bay_serving_files.proofs.TextLemmas.{loaded-named}
 
 pub returns-in_err-trace-clause-err : goal.returns-in_err-trace-clause-err
 returns-in_err-trace-clause-err g c =

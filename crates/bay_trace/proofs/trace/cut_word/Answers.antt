@@ -3,7 +3,8 @@ use Rattle.std.proofs.lemmas.Iterator.{YieldsList-from_slice}
 use Rattle.std.proofs.lemmas.Iterator.Search.{position_from_yields_List}
 use Rattle.std.specs.List.{slice_split}
 use Rattle.bay_trace.specs.Trace.{is_space}
-use Rattle.bay_trace.proofs.WordLemmas.{some-space, no-space, take-rest}
+use Rattle.bay_trace.proofs.WordLemmas.{some-space, no-space}
+use Rattle.bay_base.proofs.ListLemmas.{take-rest}
 use Rattle.bay_trace.proofs.trace.cut_word.Goals as goal
 
 pub returns-in-Some : goal.returns-in-Some

@@ -17,7 +17,7 @@ use Rattle.bay_device.specs.declared.fault.StepFault.TheVariants.{MomentTooLarge
 use Rattle.std.specs.Borrow.{Bor}
 use Rattle.std.proofs.Common.{nat_lt, false}
 use Rattle.bay_serve_laws.specs.Flows.{all_to, octets_to}
-use Rattle.bay_serving_laws.specs.Orders.{StandIn}
+use Rattle.bay_serving_files.specs.Orders.{StandIn}
 
 -- ---- lists
 

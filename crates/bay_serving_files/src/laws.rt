@@ -14,9 +14,9 @@ ghost use Rattle.bay_report_laws.specs.ReadBack.{HaveIds};
 ghost use Rattle.bay_serve.specs.Calls.{Called};
 ghost use Rattle.bay_serve.specs.Turns.{Held};
 ghost use Rattle.bay_serving.specs.ServeReport.{Serving, ServesTurns};
-ghost use Rattle.bay_serving_laws.specs.Orders.{AreOrdered};
-ghost use Rattle.bay_serving_laws.specs.Texts.{ArePrinted};
-ghost use Rattle.bay_serving_laws.specs.Service.{AreTurns, DoneTurn, IsBegun, IsService, turns_in};
+ghost use Rattle.bay_serving_files.specs.Orders.{AreOrdered};
+ghost use Rattle.bay_serving_files.specs.Texts.{ArePrinted};
+ghost use Rattle.bay_serving_files.specs.Service.{AreTurns, DoneTurn, IsBegun, IsService, turns_in};
 
 use bay_io::calls::Sink;
 use bay_serve::link::Link;

@@ -1,8 +1,8 @@
 use Rattle.bay_serve.specs.Calls.{Called}
-use Rattle.bay_serving_laws.specs.Service.{turns_in}
-use Rattle.bay_serving_laws.proofs.TextLemmas.{loaded-named, printed-from}
-use Rattle.bay_serving_laws.proofs.TurnLemmas.{turned}
-use Rattle.bay_serving_laws.proofs.laws.printed_commands_are_asked_for.Goals as goal
+use Rattle.bay_serving_files.specs.Service.{turns_in}
+use Rattle.bay_serving_files.proofs.TextLemmas.{loaded-named, printed-from}
+use Rattle.bay_serving_files.proofs.TurnLemmas.{turned}
+use Rattle.bay_serving_files.proofs.laws.printed_commands_are_asked_for.Goals as goal
 
 pub returns-clause-lines : goal.returns-clause-lines
 returns-clause-lines g c = λ turns lines before old new host answer serves begun ids.

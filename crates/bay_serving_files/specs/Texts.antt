@@ -10,8 +10,8 @@ use Rattle.bay_report_laws.specs.Printed.{PrintedCommand, lines_in, printed_comm
 use Rattle.bay_serve.specs.Turns.{Held}
 use Rattle.bay_serve_laws.specs.Events.{turn_events}
 use Rattle.bay_serving.specs.TurnLines.{turn_text}
-use Rattle.bay_serving_laws.specs.Orders.{IsOrdered}
-use Rattle.bay_serving_laws.specs.Service.{DoneTurn, held_behind, past_behind}
+use Rattle.bay_serving_files.specs.Orders.{IsOrdered}
+use Rattle.bay_serving_files.specs.Service.{DoneTurn, held_behind, past_behind}
 
 -- A line that reads as a command is of one that the turn told, at the turn's moment, to the switch
 -- with this id; and what stands behind the command stands behind the line.

@@ -22,7 +22,7 @@ use Rattle.bay_device.specs.declared.event.Step.{Step}
 use Rattle.bay_serve.specs.Turns.{Held, turn_calls}
 use Rattle.bay_serve_laws.specs.Events.{ChosenEvent, done_at, turn_events}
 use Rattle.bay_serve_laws.specs.Flows.{FlowsAt, given_of, sent_to}
-use Rattle.bay_serving_laws.specs.Service.{DoneTurn, held_behind, past_behind}
+use Rattle.bay_serving_files.specs.Service.{DoneTurn, held_behind, past_behind}
 
 -- Among these events is such a scan; it left the interlocking value of the command TRUE (EnaCls for
 -- on, EnaOpn for off), and on this device the process still tells what it told after it.

@@ -10,7 +10,7 @@ use Rattle.bay_device.specs.Device.{State}
 use Rattle.bay_device.specs.Fresh.{Past}
 use Rattle.bay_device.proofs.FreshLemmas.{ScannedAt, Since, Tracks, fresh-at, has-since, process-same}
 use Rattle.bay_device.proofs.SameLemmas.{Parts, Same}
-use Rattle.bay_serving_laws.specs.Orders.{IsReleasedBy}
+use Rattle.bay_serving_files.specs.Orders.{IsReleasedBy}
 
 -- A switch that may be operated, on a device that has changed only for its clients since, is
 -- released by the scan behind.

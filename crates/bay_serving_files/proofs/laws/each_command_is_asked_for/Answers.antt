@@ -1,8 +1,8 @@
 use Rattle.bay_serve.specs.Calls.{Called}
-use Rattle.bay_serving_laws.specs.Service.{turns_in}
-use Rattle.bay_serving_laws.proofs.BeginLemmas.{ordered-from}
-use Rattle.bay_serving_laws.proofs.TurnLemmas.{turned}
-use Rattle.bay_serving_laws.proofs.laws.each_command_is_asked_for.Goals as goal
+use Rattle.bay_serving_files.specs.Service.{turns_in}
+use Rattle.bay_serving_files.proofs.BeginLemmas.{ordered-from}
+use Rattle.bay_serving_files.proofs.TurnLemmas.{turned}
+use Rattle.bay_serving_files.proofs.laws.each_command_is_asked_for.Goals as goal
 
 pub returns : goal.returns
 returns g c = λ turns lines before old new host answer serves begun.

@@ -17,8 +17,8 @@ use Rattle.bay_serve_laws.proofs.PartLemmas.{Part-turn}
 use Rattle.bay_serving.specs.Host.{HostCall}
 use Rattle.bay_serving.specs.ServeReport.{AfterTurn, MayPause, Serving, ServesTurns, TurnGoes}
 use Rattle.bay_serving.specs.declared.process.Next.{Next}
-use Rattle.bay_serving_laws.specs.Service.{AreTurns, DoneTurn, IsService, IsTurn, held_after, held_behind, later_turns, past_behind, past_of, turn_in, turns_in}
-use Rattle.bay_serving_laws.proofs.HistoryLemmas.{Stands, one-run, stands-events, stands-first}
+use Rattle.bay_serving_files.specs.Service.{AreTurns, DoneTurn, IsService, IsTurn, held_after, held_behind, later_turns, past_behind, past_of, turn_in, turns_in}
+use Rattle.bay_serving_files.proofs.HistoryLemmas.{Stands, one-run, stands-events, stands-first}
 
 -- ---- all turns
 

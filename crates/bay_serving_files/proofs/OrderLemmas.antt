@@ -32,13 +32,13 @@ use Rattle.bay_serve_laws.proofs.TurnFlows.{loses-nothing}
 use Rattle.bay_serve_laws.proofs.UpLemmas.{number-of}
 use Rattle.std.proofs.lemmas.Bool.{and_parts}
 use Rattle.std.proofs.lemmas.Bool.Decides.{nat_tests}
-use Rattle.bay_serving_laws.specs.Orders.{AreOrdered, IsHeard, IsOrdered, StandIn}
-use Rattle.bay_serving_laws.specs.Service.{AreTurns, DoneTurn, IsTurn, held_behind, past_behind}
-use Rattle.bay_serving_laws.proofs.FrontLemmas.{OfAssociations, before-octets, same-events}
-use Rattle.bay_serving_laws.proofs.HistoryLemmas.{Stands, aged, stands-events}
-use Rattle.bay_serving_laws.proofs.OnceLemmas.{received-once}
-use Rattle.bay_serving_laws.proofs.ScanLemmas.{released-by}
-use Rattle.bay_serving_laws.proofs.SentLemmas.{Mapped, mapped, sent-to, stands-in}
+use Rattle.bay_serving_files.specs.Orders.{AreOrdered, IsHeard, IsOrdered, StandIn}
+use Rattle.bay_serving_files.specs.Service.{AreTurns, DoneTurn, IsTurn, held_behind, past_behind}
+use Rattle.bay_serving_files.proofs.FrontLemmas.{OfAssociations, before-octets, same-events}
+use Rattle.bay_serving_files.proofs.HistoryLemmas.{Stands, aged, stands-events}
+use Rattle.bay_serving_files.proofs.OnceLemmas.{received-once}
+use Rattle.bay_serving_files.proofs.ScanLemmas.{released-by}
+use Rattle.bay_serving_files.proofs.SentLemmas.{Mapped, mapped, sent-to, stands-in}
 
 none-among : {A : Type 0} (xs : List A) (x : A) → xs ≡ [] → Contains xs x → ⊥
 none-among xs x none has =

@@ -1,8 +1,8 @@
 use Rattle.bay_serve.specs.Calls.{Called}
-use Rattle.bay_serving_laws.proofs.BeginLemmas.{begun-of}
+use Rattle.bay_serving_files.proofs.BeginLemmas.{begun-of}
 use Rattle.bay_replay.proofs.LoadedLemmas.{loaded-from, loaded-runs}
-use Rattle.bay_serving_laws.proofs.TurnLemmas.{service-of}
-use Rattle.bay_serving_laws.proofs.laws.all_turns_are_one_run.Goals as goal
+use Rattle.bay_serving_files.proofs.TurnLemmas.{service-of}
+use Rattle.bay_serving_files.proofs.laws.all_turns_are_one_run.Goals as goal
 
 pub returns-clause-run : goal.returns-clause-run
 returns-clause-run g c = λ turns lines before old new host answer serves loaded.

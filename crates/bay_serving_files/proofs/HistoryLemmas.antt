@@ -16,7 +16,7 @@ use Rattle.bay_replay.proofs.HistoryLemmas.{past-fixed}
 use Rattle.bay_serve_laws.specs.Events.{ChosenEvent, done_at}
 use Rattle.bay_replay.specs.Runs.{IsOneRun}
 use Rattle.bay_replay.proofs.RunLemmas.{one-run as past-run}
-use Rattle.bay_serving_laws.specs.Service.{past_behind}
+use Rattle.bay_serving_files.specs.Service.{past_behind}
 
 -- ---- a device, and all that has happened to it since it was the first
 

@@ -19,7 +19,7 @@ use Rattle.bay_serve_laws.specs.Events.{ChosenEvent, surely, turn_events}
 use Rattle.bay_serve_laws.specs.Flows.{brought_by, received_of}
 use Rattle.bay_serve_laws.specs.Order.{Then, ThenReads, brought, opened, opened_at, read_at}
 use Rattle.bay_serve_laws.proofs.OrderLemmas.{in-order}
-use Rattle.bay_serving_laws.proofs.FrontLemmas.{AreWithout, Behind, IsFree, IsWithout, behind-without, closing-without, why_closed}
+use Rattle.bay_serving_files.proofs.FrontLemmas.{AreWithout, Behind, IsFree, IsWithout, behind-without, closing-without, why_closed}
 
 -- ---- no octets
 

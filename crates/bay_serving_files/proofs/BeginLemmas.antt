@@ -16,10 +16,10 @@ use Rattle.bay_report.specs.declared.load.Form.TheVariants.{Logic, Image}
 use Rattle.bay_serve.specs.Turns.{Held}
 use Rattle.bay_serve_laws.specs.Flows.{IsTidy}
 use Rattle.bay_serve_laws.proofs.RoomLemmas.{made-tidy}
-use Rattle.bay_serving_laws.specs.Orders.{AreOrdered}
-use Rattle.bay_serving_laws.specs.Service.{AreTurns, DoneTurn, IsBegun}
-use Rattle.bay_serving_laws.proofs.HistoryLemmas.{stands-first}
-use Rattle.bay_serving_laws.proofs.OrderLemmas.{all-ordered}
+use Rattle.bay_serving_files.specs.Orders.{AreOrdered}
+use Rattle.bay_serving_files.specs.Service.{AreTurns, DoneTurn, IsBegun}
+use Rattle.bay_serving_files.proofs.HistoryLemmas.{stands-first}
+use Rattle.bay_serving_files.proofs.OrderLemmas.{all-ordered}
 
 read-image : (b : Bay) (image : Result Code ImageFault) (s : State)
     → LoadsRead b image (let r : Result State LoadFault = Ok s in r) → Came [] s

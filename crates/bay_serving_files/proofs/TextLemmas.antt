@@ -39,12 +39,12 @@ use Rattle.bay_serve.specs.declared.told.Turn.{Turn}
 use Rattle.bay_serve_laws.specs.Events.{ChosenEvent, turn_events}
 use Rattle.bay_serve_laws.proofs.PartLemmas.{Part-turn}
 use Rattle.bay_serving.specs.TurnLines.{closings_text, memories_text, turn_text}
-use Rattle.bay_serving_laws.specs.Orders.{AreOrdered, IsOrdered}
-use Rattle.bay_serving_laws.specs.Texts.{ArePrinted, IsPrintedFor, IsTurnLine}
-use Rattle.bay_serving_laws.specs.Service.{AreTurns, DoneTurn, IsBegun, held_behind, past_behind}
-use Rattle.bay_serving_laws.proofs.BeginLemmas.{ordered-from}
-use Rattle.bay_serving_laws.proofs.HistoryLemmas.{Stands, stands-events, stands-first}
-use Rattle.bay_serving_laws.proofs.OrderLemmas.{ordered-on-time}
+use Rattle.bay_serving_files.specs.Orders.{AreOrdered, IsOrdered}
+use Rattle.bay_serving_files.specs.Texts.{ArePrinted, IsPrintedFor, IsTurnLine}
+use Rattle.bay_serving_files.specs.Service.{AreTurns, DoneTurn, IsBegun, held_behind, past_behind}
+use Rattle.bay_serving_files.proofs.BeginLemmas.{ordered-from}
+use Rattle.bay_serving_files.proofs.HistoryLemmas.{Stands, stands-events, stands-first}
+use Rattle.bay_serving_files.proofs.OrderLemmas.{ordered-on-time}
 
 -- ---- the lines of a turn
 

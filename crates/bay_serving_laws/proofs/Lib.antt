@@ -1,9 +1,0 @@
-pub mod BeginLemmas
-pub mod FrontLemmas
-pub mod HistoryLemmas
-pub mod OnceLemmas
-pub mod OrderLemmas
-pub mod ScanLemmas
-pub mod SentLemmas
-pub mod TextLemmas
-pub mod TurnLemmas
