@@ -41,12 +41,12 @@ def lines_in(crate: str, part: str, ending: str) -> int:
 
 def row_of(crate: str, of: dict) -> Row:
     """A crate's row: lines of code, definitions, proofs, edits, and its figures. What a run does
-    and no figure tells is `-`."""
+    and no figure tells is `-`; what a run no longer does is 0."""
     edits = len(list((TOP / 'crates' / crate / 'must-fail').glob('*.edit')))
     lines = [lines_in(crate, 'src', '.rt'), lines_in(crate, 'specs', '.antt'),
              lines_in(crate, 'proofs', '.antt')]
     does = kinds_in(crate)
-    seconds = [round(of[it]) if of.get(it) else '-' if it in does else 0 for it in KINDS]
+    seconds = [0 if it not in does else round(of[it]) if of.get(it) else '-' for it in KINDS]
     told = of.get('commit', '-') + (' (old)' if is_old(crate, of) else '')
     return [crate, *lines, edits, *seconds, told]
 

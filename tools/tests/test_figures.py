@@ -138,6 +138,10 @@ class Gate(unittest.TestCase):
                          ['all 2, as far as measured', 30, 4, 6, 1, 5, 0, 0, 0, 0, ''])
         self.assertEqual(costs.total_of(rows[:1])[0], 'all 1')
 
+    def test_what_a_run_no_longer_does_costs_nothing(self):
+        row = costs.row_of('bay_base', {'proof': 36.0, 'edits': 20.0, 'tests': 7.0})
+        self.assertEqual(row[5:10], [36, 0, 0, 0, 0])
+
     def test_the_table_has_a_row_for_each_crate(self):
         with mock.patch.object(costs, 'figures', return_value={}):
             rows = costs.rows()

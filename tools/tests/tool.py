@@ -33,6 +33,7 @@ def loaded(name: str) -> types.ModuleType:
     """A tool as a module."""
     loader = importlib.machinery.SourceFileLoader(f'tool_{name}', str(TOOLS / name))
     module = types.ModuleType(loader.name)
+    module.__file__ = str(TOOLS / name)
     loader.exec_module(module)
     return module
 
