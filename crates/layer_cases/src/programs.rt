@@ -1,69 +1,25 @@
-// Programs from their text to the image, and to the machine that runs it. In a text ` / ` ends a
-// line, and `N * LINE` is that line N times.
-use crate::images::{machine_of, verified_of};
+// Programs from their text to the image, images from their octets, and scans of the machine that
+// runs the last one.
+ghost use Rattle.std.specs.Prelude.{◌<◌, length};
+
+use crate::texts::text_of;
 use anyhow::{Context, Result, bail};
+use bay_base::listing::Listing;
 use bay_config::bay::Point;
-use cases::octets::check_octets;
-use cases::told::check_text;
-use cases::words::{first_word, front_words};
+use bay_config::read::read_bay;
+use cases::octets::octets_of;
+use cases::words::first_word;
 use il_check::check::check;
 use il_compile::compile::compile;
+use il_image::decode::decode;
 use il_image::encode::encode;
-use il_image::image::Image;
+use il_image::image::{Image, ImagePoint};
 use il_image::read::instr_at;
+use il_image::value::Value;
 use il_scan::machine::Machine;
-use il_text::program::Program;
 use il_text::read::read_program;
-use il_verify::verify::Verified;
+use il_verify::verify::verify;
 use std::alloc::{AllocError, Global};
-
-// Appends the lines of a text.
-fn push_lines(text: &mut String, lines: &str) -> Result<()> {
-    for part in lines.split(" / ") {
-        let (times, line) = part.split_once(" * ").unwrap_or(("1", part));
-        for _ in 0..times.parse::<u32>()? {
-            writeln!(text, "{line}")?;
-        }
-    }
-    Ok(())
-}
-
-// Returns how many words give the expectation of a case of this kind.
-fn words_of(kind: &str) -> usize {
-    match kind {
-        "check" => 2,
-        "report" => 3,
-        _ => 1,
-    }
-}
-
-// Returns the program of declarations and lines.
-fn program_of(alloc: Global, declared: &str, lines: &str) -> Result<String> {
-    let mut text = String::from_str(alloc, "PROGRAM P\n")?;
-    push_lines(&mut text, declared)?;
-    push_lines(&mut text, lines)?;
-    text.push_str("END_PROGRAM\n")?;
-    Ok(text)
-}
-
-// Checks the number and the line of the fault that the checks find in a program; 0 and 0 if there
-// is none.
-fn check_fault(alloc: Global, points: &[Point], program: &Program<'_>, wanted: &str) -> Result<()> {
-    let (code, line) = match check(alloc, program, points) {
-        Ok(_) => (0, 0),
-        Err(fault) => (fault.code().context("out of memory")?, fault.line()),
-    };
-    check_text(format!(in alloc; "{code} {line}")?.as_str(), wanted)
-}
-
-// Returns the image of a program, or the number of the fault for which it is not compiled.
-fn compiled(alloc: Global, points: &[Point], program: &Program<'_>) -> Result<Result<Image, u8>> {
-    let typed = check(alloc, program, points)?;
-    match compile(alloc, &typed) {
-        Ok(image) => Ok(Ok(image)),
-        Err(fault) => Ok(Err(fault.code().context("out of memory")?)),
-    }
-}
 
 // Counts the instructions of code.
 fn instructions(code: &[u8]) -> u32 {
@@ -78,61 +34,161 @@ fn instructions(code: &[u8]) -> u32 {
     count
 }
 
-// Returns the report of a verified program.
-fn report_text(alloc: Global, verified: &Verified) -> Result<String, AllocError> {
-    let count = instructions(verified.image().code());
-    format!(in alloc; "{count} {} {}", verified.depth(), verified.budget())
-}
-
-// Checks the octets of an image, or their number.
-fn check_image(alloc: Global, kind: &str, image: &Image, wanted: &str) -> Result<()> {
-    let octets = encode(alloc, image)?;
-    match kind {
-        "image" => check_octets(alloc, octets.as_slice(), wanted),
-        _ => check_text(format!(in alloc; "{}", octets.len())?.as_str(), wanted),
+// Returns an image's octets, its points, each with its name, its type and whether it is writable,
+// its variables and its timers.
+fn image_text(alloc: Global, image: &Image) -> Result<String, AllocError> {
+    let mut text = String::new(alloc);
+    for point in image.points() {
+        let (name, kind, writable) = (point.name.as_str(), point.elementary, point.writable);
+        write!(text, "{name} {kind:?} {writable}; ")?;
     }
+    let octets = hex::encode(alloc, encode(alloc, image)?.as_slice())?;
+    write!(
+        text,
+        "{:?} {:?} |{octets}",
+        image.variables(),
+        image.timers()
+    )?;
+    Ok(text)
 }
 
-// Checks an image's report, and returns its machine.
-fn reported(alloc: Global, points: &[Point], image: Image, wanted: &str) -> Result<Machine> {
-    let verified = verified_of(alloc, points, image)?;
-    check_text(report_text(alloc, &verified)?.as_str(), wanted)?;
-    machine_of(alloc, verified)
+// Returns the image of octets, or the number of their fault.
+fn decoded(alloc: Global, octets: &[u8]) -> Result<String> {
+    Ok(match decode(alloc, octets) {
+        Ok(image) => image_text(alloc, &image),
+        Err(fault) => format!(in alloc; "{} {fault}", fault.code().unwrap_or(0)),
+    }?)
 }
 
-// Runs a case of a compiled program, and returns its machine if the case is a report.
-fn check_compiled(
+// Counts what octets are with the one at an index changed to each other value: an image, or
+// refused with 80, 81, 82 or 83.
+fn count_at(alloc: Global, octets: &mut [u8], at: usize, counts: &mut [u32; 5])
+    requires { at < length octets.old }
+{
+    let was = octets[at];
+    for value in 0..=255u8 {
+        octets[at] = value;
+        let place = match decode(alloc, octets) {
+            Ok(_) => 0,
+            Err(fault) => usize::from(fault.code().unwrap_or(0)).wrapping_sub(79),
+        };
+        if value != was && place < 5 {
+            counts[place] = counts[place].saturating_add(1);
+        }
+    }
+    octets[at] = was;
+}
+
+// Counts the same over all octets.
+fn changed(alloc: Global, octets: &mut [u8]) -> Result<String, AllocError> {
+    let mut counts = [0u32; 5];
+    for at in 0..octets.len() {
+        count_at(alloc, octets, at, &mut counts);
+    }
+    format!(in alloc; "{counts:?}")
+}
+
+// Returns the values of the read-only points from their numbers, with commas between them.
+fn inputs_of(alloc: Global, points: &[ImagePoint], numbers: &str) -> Result<Vec<Value>> {
+    let mut inputs = Vec::new(alloc);
+    let mut words = numbers.split(",");
+    for point in points {
+        if !point.writable {
+            let number = words.next().unwrap_or("").parse::<i64>()?;
+            inputs.push(Value::of(point.elementary, number).context("no such value")?)?;
+        }
+    }
+    Ok(inputs)
+}
+
+/// What the next programs declare, and the machine that is scanned.
+#[derive(Drop)]
+pub struct Programs<'a> {
     alloc: Global,
-    points: &[Point],
-    kind: &str,
-    image: Result<Image, u8>,
-    wanted: &str,
-) -> Result<Option<Machine>> {
-    match (kind, image) {
-        ("fault", Err(code)) => check_text(format!(in alloc; "{code}")?.as_str(), wanted)?,
-        ("report", Ok(image)) => return Ok(Some(reported(alloc, points, image, wanted)?)),
-        ("image" | "size", Ok(image)) => check_image(alloc, kind, &image, wanted)?,
-        _ => bail!("it is compiled otherwise"),
-    }
-    Ok(None)
+    points: Listing<Point>,
+    declared: &'a str,
+    machine: Option<Machine>,
 }
 
-/// Runs a case of a program: its kind, its expectation, and its lines. A report returns the machine
-/// that is scanned from then on.
-pub fn check_program(
-    alloc: Global,
-    points: &[Point],
-    declared: &str,
-    line: &str,
-) -> Result<Option<Machine>> {
-    let (kind, words) = first_word(line);
-    let (wanted, lines) = front_words(words, words_of(kind));
-    let text = program_of(alloc, declared, lines)?;
-    let program = read_program(alloc, text.as_str())?;
-    if kind == "check" {
-        check_fault(alloc, points, &program, wanted)?;
-        return Ok(None);
+impl<'a> Programs<'a> {
+    /// Creates them for the points of a bay.
+    pub fn new(alloc: Global, bay: &str) -> Result<Programs<'a>> {
+        Ok(Programs {
+            alloc,
+            points: read_bay(alloc, bay)?.points,
+            declared: "",
+            machine: None,
+        })
     }
-    let image = compiled(alloc, points, &program)?;
-    check_compiled(alloc, points, kind, image, wanted)
+
+    /// Takes what the next programs declare.
+    pub fn declare(&mut self, declared: &'a str) {
+        self.declared = declared;
+    }
+
+    // Returns the report of an image, whose machine is scanned from then on, or the number of its
+    // fault and the place.
+    fn verdict(&mut self, image: Image) -> Result<String, AllocError> {
+        match verify(self.alloc, image, self.points.as_slice()) {
+            Ok(verified) => {
+                let (depth, budget) = (verified.depth(), verified.budget());
+                let count = instructions(verified.image().code());
+                self.machine = Machine::new(self.alloc, verified).ok();
+                format!(in self.alloc; "{count} {depth} {budget}")
+            }
+            Err(refused) => {
+                let code = refused.fault.code().unwrap_or(0);
+                format!(in self.alloc; "{code} {} {}", refused.place, refused.fault)
+            }
+        }
+    }
+
+    // Returns what becomes of a program: the number and the line of the fault that the checks find,
+    // or `0 0`; the octets of its image; or the image's report.
+    fn program(&mut self, kind: &str, lines: &str) -> Result<String> {
+        let (alloc, declared) = (self.alloc, self.declared);
+        let spelled = format!(in alloc; "PROGRAM P\\n{declared}\\n{lines}\\nEND_PROGRAM\\n")?;
+        let text = text_of(alloc, spelled.as_str())?;
+        let program = read_program(alloc, text.as_str())?;
+        let typed = match check(alloc, &program, self.points.as_slice()) {
+            Ok(_) if kind == "check" => return Ok(format!(in alloc; "0 0")?),
+            Ok(typed) => typed,
+            Err(fault) => {
+                let (code, line) = (fault.code().unwrap_or(0), fault.line());
+                return Ok(format!(in alloc; "{code} {line} {fault}")?);
+            }
+        };
+        Ok(match compile(alloc, &typed) {
+            Ok(image) if kind == "octets" => image_text(alloc, &image),
+            Ok(image) => self.verdict(image),
+            Err(fault) => format!(in alloc; "{} {fault}", fault.code().unwrap_or(0)),
+        }?)
+    }
+
+    // Returns the steps and the outputs of a scan at a time.
+    fn scan(&mut self, now: &str, numbers: &str) -> Result<String> {
+        let machine = self.machine.as_mut().context("no machine")?;
+        let inputs = inputs_of(self.alloc, machine.verified().image().points(), numbers)?;
+        if !machine.fits(inputs.as_slice()) {
+            bail!("these are no inputs of the program");
+        }
+        let scan = machine.scan(inputs.as_slice(), now.parse::<u64>()?);
+        Ok(format!(in self.alloc; "{} {:?}", scan.steps, scan.outputs)?)
+    }
+
+    /// Answers a line.
+    pub fn answer(&mut self, kind: &str, words: &str) -> Result<String> {
+        let (alloc, (first, rest)) = (self.alloc, first_word(words));
+        match kind {
+            "check" | "octets" | "report" => return self.program(kind, words),
+            "scan" => return self.scan(first, rest),
+            _ => {}
+        }
+        let mut octets = octets_of(alloc, words)?;
+        match kind {
+            "decoded" => decoded(alloc, octets.as_slice()),
+            "changed" => Ok(changed(alloc, octets.as_mut_slice())?),
+            _ => Ok(self.verdict(decode(alloc, octets.as_slice())?)?),
+        }
+    }
 }

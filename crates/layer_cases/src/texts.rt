@@ -1,80 +1,60 @@
-// Texts, in which `\n`, `\r` and `\t` stand for the characters, and what is read of them.
-use crate::shown::shown_of;
-use anyhow::{Context, Result, bail};
-use cases::told::check_text;
-use cases::words::first_word;
+// Texts and what is read of them. In a case `\n` and ` / ` end a line, `\r` and `\t` stand for the
+// characters, and between two `\n` `N * LINE` is a line N times.
+use anyhow::Result;
+use il_text::program::{Item, Program};
 use il_text::read::read_program;
-use std::alloc::Global;
+use std::alloc::{AllocError, Global};
 
-// Returns the text that a line spells with escapes.
-fn unescaped(alloc: Global, line: &str) -> Result<String> {
-    let lines = line.replace(alloc, "\\n", "\n")?;
-    let returns = lines.replace(alloc, "\\r", "\r")?;
-    Ok(returns.replace(alloc, "\\t", "\t")?)
+/// Returns the text that a case spells.
+pub fn text_of(alloc: Global, spelled: &str) -> Result<String> {
+    let mut text = String::new(alloc);
+    let mut before = "";
+    for part in spelled.split("\\n") {
+        let (times, line) = part.split_once(" * ").unwrap_or(("1", part));
+        for _ in 0..times.parse::<u32>()? {
+            write!(text, "{before}{line}")?;
+            before = "\n";
+        }
+    }
+    for (spelled, meant) in [(" / ", "\n"), ("\\r", "\r"), ("\\t", "\t")] {
+        text = text.replace(alloc, spelled, meant)?;
+    }
+    Ok(text)
 }
 
 // Returns what precedes and follows the text of a case: nothing if it is a whole text; a program,
 // whose body begins on the second line; or a block of declarations, which begin on the third.
 fn around(kind: &str) -> (&str, &str) {
     match kind {
-        "text" | "declares" => ("", ""),
-        "local" => ("PROGRAM P\nVAR\n", "\nEND_VAR\nEND_PROGRAM\n"),
-        "external" => ("PROGRAM P\nVAR_EXTERNAL\n", "\nEND_VAR\nEND_PROGRAM\n"),
-        _ => ("PROGRAM P\n", "\nEND_PROGRAM\n"),
+        "text" => ("", ""),
+        "local" => ("PROGRAM P\\nVAR\\n", "\\nEND_VAR\\nEND_PROGRAM\\n"),
+        "external" => ("PROGRAM P\\nVAR_EXTERNAL\\n", "\\nEND_VAR\\nEND_PROGRAM\\n"),
+        _ => ("PROGRAM P\\n", "\\nEND_PROGRAM\\n"),
     }
 }
 
-// Returns the whole text of a case.
-fn surrounded(alloc: Global, kind: &str, line: &str) -> Result<String> {
-    let (before, after) = around(kind);
-    let text = unescaped(alloc, line)?;
-    Ok(format!(in alloc; "{before}{text}{after}")?)
-}
-
-// Returns the program with a body line repeated, followed by an end: `TIMES EQUAL|END`.
-fn repeated(alloc: Global, words: &str) -> Result<String> {
-    let (times, rest) = first_word(words);
-    let (equal, end) = rest.split_once("|").context("no end")?;
-    let equal = unescaped(alloc, equal)?;
-    let mut text = String::from_str(alloc, "PROGRAM P\n")?;
-    for _ in 0..times.parse::<usize>()? {
-        text.push_str(equal.as_str())?;
+// Returns the declarations of a program and its first instruction.
+fn program_text(alloc: Global, program: &Program<'_>) -> Result<String, AllocError> {
+    let mut text = String::new(alloc);
+    for declaration in program.declarations.iter() {
+        write!(text, "{declaration:?}; ")?;
     }
-    text.push_str(unescaped(alloc, end)?.as_str())?;
+    if let Some(Item::Instruction { instruction, .. }) = program.items.first() {
+        write!(text, "{instruction:?}")?;
+    }
     Ok(text)
 }
 
-// Checks that a text is refused with this number at this line, or read if both are 0.
-fn check_refused(alloc: Global, text: &str, number: &str, line: &str) -> Result<()> {
-    let wanted = (number.parse::<u8>()?, line.parse::<usize>()?);
-    let found = match read_program(alloc, text) {
-        Ok(_) => (0, 0),
-        Err(fault) => (fault.code().context("out of memory")?, fault.line()),
-    };
-    if found != wanted {
-        bail!("it is {found:?}");
-    }
-    Ok(())
-}
-
-/// Runs a case of a text: its kind; then a refusal's number and line, and the text; or the
-/// description of the text before a `|`, and the text.
-pub fn check_program_text(alloc: Global, line: &str) -> Result<()> {
-    let (kind, words) = first_word(line);
-    match kind {
-        "text" | "body" | "local" | "external" | "repeat" => {}
-        "reads" | "outline" | "says" | "declares" => {
-            let (wanted, text) = words.split_once("|").context("no text")?;
-            let text = surrounded(alloc, kind, text)?;
-            return check_text(shown_of(alloc, kind, text.as_str())?.as_str(), wanted);
-        }
-        _ => bail!("what is this: {kind}"),
-    }
-    let (number, rest) = first_word(words);
-    let (at, text) = first_word(rest);
-    let text = match kind {
-        "repeat" => repeated(alloc, text)?,
-        _ => surrounded(alloc, kind, text)?,
-    };
-    check_refused(alloc, text.as_str(), number, at)
+/// Returns the number and the line of a text's refusal, or `0 0` if it is read. With `reads` it is
+/// what is read, or the refusal in words.
+pub fn reading(alloc: Global, kind: &str, spelled: &str) -> Result<String> {
+    let (before, after) = around(kind);
+    let spelled = format!(in alloc; "{before}{spelled}{after}")?;
+    let text = text_of(alloc, spelled.as_str())?;
+    Ok(match read_program(alloc, text.as_str()) {
+        Ok(program) if kind == "reads" => program_text(alloc, &program),
+        Ok(_) => format!(in alloc; "0 0"),
+        Err(fault) if kind == "reads" => format!(in alloc; "{fault}"),
+        Err(fault) => format!(in alloc; "{} {}", fault.code().unwrap_or(0), fault.line()),
+    }?)
 }

@@ -1,0 +1,119 @@
+// Octets of a connection and TSDUs of an association, and what they come to.
+ghost use Rattle.std.specs.Prelude.{◌≤◌, length, IfOk};
+
+use anyhow::{Result, bail};
+use bay_assoc::assoc::Assoc;
+use bay_assoc::hearing::Heard;
+use bay_transport::fed::{Fed, Got};
+use bay_transport::transport::Transport;
+use cases::octets::octets_of;
+use std::alloc::{AllocError, Global};
+
+// Appends a word and octets.
+fn put(alloc: Global, text: &mut String, word: &str, octets: &[u8]) -> Result<(), AllocError> {
+    write!(text, "{word}|{} ", hex::encode(alloc, octets)?)
+}
+
+// Feeds octets once and appends what they come to. Returns how many were taken, or none if the
+// connection is over.
+fn feed(
+    alloc: Global,
+    transport: &mut Transport,
+    piece: &[u8],
+    text: &mut String,
+) -> Result<usize, AllocError>
+    ensures { IfOk result (λ used. used ≤ length piece.now) }
+{
+    match transport.feed(piece) {
+        Ok(
+            Fed {
+                used,
+                got: Got::More,
+            },
+        ) => return Ok(used),
+        Ok(
+            Fed {
+                used,
+                got: Got::Answer,
+            },
+        ) => {
+            put(alloc, text, "answer", transport.shown())?;
+            return Ok(used);
+        }
+        Ok(
+            Fed {
+                used,
+                got: Got::Tsdu,
+            },
+        ) => {
+            put(alloc, text, "tsdu", transport.shown())?;
+            return Ok(used);
+        }
+        Ok(
+            Fed {
+                got: Got::Ended,
+                ..
+            },
+        ) => text.push_str("ended ")?,
+        Err(fault) => write!(text, "{} {fault} ", fault.code().unwrap_or(0))?,
+    }
+    Ok(0)
+}
+
+// Returns what octets in pieces of at most `size` come to, and one octet after them.
+fn stream_in(alloc: Global, number: u16, octets: &[u8], size: usize) -> Result<String, AllocError> {
+    let mut transport = Transport::new(alloc, number);
+    let mut text = String::new(alloc);
+    let mut rest = octets;
+    for _ in 0..octets.len() {
+        let end = size.min(rest.len());
+        match feed(alloc, &mut transport, &rest[..end], &mut text)? {
+            0 => break,
+            used => rest = &rest[used..],
+        }
+    }
+    feed(alloc, &mut transport, &[3], &mut text)?;
+    Ok(text)
+}
+
+/// Returns what the octets of a connection come to, which may not depend on how they are cut.
+pub fn stream(alloc: Global, number: &str, octets: &[u8]) -> Result<String> {
+    let number = number.parse::<u16>()?;
+    let whole = stream_in(alloc, number, octets, 65_536)?;
+    for size in [1, 3, 100] {
+        let cut = stream_in(alloc, number, octets, size)?;
+        if cut.as_str() != whole.as_str() {
+            bail!("in pieces of {size} it is {cut}");
+        }
+    }
+    Ok(whole)
+}
+
+/// Returns the frames of a TSDU behind a request.
+pub fn wrapped(alloc: Global, tsdu: &str, request: &[u8]) -> Result<String> {
+    let tsdu = octets_of(alloc, tsdu)?;
+    let mut transport = Transport::new(alloc, 1);
+    transport.feed(request)?;
+    if transport.agreed_size().is_none() {
+        bail!("no request");
+    }
+    let frames = transport.wrap(&[], tsdu.as_slice())?;
+    Ok(format!(in alloc; "|{}", hex::encode(alloc, frames.as_slice())?)?)
+}
+
+/// Returns what is heard of TSDUs in turn.
+pub fn association(alloc: Global, tsdus: &str) -> Result<String> {
+    let mut assoc = Assoc::new(alloc);
+    let mut text = String::new(alloc);
+    for word in tsdus.split(" ") {
+        let tsdu = octets_of(alloc, word)?;
+        match assoc.on_tsdu(tsdu.as_slice()) {
+            Ok(Heard::Answer(octets)) => put(alloc, &mut text, "answer", octets.as_slice()),
+            Ok(Heard::Mms(pdu)) => put(alloc, &mut text, "mms", pdu),
+            Ok(Heard::Released(octets)) => put(alloc, &mut text, "released", octets.as_slice()),
+            Ok(Heard::Aborted) => text.push_str("aborted "),
+            Err(fault) => write!(text, "{} {fault} ", fault.code().unwrap_or(0)),
+        }?;
+    }
+    Ok(text)
+}
