@@ -66,7 +66,7 @@ enum Section<'a> {
     Controls(ControlSession),
     Tree(Rows),
     // Lines that do not depend on each other.
-    Lines(Global),
+    Lines,
 }
 
 // Answers a line that does not depend on those before it.
@@ -107,7 +107,7 @@ impl<'a> Section<'a> {
             "programs" => Section::Programs(Programs::new(alloc, bay)?),
             "controls" => Section::Controls(ControlSession::new(alloc, bay)?),
             "tree" => Section::Tree(Rows::new(alloc)),
-            _ => Section::Lines(alloc),
+            _ => Section::Lines,
         })
     }
 
@@ -133,7 +133,7 @@ impl<'a> Section<'a> {
             Section::Programs(programs) => programs.answer(kind, words),
             Section::Controls(session) => session.answer(asked),
             Section::Tree(rows) => rows.answer(kind, words),
-            Section::Lines(alloc) => answer(*alloc, kind, words),
+            Section::Lines => answer(alloc, kind, words),
         }?;
         check_found(alloc, found.trim_end(), wanted)
     }
