@@ -25,13 +25,13 @@
 //   the text is read: a whole text, the lines of a body, a declaration of either kind. `reads` is
 //   the declarations and the first instruction of a body, or the message of its refusal.
 // - `programs`: `= TEXT` is what the next ones declare; `check LINES` is the number, the line and
-//   the message of the fault that the checks find, or `0 0`; line 1 is PROGRAM's, and the declarations begin at
-//   line 2. `octets LINES` is a program's image in words and in octets, as `decoded OCTETS` is an
-//   image's. `report LINES` and `image OCTETS` are a program's and an image's instructions, depth
-//   and budget, or the number, the place and the message of its fault; it is scanned from then on.
-//   `scan MS INPUTS` are the steps and the outputs of a scan, with commas between the numbers of
-//   the inputs. `changed OCTETS` counts what an image is with each octet changed to each other
-//   value: an image, or refused with 80, 81, 82 or 83.
+//   the message of the fault that the checks find, or `0 0`; line 1 is PROGRAM's, and the
+//   declarations begin at line 2. `octets LINES` is a program's image in words and in octets, as
+//   `decoded OCTETS` is an image's. `report LINES` and `image OCTETS` are a program's and an
+//   image's instructions, depth and budget, or the number, the place and the message of its fault;
+//   it is scanned from then on. `scan MS INPUTS` are the steps and the outputs of a scan, with
+//   commas between the numbers of the inputs. `changed OCTETS` counts what an image is with each
+//   octet changed to each other value: an image, or refused with 80, 81, 82 or 83.
 // - `controls`: what a bay's controls are asked (`controls` says how), which `start` makes anew.
 //
 // `bay` is a bay file, whose points the next programs name. In `fields`, `points` and `rows` the
