@@ -1,12 +1,13 @@
-"""What stands in no contract: the words of the help, word for word, words that are no text, and
-files that may not be read or written. Each check has the name of the wrong behaviour that it
-refuses."""
+"""What stands in no contract: the words of the help, word for word, words that are no text, files
+that may not be read or written, and what reaches standard output and standard error. Each check has
+the name of the wrong behaviour that it refuses."""
 import os
 import pathlib
 import re
 import resource
 import shutil
 import signal
+import socket
 import subprocess
 import tempfile
 
@@ -15,6 +16,7 @@ from .limits import LOGIC, bay
 HELP = pathlib.Path(__file__).with_name('help.txt')
 NOBODY = 65_534  # the user who is no one, in whose place root runs a program
 OLD = [('out.image', b'old')]
+FULL = pathlib.Path('/dev/full')
 NO_TEXT = b'error: a word of the command line is no text\n'
 
 
@@ -114,4 +116,39 @@ def closed(checks) -> None:
         shut.chmod(0o755)
 
 
-PARTS = (helps, no_texts, telling, files, closed)
+def ends(checks) -> None:
+    """What the program prints, logs and ends with: a file that is not there, a refused load, a port
+    that is taken, and an output that is full."""
+    load = ['--bay', checks.file('bay.toml', bay()), '--logic']
+    none, wrong = (checks.folder / 'none.il',
+                   checks.file('wrong.il', 'PROGRAM P\nLD A\nEND_PROGRAM\n'))
+    right = [*load, checks.file('logic.il', LOGIC)]
+    report = printed([checks.bayctl, 'check', *right])[1]
+    with socket.create_server(('127.0.0.1', 0)) as taken:
+        port = taken.getsockname()[1]
+        for name, words, wanted in (
+                ('the program has no report', ['check', '--log', *right], (0, report, '')),
+                ('a file that is not there is not logged', ['check', '--log', *load, none],
+                 (3, 'fault 121\n', f'bayctl: fault 121: {none}: there is no such file\n')),
+                ('a refused load is not logged', ['check', '--log', *load, wrong],
+                 (1, 'load refused 70 line 2\n',
+                  'bayctl: load refused 70 line 2: the name is unknown\n')),
+                ('a taken port is something else',
+                 ['serve', '--log', *right, '--turns', '1', '--port', str(port)],
+                 (3, f'{report}fault 121\n',
+                  f'bayctl: fault 121: port {port}: another program uses it\n'))):
+            told = printed([checks.bayctl, *words])
+            checks.holds(name, told == wanted and report.startswith('instructions='), str(told))
+    if not FULL.exists():
+        print(f'left out, since there is no {FULL}: output that is full')
+        return
+    why = "bayctl: fault 122: standard output: it can't be written\n"
+    for words, wanted in (([], 'fault 122\n'), (['--log'], f'{why}fault 122\n')):
+        with FULL.open('wb') as full:
+            done = subprocess.run([checks.bayctl, 'replay', *words], stdin=subprocess.DEVNULL,
+                                  stdout=full, stderr=subprocess.PIPE, text=True)
+        checks.holds('a full output is no fault', (done.returncode, done.stderr) == (3, wanted),
+                     f'{done.returncode} {done.stderr!r}')
+
+
+PARTS = (helps, no_texts, telling, files, closed, ends)

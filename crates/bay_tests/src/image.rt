@@ -1,12 +1,9 @@
-// Values and instructions, with rows whose values come from the format and the standard.
-use bay_base::types::ElementaryType;
-use il_image::arithmetic::{ArithmeticOperation, Comparison, Width, compare, compute, wrap};
+// Instructions and arithmetic, with rows whose values come from the format and the standard.
+use il_image::arithmetic::{Comparison, ArithmeticOperation, Width, compute};
 use il_image::instr::Instr;
-use il_image::kind::{CellKind, is_within, join};
 use il_image::opcode::{Connective, SlotUse, TimerUse, When, Widening};
 use il_image::read::instr_at;
 use il_image::value::Value;
-use std::alloc::{AllocError, Global};
 use std::test::Fail;
 
 const INSTRS: [(&[u8], Instr); 37] = [
@@ -30,26 +27,11 @@ const INSTRS: [(&[u8], Instr); 37] = [
     (&[0x0C], Instr::Combine(Connective::And)),
     (&[0x0D], Instr::Combine(Connective::Or)),
     (&[0x0E], Instr::Combine(Connective::Xor)),
-    (
-        &[0x0F, 0x02],
-        Instr::Compute(ArithmeticOperation::Add, Width::Int),
-    ),
-    (
-        &[0x10, 0x03],
-        Instr::Compute(ArithmeticOperation::Sub, Width::Dint),
-    ),
-    (
-        &[0x11, 0x05],
-        Instr::Compute(ArithmeticOperation::Mul, Width::Lint),
-    ),
-    (
-        &[0x12, 0x02],
-        Instr::Compute(ArithmeticOperation::Div, Width::Int),
-    ),
-    (
-        &[0x13, 0x03],
-        Instr::Compute(ArithmeticOperation::Mod, Width::Dint),
-    ),
+    (&[0x0F, 0x02], Instr::Compute(ArithmeticOperation::Add, Width::Int)),
+    (&[0x10, 0x03], Instr::Compute(ArithmeticOperation::Sub, Width::Dint)),
+    (&[0x11, 0x05], Instr::Compute(ArithmeticOperation::Mul, Width::Lint)),
+    (&[0x12, 0x02], Instr::Compute(ArithmeticOperation::Div, Width::Int)),
+    (&[0x13, 0x03], Instr::Compute(ArithmeticOperation::Mod, Width::Dint)),
     (&[0x14], Instr::Compare(Comparison::Gt)),
     (&[0x15], Instr::Compare(Comparison::Ge)),
     (&[0x16], Instr::Compare(Comparison::Eq)),
@@ -99,13 +81,7 @@ const RESULTS: [(ArithmeticOperation, Width, i64, i64, i64); 14] = [
     (ArithmeticOperation::Mul, Width::Int, 300, 300, 24_464),
     (ArithmeticOperation::Mul, Width::Dint, 65_536, 65_536, 0),
     (ArithmeticOperation::Div, Width::Int, -32_768, -1, -32_768),
-    (
-        ArithmeticOperation::Div,
-        Width::Lint,
-        i64::MIN,
-        -1,
-        i64::MIN,
-    ),
+    (ArithmeticOperation::Div, Width::Lint, i64::MIN, -1, i64::MIN),
     (ArithmeticOperation::Div, Width::Int, -7, 2, -3),
     (ArithmeticOperation::Div, Width::Dint, 7, -2, -3),
     (ArithmeticOperation::Mod, Width::Int, -7, 2, -1),
@@ -114,29 +90,19 @@ const RESULTS: [(ArithmeticOperation, Width, i64, i64, i64); 14] = [
     (ArithmeticOperation::Sub, Width::Lint, i64::MIN, 1, i64::MAX),
 ];
 
-// Whether an instruction is encoded as these octets, and they decode to it between a DROP and a
-// HALT.
-fn is_spelled(alloc: Global, octets: &[u8], instr: Instr) -> Result<bool, AllocError> {
-    let mut code = [0x06].to_vec(alloc)?;
-    instr.spell(&mut code)?;
-    let is_so = &code.as_slice()[1..] == octets;
-    code.push(0x01)?;
-    Ok(is_so && instr_at(code.as_slice(), 1) == Some((instr, 1 + octets.len())))
-}
-
+// Each instruction is written as its octets, which are read as it between a DROP and a HALT.
 #[test]
 fn instructions(rt: HostRuntime) -> Result<(), Fail> {
     for (octets, instr) in INSTRS.iter() {
-        assert!(rt; is_spelled(rt.alloc(), octets, *instr)?);
+        let mut code = [0x06].to_vec(rt.alloc())?;
+        instr.spell(&mut code)?;
+        assert!(rt; &code.as_slice()[1..] == *octets);
+        code.push(0x01)?;
+        let read = instr_at(code.as_slice(), 1);
+        assert!(rt; read == Some((*instr, 1 + octets.len())));
     }
+    assert!(rt; NO_INSTRS.iter().all(|octets| instr_at(octets, 0).is_none()));
     Ok(())
-}
-
-#[test]
-fn octets_that_are_no_instruction(rt: HostRuntime) {
-    for octets in NO_INSTRS.iter() {
-        assert!(rt; instr_at(octets, 0).is_none());
-    }
 }
 
 #[test]
@@ -146,26 +112,4 @@ fn arithmetic(rt: HostRuntime) {
             assert_eq!(rt; compute(*operation, *width, *first, *second), *result);
         }
     }
-}
-
-#[test]
-fn wrapping_and_comparing(rt: HostRuntime) {
-    assert_eq!(rt; wrap(Width::Int, 40_000), -25_536);
-    assert!(rt; compare(Comparison::Lt, -1, 0) && !compare(Comparison::Ge, -1, 0));
-}
-
-#[test]
-fn values_of_numbers(rt: HostRuntime) {
-    assert!(rt; Value::of(ElementaryType::Time, 2_147_483_648).is_none());
-    assert!(rt; Value::of(ElementaryType::Int, -32_768) == Some(Value::Short(-32_768)));
-    assert_eq!(rt; Value::Span(9).number(), 9);
-}
-
-#[test]
-fn kinds(rt: HostRuntime) {
-    let int = CellKind::Plain(ElementaryType::Int);
-    let some = CellKind::NotZero(Width::Int);
-    assert!(rt; join(some, int) == int);
-    assert!(rt; join(some, CellKind::NotZero(Width::Dint)) == CellKind::Any);
-    assert!(rt; is_within(some, int) && !is_within(int, some));
 }

@@ -1,31 +1,26 @@
 // Clients in memory, of which one call fails, and which take so many octets at a write.
-ghost use Rattle.std.specs.Prelude.{◌≡◌, ◌≤◌, length};
+ghost use Rattle.std.specs.Prelude.{◌≡◌};
 
 use bay_serve::link::{Arrival, Link, LinkFault};
-use std::alloc::Global;
+use std::cell::RefCell;
 use std::net::{Ipv4Addr, SocketAddrV4};
-use std::test::Fail;
 
-/// Returns the address from which each client connects.
-pub fn somewhere() -> SocketAddrV4 {
-    SocketAddrV4::new(Ipv4Addr::LOCALHOST, 40_000)
+// What a client has yet to send: the rest of a piece, and the pieces behind it.
+#[derive(Clone, Copy)]
+struct Rest<'a> {
+    octets: &'a [u8],
+    pieces: &'a [&'a [u8]],
 }
 
-// A client: how many of the octets that it sends were read, and what was sent to it.
+/// Clients that connect one after the other, each from 127.0.0.1:40000. Each sends its pieces, one
+/// at a read or as much of it as is read, and then nothing or its end. What all of them are sent is
+/// kept.
 #[derive(Drop)]
-struct Client {
-    given: usize,
-    taken: Vec<u8>,
-}
-
-/// Clients that connect one after the other. Each sends the same octets, as many at a time as are
-/// read, and then nothing or its end.
-#[derive(Drop)]
-pub struct MemoryLink {
-    incoming: Vec<u8>,
-    clients: Vec<Client>,
+pub struct MemoryLink<'a> {
+    clients: &'a [&'a [&'a [u8]]],
     connected: usize,
-    places: [Option<usize>; 8],
+    places: [Rest<'a>; 8],
+    taken: &'a RefCell<Vec<u8>>,
     pub ends: bool,
     pub per_write: usize,
     pub calls: u64,
@@ -34,42 +29,28 @@ pub struct MemoryLink {
     pub closed: u64,
 }
 
-// Returns the given number of clients.
-fn clients_of(alloc: Global, count: usize) -> Result<Vec<Client>, Fail> {
-    let mut clients = Vec::new(alloc);
-    for _ in 0..count {
-        clients.push(Client {
-            given: 0,
-            taken: Vec::new(alloc),
-        })?;
-    }
-    Ok(clients)
-}
-
-impl MemoryLink {
-    /// Creates a link of the given number of clients, each of which sends the same octets.
-    pub fn new(alloc: Global, incoming: &[u8], count: usize) -> Result<MemoryLink, Fail> {
-        let clients = clients_of(alloc, count)?;
-        let incoming = incoming.to_vec(alloc)?;
-        Ok(MemoryLink {
-            incoming,
+impl<'a> MemoryLink<'a> {
+    /// Creates a link of these clients, of which no call fails and each takes all.
+    pub fn new(
+        clients: &'a [&'a [&'a [u8]]],
+        ends: bool,
+        taken: &'a RefCell<Vec<u8>>,
+    ) -> MemoryLink<'a> {
+        let nothing = Rest {
+            octets: &[],
+            pieces: &[],
+        };
+        MemoryLink {
             clients,
             connected: 0,
-            places: [None; 8],
-            ends: false,
-            per_write: 1000,
+            places: [nothing; 8],
+            taken,
+            ends,
+            per_write: usize::MAX,
             calls: 0,
             fails_at: 0,
             failures: 0,
             closed: 0,
-        })
-    }
-
-    /// Returns what was sent to a client.
-    pub fn taken(&self, client: usize) -> &[u8] {
-        match self.clients.as_slice().get(client) {
-            Some(client) => client.taken.as_slice(),
-            None => &[],
         }
     }
 
@@ -82,19 +63,7 @@ impl MemoryLink {
     }
 }
 
-// Copies unread octets of a client to `room`, as many as fit, and returns how many.
-fn give(incoming: &[u8], given: &mut usize, room: &mut [u8]) -> usize
-    ensures { result ≤ length room.new }
-{
-    let from = *given;
-    let rest = incoming.get(from..).unwrap_or(&[]);
-    let count = room.len().min(rest.len());
-    room[..count].copy_from_slice(&rest[..count]);
-    *given = from.saturating_add(count);
-    count
-}
-
-impl Link for MemoryLink {
+impl Link for MemoryLink<'_> {
     ghost failures = { λ link. link.failures };
 
     fn accept(&mut self, association: u16) -> Result<Option<SocketAddrV4>, LinkFault> {
@@ -102,12 +71,15 @@ impl Link for MemoryLink {
             self.failures = self.failures.saturating_add(1);
             return Err(LinkFault);
         }
-        if self.connected < self.clients.len() {
-            self.places[association as usize - 1] = Some(self.connected);
-            self.connected = self.connected.saturating_add(1);
-            return Ok(Some(somewhere()));
-        }
-        Ok(None)
+        let Some(pieces) = self.clients.get(self.connected) else {
+            return Ok(None);
+        };
+        self.places[association as usize - 1] = Rest {
+            octets: &[],
+            pieces: *pieces,
+        };
+        self.connected = self.connected.saturating_add(1);
+        Ok(Some(SocketAddrV4::new(Ipv4Addr::LOCALHOST, 40_000)))
     }
 
     fn read(&mut self, association: u16, room: &mut [u8]) -> Result<Arrival, LinkFault> {
@@ -115,35 +87,30 @@ impl Link for MemoryLink {
             self.failures = self.failures.saturating_add(1);
             return Err(LinkFault);
         }
-        let place = self.places[association as usize - 1];
-        if let Some(at) = place
-            && at < self.clients.len()
+        let rest = &mut self.places[association as usize - 1];
+        if rest.octets.is_empty()
+            && let Some((piece, pieces)) = rest.pieces.split_first()
         {
-            let incoming = self.incoming.as_slice();
-            let count = give(incoming, &mut self.clients[at].given, room);
-            if count > 0 {
-                return Ok(Arrival::Bytes(count));
-            }
+            rest.octets = *piece;
+            rest.pieces = pieces;
         }
-        if self.ends {
-            return Ok(Arrival::End);
+        let count = room.len().min(rest.octets.len());
+        room[..count].copy_from_slice(&rest.octets[..count]);
+        rest.octets = &rest.octets[count..];
+        if count > 0 {
+            Ok(Arrival::Bytes(count))
+        } else if self.ends {
+            Ok(Arrival::End)
+        } else {
+            Ok(Arrival::Nothing)
         }
-        Ok(Arrival::Nothing)
     }
 
-    fn write(&mut self, association: u16, octets: &[u8]) -> Result<usize, LinkFault> {
-        if self.is_failing() {
-            self.failures = self.failures.saturating_add(1);
-            return Err(LinkFault);
-        }
+    fn write(&mut self, _association: u16, octets: &[u8]) -> Result<usize, LinkFault> {
         let count = self.per_write.min(octets.len());
-        let place = self.places[association as usize - 1];
-        if let Some(at) = place
-            && at < self.clients.len()
-            && self.clients[at]
-                .taken
-                .extend_from_slice(&octets[..count])
-                .is_ok()
+        if !self.is_failing()
+            && let Ok(mut taken) = self.taken.try_borrow_mut()
+            && taken.extend_from_slice(&octets[..count]).is_ok()
         {
             return Ok(count);
         }
@@ -151,8 +118,7 @@ impl Link for MemoryLink {
         Err(LinkFault)
     }
 
-    fn close(&mut self, association: u16) {
+    fn close(&mut self, _association: u16) {
         self.closed = self.closed.saturating_add(1);
-        self.places[association as usize - 1] = None;
     }
 }

@@ -1,16 +1,20 @@
 // Readers and writers that go by a few octets at a time, and that fail.
-ghost use Rattle.std.specs.Prelude.{◌≡◌, Some};
-ghost use Rattle.std.specs.Io.{ReadsAtMost, WritesAtMost};
-ghost use Rattle.std.specs.Io.KnownBytes.{Keeps, ReadConsumes, WriteAppends};
-
 use crate::session::{BAY, LOGIC};
-use bay_io::reader::WatchedReader;
-use bay_io::writer::WatchedWriter;
-use bay_main::replay::{replay_run, replay_watched};
-use std::alloc::{AllocError, Global};
+use bay_main::replay::replay_run;
+use std::alloc::Global;
 use std::io;
 use std::io::{ErrorKind, Read, Write};
+use std::process::Abort;
 use std::test::Fail;
+
+// Counts a call, and fails if it is the one that fails.
+fn call(calls: &mut u64, fails_at: u64) -> io::Result<()> {
+    *calls = calls.saturating_add(1);
+    if *calls == fails_at {
+        return Err(io::Error::from(ErrorKind::Other));
+    }
+    Ok(())
+}
 
 // A reader over octets in memory that gives at most so many octets at a read, at least one, and may
 // fail at one of its reads.
@@ -23,17 +27,8 @@ struct Dripping<'a> {
 }
 
 impl Read for Dripping<'_> {
-    ghost remaining = { λ d. Some d.rest.now };
-
-    fn read(&mut self, buf: &mut [u8]) -> io::Result<usize>
-        ensures bound { ReadsAtMost result buf.new }
-        ensures bytes { ReadConsumes (Some self.old.rest.now) (Some self.new.rest.now) result
-            buf.new }
-    {
-        self.reads = self.reads.saturating_add(1);
-        if self.reads == self.fails_at {
-            return Err(io::Error::from(ErrorKind::Other));
-        }
+    fn read(&mut self, buf: &mut [u8]) -> io::Result<usize> {
+        call(&mut self.reads, self.fails_at)?;
         let some = buf.len().min(self.most.max(1));
         self.rest.read(&mut buf[..some])
     }
@@ -49,36 +44,15 @@ struct Narrow {
     fails_at: u64,
 }
 
-impl Narrow {
-    // Counts a call, and fails if it is the one that fails.
-    fn call(&mut self) -> io::Result<()>
-        ensures { self.new.taken ≡ self.old.taken }
-    {
-        self.calls = self.calls.saturating_add(1);
-        if self.calls == self.fails_at {
-            return Err(io::Error::from(ErrorKind::Other));
-        }
-        Ok(())
-    }
-}
-
 impl Write for Narrow {
-    ghost contents = { λ n. Some n.taken.items };
-
-    fn write(&mut self, buf: &[u8]) -> io::Result<usize>
-        ensures bound { WritesAtMost result buf.now }
-        ensures bytes { WriteAppends (Some self.old.taken.items) (Some self.new.taken.items) result
-            buf.now }
-    {
-        self.call()?;
+    fn write(&mut self, buf: &[u8]) -> io::Result<usize> {
+        call(&mut self.calls, self.fails_at)?;
         let some = buf.len().min(self.most);
         self.taken.write(&buf[..some])
     }
 
-    fn flush(&mut self) -> io::Result<()>
-        ensures bytes { Keeps (Some self.old.taken.items) (Some self.new.taken.items) }
-    {
-        self.call()
+    fn flush(&mut self) -> io::Result<()> {
+        call(&mut self.calls, self.fails_at)
     }
 }
 
@@ -124,121 +98,56 @@ fn outcome_of(alloc: Global, scenario: &[u8], calls: Calls) -> Outcome {
     }
 }
 
-// The scenario of two switches: the first is closed and then open, with a scan behind each.
-fn scenario(alloc: Global) -> Result<String, AllocError> {
-    format!(in alloc;
-        "{BAY}%%\n{LOGIC}%%\n1000 contact QA1 2\n1000 scan\n1500 contact QA1 1\n1500 scan\n"
-    )
-}
-
-// Its whole report.
+// The report of two switches, of which the first is closed and then open, with a scan behind each.
 const REPORT: &[u8] = b"instructions=6 depth=1 budget=6
 1000 scan steps=6 QA1=00 QB1=00
 1500 scan steps=6 QA1=00 QB1=11
 ";
 
-// The most octets that a call moves: one, a few, or all.
-const MOST: [usize; 3] = [1, 7, 1000];
-
-// Replays the scenario with calls of which none fails, and checks its report.
-fn whole(alloc: Global, scenario: &[u8], most: usize) -> Result<Outcome, Fail> {
-    let found = outcome_of(
-        alloc,
-        scenario,
-        Calls {
-            most,
-            read: 0,
-            write: 0,
-        },
-    );
-    if found.report.as_slice() == REPORT && found.status == 0 {
-        Ok(found)
+// Where the read or the write with a number fails, a replay is `fault 121` alone, or a front of its
+// report with a failed write, and nothing is called behind that.
+fn check_failing(rt: &impl Abort, alloc: Global, scenario: &[u8], calls: Calls) {
+    let found = outcome_of(alloc, scenario, calls);
+    let report = found.report.as_slice();
+    let is_told = if calls.read > 0 {
+        (report, found.status, found.reads) == (b"fault 121\n".as_slice(), 3, calls.read)
     } else {
-        Err(Fail::from("another report"))
-    }
-}
-
-#[test]
-fn goes_by_pieces(rt: HostRuntime) -> Result<(), Fail> {
-    let scenario = scenario(rt.alloc())?;
-    let found = whole(rt.alloc(), scenario.as_bytes(), 1)?;
-    // a call for each octet, and one for the end or the flush
-    assert_eq!(rt; found.reads, scenario.len() as u64 + 1);
-    assert_eq!(rt; found.writes, REPORT.len() as u64 + 1);
-    Ok(())
-}
-
-#[test]
-fn each_read_may_fail(rt: HostRuntime) -> Result<(), Fail> {
-    let scenario = scenario(rt.alloc())?;
-    for most in MOST {
-        let reads = whole(rt.alloc(), scenario.as_bytes(), most)?.reads;
-        for read in 1..=reads {
-            let calls = Calls {
-                most,
-                read,
-                write: 0,
-            };
-            let found = outcome_of(rt.alloc(), scenario.as_bytes(), calls);
-            let is_told = found.report.as_slice() == b"fault 121\n".as_slice() && found.status == 3;
-            assert!(rt; is_told && found.reads == read, "read {read}");
-        }
-    }
-    Ok(())
-}
-
-#[test]
-fn each_write_may_fail(rt: HostRuntime) -> Result<(), Fail> {
-    let scenario = scenario(rt.alloc())?;
-    for most in MOST {
-        let writes = whole(rt.alloc(), scenario.as_bytes(), most)?.writes;
-        for write in 1..=writes {
-            let calls = Calls {
-                most,
-                read: 0,
-                write,
-            };
-            let found = outcome_of(rt.alloc(), scenario.as_bytes(), calls);
-            let is_front = REPORT.starts_with(found.report.as_slice()) && found.status == 255;
-            assert!(rt; is_front && found.writes == write, "write {write}");
-        }
-    }
-    Ok(())
-}
-
-#[test]
-fn reads_no_more_than_the_limit(rt: HostRuntime) -> Result<(), Fail> {
-    let long = vec![in rt.alloc(); 97u8; 16_777_221]?;
-    let mut given = Dripping {
-        rest: long.as_slice(),
-        most: 1,
-        reads: 0,
-        fails_at: 0,
+        REPORT.starts_with(report) && (found.status, found.writes) == (255, calls.write)
     };
-    let mut reader = WatchedReader::new(&mut given);
-    let mut writer = WatchedWriter::new(Vec::new(rt.alloc()));
-    let found = replay_watched(rt.alloc(), &mut reader, &mut writer);
-    let reads = reader.reads();
-    assert!(rt; found.ok() == Some(3) && reads == 16_777_217);
-    assert!(rt; !reader.has_failed() && writer.is_flushed());
-    assert_eq!(rt; given.reads, reads);
-    Ok(())
+    assert!(rt;
+        is_told,
+        "{} octets, read {}, write {}",
+        calls.most, calls.read, calls.write
+    );
 }
 
-// Returns what is printed for the given number of line feeds, with its status (255 for a failed
-// write).
-fn blank_outcome(alloc: Global, count: usize) -> Result<(Vec<u8>, u8), Fail> {
-    let blank = vec![in alloc; 10u8; count]?;
-    let mut taken = Vec::new(alloc);
-    let status = replay_run(alloc, blank.as_slice(), &mut taken).unwrap_or(255);
-    Ok((taken, status))
+// Replays the scenario by calls of which none fails, and then fails each in turn.
+fn check_each(rt: &impl Abort, alloc: Global, scenario: &[u8], most: usize) {
+    let none = Calls {
+        most,
+        read: 0,
+        write: 0,
+    };
+    let whole = outcome_of(alloc, scenario, none);
+    assert!(rt; whole.report.as_slice() == REPORT && whole.status == 0);
+    // where a call moves one octet there is one for each, and one for the end or the flush
+    assert!(rt; most > 1 || whole.reads == scenario.len() as u64 + 1);
+    assert!(rt; most > 1 || whole.writes == REPORT.len() as u64 + 1);
+    for number in 1..=whole.reads + whole.writes {
+        let read = if number > whole.reads { 0 } else { number };
+        let write = number.saturating_sub(whole.reads);
+        check_failing(rt, alloc, scenario, Calls { most, read, write });
+    }
 }
 
+// Calls that move one octet, a few, or all.
 #[test]
-fn reads_as_much_as_the_limit(rt: HostRuntime) -> Result<(), Fail> {
-    let (full, status) = blank_outcome(rt.alloc(), 16_777_216)?;
-    assert!(rt; full.as_slice() == b"fault 120 line 0\n".as_slice() && status == 3);
-    let (over, status) = blank_outcome(rt.alloc(), 16_777_217)?;
-    assert!(rt; over.as_slice() == b"fault 121\n".as_slice() && status == 3);
+fn each_call_may_fail(rt: HostRuntime) -> Result<(), Fail> {
+    let scenario = format!(in rt.alloc();
+        "{BAY}%%\n{LOGIC}%%\n1000 contact QA1 2\n1000 scan\n1500 contact QA1 1\n1500 scan\n"
+    )?;
+    for most in [1, 7, 1000] {
+        check_each(&rt, rt.alloc(), scenario.as_bytes(), most);
+    }
     Ok(())
 }

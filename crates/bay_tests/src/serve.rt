@@ -1,26 +1,20 @@
-// Serving over a link and a host in memory, and over those of the system.
-use crate::memory_link::somewhere;
-use crate::session;
-use crate::sockets::link_at;
-use bay_io::calls::Sink;
+// A command over links, a host and files in memory: what it prints, what it logs, what it tells the
+// process, and its status.
+use crate::memory_link::MemoryLink;
+use crate::session::{self, CONNECT, REQUEST, octets_of};
+use bay_io::calls::{Part, Sink};
 use bay_io::input::ReadFault;
 use bay_io::reader::WatchedReader;
 use bay_io::writer::WatchedWriter;
 use bay_main::commands::obey;
 use bay_main::files::{FileFault, FileSystem};
-use bay_main::host::{BindFault, Host, SystemHost};
-use bay_net::tcp::TcpLink;
-use bay_serve::link::{Arrival, Link, LinkFault};
+use bay_main::host::{BindFault, Host};
 use std::alloc::Global;
-use std::io::ErrorKind;
-use std::net::SocketAddrV4;
+use std::cell::RefCell;
+use std::io;
+use std::io::{ErrorKind, Write};
+use std::process::Abort;
 use std::test::Fail;
-
-// A bay file, a program and a trace, each under its own name.
-#[derive(Drop)]
-struct Texts<'a> {
-    trace: &'a str,
-}
 
 const BAY: &str =
     "bay = { domain = \"B\", vendor = \"V\", model = \"M\", revision = \"1\", scan_max_age_ms = 0 }
@@ -30,6 +24,12 @@ switch = [{ id = \"Q\", kind = \"breaker\", control = \"status\" }]
 const LOGIC: &str = "PROGRAM P
 END_PROGRAM
 ";
+
+// A trace, and bay files and programs, each under its own name.
+#[derive(Drop)]
+struct Texts<'a> {
+    trace: &'a str,
+}
 
 impl FileSystem for Texts<'_> {
     fn read(&self, alloc: Global, name: &str) -> Result<Vec<u8>, ReadFault> {
@@ -62,47 +62,56 @@ impl FileSystem for Texts<'_> {
     }
 }
 
-/// A link with one client, which hangs up at once.
+// Keeps what is printed, and what is logged behind a sign.
 #[derive(Drop)]
-pub struct Hasty {
-    waits: bool,
+struct Recorder<'a> {
+    text: &'a RefCell<Vec<u8>>,
 }
 
-impl Link for Hasty {
-    ghost failures = { λ _. 0 };
-
-    fn accept(&mut self, _a: u16) -> Result<Option<SocketAddrV4>, LinkFault> {
-        let waits = self.waits;
-        self.waits = false;
-        Ok(waits.then_some(somewhere()))
+impl Recorder<'_> {
+    // Keeps a part of a text.
+    fn keep(&self, part: Part<'_>) -> io::Result<()> {
+        let mut text = self.text.try_borrow_mut()?;
+        match part {
+            Part::Text(octets) => Ok(text.extend_from_slice(octets)?),
+            Part::Number(number) => write!(text, "{number}"),
+        }
     }
-
-    fn read(&mut self, _a: u16, _room: &mut [u8]) -> Result<Arrival, LinkFault> {
-        Ok(Arrival::End)
-    }
-
-    fn write(&mut self, _a: u16, _octets: &[u8]) -> Result<usize, LinkFault> {
-        Ok(0)
-    }
-
-    fn close(&mut self, _a: u16) {}
 }
 
-/// A host with one port, whose clock advances by a second each time it is read. It counts its
-/// pauses.
+impl Sink for Recorder<'_> {
+    fn write_octets(&mut self, octets: &[u8]) -> io::Result<usize> {
+        self.keep(Part::Text(octets))?;
+        Ok(octets.len())
+    }
+
+    fn flush_octets(&mut self) -> io::Result<()> {
+        Ok(())
+    }
+
+    fn log_line(&mut self, parts: &[Part<'_>]) {
+        let _ = self.keep(Part::Text(b"| "));
+        for part in parts {
+            let _ = self.keep(*part);
+        }
+    }
+}
+
+// A host with a port for clients and port 9 for a process, each of which can be opened once. Its
+// clock advances by a second each time it is read.
 #[derive(Drop)]
-pub struct Still {
-    pub has_port: bool,
+struct Ports<'a> {
+    clients: Option<MemoryLink<'a>>,
+    process: Option<MemoryLink<'a>>,
     now: u64,
-    pauses: u32,
 }
 
-impl Host<Hasty> for Still {
-    fn bind(&mut self, _port: u16) -> Result<Hasty, BindFault> {
-        if self.has_port {
-            Ok(Hasty { waits: true })
+impl<'a> Host<MemoryLink<'a>> for Ports<'a> {
+    fn bind(&mut self, port: u16) -> Result<MemoryLink<'a>, BindFault> {
+        if port == 9 {
+            self.process.take().ok_or(BindFault::Denied)
         } else {
-            Err(BindFault::InUse)
+            self.clients.take().ok_or(BindFault::InUse)
         }
     }
 
@@ -111,126 +120,330 @@ impl Host<Hasty> for Still {
         self.now
     }
 
-    fn pause(&mut self) {
-        self.pauses = self.pauses.saturating_add(1);
+    fn pause(&mut self) {}
+}
+
+// What clients and processes do while a command is done, and what comes of it.
+#[derive(Clone, Copy)]
+struct Row {
+    words: &'static str,
+    // what the file `trace` has, and what the command reads
+    trace: &'static str,
+    // how many clients come; `None` where their port can't be had
+    clients: Option<usize>,
+    // what each of them sends; those that send nothing end
+    asked: &'static [&'static str],
+    // what processes send that come one after the other; their port can't be had if there is none
+    processes: &'static [&'static [&'static [u8]]],
+    // the call of the process's link that fails, or 0
+    fails_at: u64,
+    // the clock's time before it is first read
+    now: u64,
+    status: u8,
+    // what the process is told
+    told: &'static str,
+    // what is printed, and behind a sign what is logged
+    wanted: &'static str,
+}
+
+// One client, which ends at once.
+const ENDING: Row = Row {
+    words: "serve --log --bay bay --logic logic --port 7 --turns 4 --trace trace",
+    trace: "",
+    clients: Some(1),
+    asked: &[],
+    processes: &[],
+    fails_at: 0,
+    now: 0,
+    status: 3,
+    told: "",
+    wanted: "",
+};
+
+// No client, and a process.
+const HEARD: Row = Row {
+    words: "serve --log --bay bay --logic logic --port 7 --turns 8 --process 9",
+    clients: Some(0),
+    status: 0,
+    ..ENDING
+};
+
+// A read of CSWI1$CO$Pos$SBO.
+const SELECT: &str =
+    "0300003d02f080010001006130302e020103a029a027020102a422a120a01e301ca01aa1181a04424159311a10435357493124434f24506f732453424f";
+
+// ON to CSWI1$CO$Pos$Oper, with orCat 2, orIdent OPERATOR and ctlNum 7.
+const CLOSE: &str =
+    "0300006602f0800100010061593057020103a052a050020103a54ba01f301da01ba1191a04424159311a11435357493124434f24506f73244f706572a028a2268301ffa20d85010289084f50455241544f528601079108000000000000002a83010084020600";
+
+// OFF to CSWI2$CO$Pos$Oper, with orCat -3, no orIdent and ctlNum 0.
+const OPEN: &str =
+    "0300005e02f080010001006151304f020103a04aa048020104a543a01f301da01ba1191a04424159311a11435357493224434f24506f73244f706572a020a21e830100a2058501fd89008601009108000000000000002a83010084020600";
+
+// A cancel of CSWI1$CO$Pos$Cancel, with an orIdent of A and the octet 1, and ctlNum 255.
+const CANCEL: &str =
+    "0300005f02f0800100010061523050020103a04ba049020105a544a021301fa01da11b1a04424159311a13435357493124434f24506f732443616e63656ca01fa21d8301ffa20785010289024101860200ff9108000000000000002a830100";
+
+const ROWS: [Row; 18] = [
+    Row {
+        trace: "\n9 contact X 1\r\n\n9 contact Q 1\n",
+        status: 0,
+        wanted: "instructions=2 depth=1 budget=2
+| 1000 clients on 127.0.0.1:7
+| 2000 association 1 open from 127.0.0.1:40000
+| 2000 refused 113: 9 contact X 1
+| 2000 association 1 closed 0: its client ended it
+2000 refused 113
+2000 closed 1 0
+| 5000 all turns are served
+",
+        ..ENDING
+    },
+    Row {
+        trace: "9 contact Q 1\n\n9 scan\n",
+        wanted: "instructions=2 depth=1 budget=2
+| 1000 clients on 127.0.0.1:7
+| 2000 association 1 open from 127.0.0.1:40000
+| 2000 association 1 closed 0: its client ended it
+2000 closed 1 0
+| bayctl: fault 120 line 3: 9 scan
+fault 120 line 3
+",
+        ..ENDING
+    },
+    Row {
+        trace: "9 contact Q 1\n\n9 open 1\n",
+        wanted: "instructions=2 depth=1 budget=2
+| 1000 clients on 127.0.0.1:7
+| 2000 association 1 open from 127.0.0.1:40000
+| 2000 association 1 closed 0: its client ended it
+2000 closed 1 0
+| bayctl: fault 120 line 3: 9 open 1
+fault 120 line 3
+",
+        ..ENDING
+    },
+    Row {
+        now: 4_294_967_294_000,
+        wanted: "instructions=2 depth=1 budget=2
+| 4294967295000 clients on 127.0.0.1:7
+| bayctl: fault 114: the clock is past the last moment
+fault 114
+",
+        ..ENDING
+    },
+    Row {
+        clients: None,
+        wanted: "instructions=2 depth=1 budget=2
+fault 121
+| bayctl: fault 121: port 7: another program uses it
+",
+        ..ENDING
+    },
+    Row {
+        words: "serve --log --bay bay --logic logic --port 7 --turns 4 --trace none",
+        wanted: "fault 121
+| bayctl: fault 121: none: there is no such file
+",
+        ..ENDING
+    },
+    Row {
+        words: "serve --log --bay none --logic logic --port 7 --turns 4",
+        wanted: "fault 121
+| bayctl: fault 121: none: there is no such file
+",
+        ..ENDING
+    },
+    Row {
+        words: "serve --log --bay trace --logic logic --port 7 --turns 4",
+        trace: "x",
+        status: 1,
+        wanted: "load refused 50
+| bayctl: load refused 50: the text is not a TOML document, or is too long
+",
+        ..ENDING
+    },
+    Row {
+        words: "replay --log",
+        trace: "x\n%%\ny\n%%\n",
+        status: 1,
+        wanted: "load refused 50
+| bayctl: load refused 50: the text is not a TOML document, or is too long
+",
+        ..ENDING
+    },
+    Row {
+        words: "replay --log",
+        trace: "x",
+        wanted: "fault 120 line 0
+| bayctl: fault 120 line 0: a line %% is missing
+",
+        ..ENDING
+    },
+    Row {
+        words: "replay --log",
+        trace: "bay = { domain = \"B\", vendor = \"V\", model = \"M\", revision = \"1\", scan_max_age_ms = 0 }
+switch = [{ id = \"Q\", kind = \"breaker\", control = \"status\" }]
+%%
+PROGRAM P
+END_PROGRAM
+%%
+9 contact Q 1
+9 skan\x1b
+",
+        wanted: "instructions=2 depth=1 budget=2
+fault 120 line 2
+| bayctl: fault 120 line 2: 9 skan\\x1b
+",
+        ..ENDING
+    },
+    Row {
+        words: "serve --log --bay two --logic free --port 7 --turns 2 --trace trace",
+        trace: "0 contact QA1 1\n",
+        clients: Some(2),
+        asked: &[REQUEST, CONNECT, SELECT, CLOSE, OPEN, CANCEL],
+        status: 0,
+        wanted: "instructions=6 depth=1 budget=6
+| 1000 clients on 127.0.0.1:7
+| 2000 association 1 open from 127.0.0.1:40000
+| 2000 association 1 select QA1: done
+| 2000 association 1 operate QA1 on orCat=2 orIdent=OPERATOR ctlNum=7: refused 10: the interlocking does not release the operation
+| 2000 association 1 operate QB1 off orCat=-3 orIdent= ctlNum=0: refused 10: the interlocking does not release the operation
+| 2000 association 1 cancel QA1 on orCat=2 orIdent=A\\x01 ctlNum=255: refused 18: the association has not selected the switch for this
+| 3000 association 2 open from 127.0.0.1:40000
+| 3000 association 2 select QA1: done
+| 3000 association 2 operate QA1 on orCat=2 orIdent=OPERATOR ctlNum=7: refused 10: the interlocking does not release the operation
+| 3000 association 2 operate QB1 off orCat=-3 orIdent= ctlNum=0: done
+| 3000 association 2 cancel QA1 on orCat=2 orIdent=A\\x01 ctlNum=255: refused 18: the association has not selected the switch for this
+3000 command QB1 off
+| 3000 all turns are served
+",
+        ..ENDING
+    },
+    Row {
+        processes: &[&[b"0 contact Q 1\n0 con", b"tact X 2\r\n"]],
+        told: "4000 refused 113\n",
+        wanted: "instructions=2 depth=1 budget=2
+| 1000 clients on 127.0.0.1:7, process on 127.0.0.1:9
+| 2000 process open
+2000 process open
+| 4000 refused 113: 0 contact X 2
+4000 refused 113
+| 4000 process closed 0: it ended its connection
+4000 process closed 0
+| 9000 all turns are served
+",
+        ..HEARD
+    },
+    Row {
+        processes: &[&[b"0 contact X 1\n"]],
+        fails_at: 3,
+        wanted: "instructions=2 depth=1 budget=2
+| 1000 clients on 127.0.0.1:7, process on 127.0.0.1:9
+| 2000 process open
+2000 process open
+| 3000 refused 113: 0 contact X 1
+3000 refused 113
+| 3000 process closed 131: its connection failed, or sent nothing
+3000 process closed 131
+| 9000 all turns are served
+",
+        ..HEARD
+    },
+    Row {
+        processes: &[&[b"0 contact Q 1\n", b"\n", b"0 scan\x1b\n"]],
+        wanted: "instructions=2 depth=1 budget=2
+| 1000 clients on 127.0.0.1:7, process on 127.0.0.1:9
+| 2000 process open
+2000 process open
+| 4000 process closed 120: 0 scan\\x1b
+4000 process closed 120
+| 9000 all turns are served
+",
+        ..HEARD
+    },
+    Row {
+        processes: &[&[b"0 contact Q 1\n", b"\n", b"0 contact Q 4\n"]],
+        wanted: "instructions=2 depth=1 budget=2
+| 1000 clients on 127.0.0.1:7, process on 127.0.0.1:9
+| 2000 process open
+2000 process open
+| 4000 process closed 120: 0 contact Q 4
+4000 process closed 120
+| 9000 all turns are served
+",
+        ..HEARD
+    },
+    // Another process comes only once every switch is bad: here one turn after the closing. A third
+    // one has gone itself by then, and is not taken.
+    Row {
+        processes: &[&[b"0 contact Q 1\n"], &[b"0 contact Q 1\n"], &[]],
+        wanted: "instructions=2 depth=1 budget=2
+| 1000 clients on 127.0.0.1:7, process on 127.0.0.1:9
+| 2000 process open
+2000 process open
+| 3000 process closed 0: it ended its connection
+3000 process closed 0
+| 5000 process open
+5000 process open
+| 6000 process closed 0: it ended its connection
+6000 process closed 0
+| 9000 all turns are served
+",
+        ..HEARD
+    },
+    Row {
+        status: 3,
+        wanted: "instructions=2 depth=1 budget=2
+fault 121
+| bayctl: fault 121: port 9: permission denied
+",
+        ..HEARD
+    },
+];
+
+// Checks that a command comes to what its row says.
+fn check(rt: &impl Abort, alloc: Global, row: &Row) -> Result<(), Fail> {
+    let (text, told) = (RefCell::new(Vec::new(alloc)), RefCell::new(Vec::new(alloc)));
+    let answered = RefCell::new(Vec::new(alloc));
+    let words: Vec<&str> = row.words.split(" ").collect(alloc)?;
+    let asked = octets_of(alloc, row.asked)?;
+    let pieces = [asked.as_slice()];
+    let clients = [pieces.as_slice(); 2];
+    let mut process = MemoryLink::new(row.processes, true, &told);
+    process.fails_at = row.fails_at;
+    let clients = match row.clients {
+        Some(count) => Some(MemoryLink::new(
+            clients.get(..count).unwrap_or(&[]),
+            row.asked.is_empty(),
+            &answered,
+        )),
+        None => None,
+    };
+    let mut host = Ports {
+        clients,
+        process: (!row.processes.is_empty()).then_some(process),
+        now: row.now,
+    };
+    let ended = obey(
+        alloc,
+        words.as_slice(),
+        &mut Texts { trace: row.trace },
+        &mut host,
+        &mut WatchedReader::new(row.trace.as_bytes()),
+        &mut WatchedWriter::new(Recorder { text: &text }),
+    );
+    assert_eq!(rt; ended.status(), row.status, "{}", row.words);
+    drop(host);
+    assert_eq!(rt; str::from_utf8(text.into_inner().as_slice())?, row.wanted);
+    assert_eq!(rt; str::from_utf8(told.into_inner().as_slice())?, row.told);
+    Ok(())
+}
+
+#[test]
+fn commands_over_memory(rt: HostRuntime) -> Result<(), Fail> {
+    for row in ROWS.iter() {
+        check(&rt, rt.alloc(), row)?;
     }
-}
-
-/// Serves a trace as words ask for it, and returns the exit status. The trace is the program's input
-/// too.
-pub fn served_by<L: Link + Drop, H: Host<L>, W: Sink>(
-    alloc: Global,
-    host: &mut H,
-    trace: &str,
-    words: &[&str],
-    writer: &mut WatchedWriter<W>,
-) -> u8 {
-    let mut files = Texts { trace };
-    let mut reader = WatchedReader::new(trace.as_bytes());
-    obey(alloc, words, &mut files, host, &mut reader, writer).status()
-}
-
-/// Returns what is printed for words that ask to serve a trace, and the exit status.
-pub fn served<L: Link + Drop, H: Host<L>>(
-    alloc: Global,
-    host: &mut H,
-    trace: &str,
-    words: &[&str],
-) -> (Vec<u8>, u8) {
-    let mut printed = Vec::new(alloc);
-    let mut writer = WatchedWriter::new(&mut printed);
-    let status = served_by(alloc, host, trace, words, &mut writer);
-    drop(writer);
-    (printed, status)
-}
-
-/// Returns a host whose port can be opened.
-pub fn ready() -> Still {
-    Still {
-        has_port: true,
-        now: 0,
-        pauses: 0,
-    }
-}
-
-#[test]
-fn turns_and_their_lines(rt: HostRuntime) -> Result<(), Fail> {
-    let mut host = ready();
-    let trace = "\n9 contact X 1\r\n\n9 contact Q 1\n";
-    let words = "serve --bay bay --logic logic --port 7 --turns 4 --trace trace";
-    let words: Vec<&str> = words.split(" ").collect(rt.alloc())?;
-    let (printed, status) = served(rt.alloc(), &mut host, trace, words.as_slice());
-    let wanted = b"instructions=2 depth=1 budget=2\n1000 refused 113\n1000 closed 1 0\n".as_slice();
-    assert!(rt; printed.as_slice() == wanted && status == 0);
-    assert_eq!(rt; host.pauses, 2);
-    Ok(())
-}
-
-#[test]
-fn lines_that_tell_of_no_process(rt: HostRuntime) -> Result<(), Fail> {
-    let words = "serve --bay bay --logic logic --port 7 --turns 4 --trace trace";
-    let words: Vec<&str> = words.split(" ").collect(rt.alloc())?;
-    for trace in ["9 contact Q 1\n\n9 scan\n", "9 contact Q 1\n\n9 open 1\n"] {
-        let (printed, status) = served(rt.alloc(), &mut ready(), trace, words.as_slice());
-        let wanted =
-            b"instructions=2 depth=1 budget=2\n1000 closed 1 0\nfault 120 line 3\n".as_slice();
-        assert!(rt; printed.as_slice() == wanted && status == 3);
-    }
-    Ok(())
-}
-
-#[test]
-fn moments_past_the_last(rt: HostRuntime) -> Result<(), Fail> {
-    let mut host = ready();
-    host.now = 4_294_967_295_000;
-    let words = [
-        "serve", "--bay", "bay", "--logic", "logic", "--port", "7", "--turns", "4",
-    ];
-    let (printed, status) = served(rt.alloc(), &mut host, "", words.as_slice());
-    let wanted = b"instructions=2 depth=1 budget=2\nfault 114\n".as_slice();
-    assert!(rt; printed.as_slice() == wanted && status == 3);
-    Ok(())
-}
-
-#[test]
-fn files_and_ports_that_cannot_be_had(rt: HostRuntime) -> Result<(), Fail> {
-    let words = [
-        "serve", "--bay", "bay", "--logic", "logic", "--port", "7", "--turns", "4",
-    ];
-    let mut host = ready();
-    host.has_port = false;
-    let (printed, status) = served(rt.alloc(), &mut host, "", words.as_slice());
-    let wanted = b"instructions=2 depth=1 budget=2\nfault 121\n".as_slice();
-    assert!(rt; printed.as_slice() == wanted && status == 3);
-    let words = "serve --bay bay --logic logic --port 7 --turns 4 --trace none";
-    let words: Vec<&str> = words.split(" ").collect(rt.alloc())?;
-    let (printed, status) = served(rt.alloc(), &mut host, "", words.as_slice());
-    assert!(rt; printed.as_slice() == b"fault 121\n".as_slice() && status == 3);
-    Ok(())
-}
-
-#[test]
-fn ports_of_the_system(rt: HostRuntime) -> Result<(), Fail> {
-    let link = link_at(&rt)?;
-    let port = format!(in rt.alloc(); "{}", link.port()?)?;
-    let words = [
-        "serve",
-        "--bay",
-        "bay",
-        "--logic",
-        "logic",
-        "--port",
-        port.as_str(),
-        "--turns",
-        "3",
-    ];
-    let mut host = SystemHost::new(&rt);
-    let (printed, status) = served::<TcpLink<_>, _>(rt.alloc(), &mut host, "", words.as_slice());
-    let taken = b"instructions=2 depth=1 budget=2\nfault 121\n".as_slice();
-    assert!(rt; printed.as_slice() == taken && status == 3);
-    drop(link);
-    let (printed, status) = served::<TcpLink<_>, _>(rt.alloc(), &mut host, "", words.as_slice());
-    let served = b"instructions=2 depth=1 budget=2\n".as_slice();
-    assert!(rt; printed.as_slice() == served && status == 0);
     Ok(())
 }

@@ -1,9 +1,5 @@
 // What a client sends, and what it is answered: a request for a transport connection, one for an
 // association, and an identify.
-ghost use Rattle.std.specs.Prelude.{◌≡◌, None, replicate};
-ghost use Rattle.bay_device.specs.Outcomes.{associations};
-
-use bay_device::device::Device;
 use bay_device::load::load;
 use bay_serve::server::Server;
 use std::alloc::Global;
@@ -41,25 +37,13 @@ pub fn octets_of(alloc: Global, texts: &[&str]) -> Result<Vec<u8>, Fail> {
     Ok(hex::decode(alloc, digits.as_str())?)
 }
 
-/// Whether octets are those that hexadecimal digits encode.
-pub fn has_octets(alloc: Global, octets: &[u8], texts: &[&str]) -> Result<bool, Fail> {
-    Ok(octets == octets_of(alloc, texts)?.as_slice())
-}
-
-// Creates a server of a device.
-fn server_of(alloc: Global, device: Device) -> Result<Server, Fail>
-    requires closed { device.connections ≡ replicate associations None }
-{
-    match Server::new(alloc, device) {
-        Ok(server) => Ok(server),
-        Err(_) => Err(Fail::from("no memory")),
-    }
-}
-
 /// Creates a server of the device of the two switches.
 pub fn server(alloc: Global) -> Result<Server, Fail> {
     match load(alloc, BAY, LOGIC) {
-        Ok(device) => server_of(alloc, device),
+        Ok(device) => match Server::new(alloc, device) {
+            Ok(server) => Ok(server),
+            Err(_) => Err(Fail::from("no memory")),
+        },
         Err(fault) => Err(Fail::from(fault)),
     }
 }

@@ -1,22 +1,45 @@
-// A client and the server in turn, on 127.0.0.1.
-use crate::session::{
-    CONFIRM, CONNECT, CONNECTED, IDENTIFY, IDENTITY, REQUEST, has_octets, octets_of, server,
-};
+// A link over the sockets of the system, call by call, and a client and the server in turn, on
+// 127.0.0.1.
+use crate::session::{CONFIRM, CONNECT, CONNECTED, IDENTIFY, IDENTITY, REQUEST, octets_of, server};
 use bay_net::readiness::Readiness;
 use bay_net::tcp::TcpLink;
-use bay_serve::server::Server;
+use bay_serve::link::{Arrival, Link};
 use bay_serve::turn::serve_turn;
-use std::alloc::Global;
+use std::cell::Cell;
 use std::io::{ErrorKind, Read, Write};
-use std::net::{Ipv4Addr, Net, SocketAddr, TcpListener, TcpStream};
-use std::rt::{Clock, Runtime};
+use std::net::{Ipv4Addr, SocketAddr, TcpStream};
+use std::rt::Clock;
 use std::test::Fail;
-use std::thread;
-use std::time::Duration;
+use std::time::{Duration, Instant};
+use std::{io, thread};
 
-/// Appends what a client has to read now to what it has received.
-pub fn read_some(stream: &TcpStream, answer: &mut Vec<u8>) -> Result<(), Fail> {
-    let mut room = [0; 256];
+// A clock that is set by hand, in seconds.
+#[derive(Drop)]
+struct SetClock {
+    seconds: Cell<u64>,
+}
+
+impl Clock for SetClock {
+    fn monotonic(&self) -> io::Result<Duration> {
+        Ok(Duration::from_secs(self.seconds.get()))
+    }
+
+    fn since_1970(&self) -> io::Result<Duration> {
+        Ok(Duration::from_secs(self.seconds.get()))
+    }
+}
+
+// Connects a client to a link. Its calls do not block.
+fn client_of<C: Clock>(rt: &HostRuntime, link: &TcpLink<'_, C>) -> Result<TcpStream, Fail> {
+    let address = SocketAddr::from((Ipv4Addr::LOCALHOST, link.port()?));
+    let stream = TcpStream::connect(rt, address)?;
+    stream.set_nonblocking(true)?;
+    Ok(stream)
+}
+
+// Appends what a client has to read now to what it has received.
+fn read_some(stream: &TcpStream, answer: &mut Vec<u8>) -> Result<(), Fail> {
+    let mut room = [0; 4096];
     match (&mut &*stream).read(&mut room) {
         Ok(more) => Ok(answer.extend_from_slice(&room[..more])?),
         Err(error) if error.kind() == ErrorKind::WouldBlock => Ok(()),
@@ -24,94 +47,111 @@ pub fn read_some(stream: &TcpStream, answer: &mut Vec<u8>) -> Result<(), Fail> {
     }
 }
 
-// Sends octets to the server, and serves until the given number of octets came back, or for some
-// seconds.
-fn ask<R: Runtime<A = Global>>(
-    rt: &R,
-    server: &mut Server,
-    link: &mut TcpLink<'_, R>,
-    stream: &TcpStream,
-    octets: &[u8],
-    count: usize,
-    answer: &mut Vec<u8>,
-) -> Result<(), Fail> {
-    (&mut &*stream).write_all(octets)?;
-    for now in 0..2000 {
-        serve_turn(server, link, now, None)?;
-        read_some(stream, answer)?;
-        if answer.len() >= count {
+// Returns how many octets a client receives: it waits for so many, at most some seconds, and reads
+// what follows them.
+fn drained(rt: &HostRuntime, stream: &TcpStream, count: usize) -> Result<usize, Fail> {
+    let mut octets = Vec::new(rt.alloc());
+    let mut idle = 0;
+    while idle < 3000u32 {
+        let before = octets.len();
+        read_some(stream, &mut octets)?;
+        if octets.len() == before && before >= count {
             break;
         }
-        thread::sleep(rt, Duration::from_millis(1));
+        if octets.len() == before {
+            idle += 1;
+            thread::sleep(rt, Duration::from_millis(1));
+        }
     }
-    Ok(())
+    Ok(octets.len())
 }
 
-/// Creates a link at a port that the system picks.
-pub fn link_at<R: Runtime<A = Global> + Net<Listener = TcpListener, Stream = TcpStream>>(
-    rt: &R,
-) -> Result<TcpLink<'_, R>, Fail> {
-    let mut readiness = Readiness::new(rt, rt.alloc())?;
-    Ok(TcpLink::bind(rt, rt, &mut readiness, 0)?)
-}
-
-/// Connects a client to the server. Its calls do not block.
-pub fn client_of<R: Net<Listener = TcpListener, Stream = TcpStream>, C: Clock>(
-    rt: &R,
-    link: &TcpLink<'_, C>,
-) -> Result<TcpStream, Fail> {
-    let address = SocketAddr::from((Ipv4Addr::LOCALHOST, link.port()?));
-    let stream = TcpStream::connect(rt, address)?;
-    stream.set_nonblocking(true)?;
-    Ok(stream)
-}
-
-// Lets a client of the server ask three times.
-fn talk<R: Runtime<A = Global>>(
-    rt: &R,
-    server: &mut Server,
-    link: &mut TcpLink<'_, R>,
-    stream: &TcpStream,
-    taken: &mut Vec<u8>,
-) -> Result<(), Fail> {
-    for (question, count) in [(REQUEST, 22), (CONNECT, 161), (IDENTIFY, 204)] {
-        let octets = octets_of(rt.alloc(), &[question])?;
-        ask(rt, server, link, stream, octets.as_slice(), count, taken)?;
+// Sends octets to client 1, which reads none, until none can be taken. Returns how many were taken,
+// or `None` if a write fails or they have no end.
+fn filled<C: Clock>(link: &mut TcpLink<'_, C>) -> Option<usize> {
+    let mut told = 0usize;
+    for _ in 0..4000 {
+        match link.write(1, &[7; 65_536]) {
+            Ok(0) => return Some(told),
+            Ok(count) => told = told.saturating_add(count),
+            Err(_) => return None,
+        }
     }
+    None
+}
+
+// Returns how many milliseconds a wait takes.
+fn waited(rt: &HostRuntime, readiness: &mut Readiness, most: u64) -> io::Result<u128> {
+    let begun = Instant::now(rt)?;
+    readiness.wait(Duration::from_millis(most))?;
+    Ok(begun.elapsed(rt)?.as_millis())
+}
+
+// A wait ends where a socket is ready, and not before. A client that is silent for ten seconds from
+// its start on fails, and none behind its first octet. What the system does not take is not told as
+// sent, and the end of one client is no other's.
+#[test]
+fn clients_of_a_link(rt: HostRuntime) -> Result<(), Fail> {
+    let clock = SetClock {
+        seconds: Cell::new(100),
+    };
+    let mut readiness = Readiness::new(&rt, rt.alloc())?;
+    let mut link = TcpLink::bind(&rt, &clock, &mut readiness, 0)?;
+    let other = SocketAddr::from((Ipv4Addr::new(127, 0, 0, 2), link.port()?));
+    assert!(rt; TcpStream::connect(&rt, other).is_err());
+    assert_eq!(rt; link.accept(1), Ok(None));
+    assert!(rt; matches!(waited(&rt, &mut readiness, 50), Ok(45..)));
+    assert_eq!(rt; link.accept(1), Ok(None));
+    let mut streams = Vec::new(rt.alloc());
+    for association in 1..=2u16 {
+        streams.push(client_of(&rt, &link)?)?;
+        assert!(rt; matches!(waited(&rt, &mut readiness, 30_000), Ok(..15_000)));
+        assert!(rt; matches!(link.accept(association), Ok(Some(_))));
+        // that the new one can be written to ends one more wait
+        assert!(rt; waited(&rt, &mut readiness, 50).is_ok());
+        assert!(rt; matches!(waited(&rt, &mut readiness, 50), Ok(45..)));
+    }
+    let [first, second] = streams.as_slice() else {
+        return Err(Fail::from("two clients connect"));
+    };
+    (&mut &*first).write_all(b"a")?;
+    assert!(rt; matches!(waited(&rt, &mut readiness, 30_000), Ok(..15_000)));
+    clock.seconds.set(109);
+    assert_eq!(rt; link.read(1, &mut [0; 16]), Ok(Arrival::Bytes(1)));
+    assert_eq!(rt; link.read(2, &mut [0; 16]), Ok(Arrival::Nothing));
+    clock.seconds.set(110);
+    assert_eq!(rt; link.read(1, &mut [0; 16]), Ok(Arrival::Nothing));
+    assert_eq!(rt; link.failures(), 0);
+    assert!(rt; link.read(2, &mut [0; 16]).is_err() && link.failures() == 1);
+    link.close(2);
+    assert!(rt; link.write(2, b"a").is_err());
+    let told = filled(&mut link).unwrap_or(0);
+    assert!(rt; told > 0 && drained(&rt, first, told)? == told);
+    assert_eq!(rt; drained(&rt, second, 0)?, 0);
     Ok(())
-}
-
-// Lets a connected client talk to a server that is created for the link.
-fn serve_client<R: Runtime<A = Global>>(
-    rt: &R,
-    link: &mut TcpLink<'_, R>,
-    stream: &TcpStream,
-    taken: &mut Vec<u8>,
-) -> Result<(), Fail> {
-    let mut server = server(rt.alloc())?;
-    talk(rt, &mut server, link, stream, taken)
-}
-
-// Connects a client to a port that the system picks, and lets it talk to the server there.
-fn session<R: Runtime<A = Global> + Net<Listener = TcpListener, Stream = TcpStream>>(
-    rt: &R,
-    taken: &mut Vec<u8>,
-) -> Result<(), Fail> {
-    let mut link = link_at(rt)?;
-    let stream = client_of(rt, &link)?;
-    serve_client(rt, &mut link, &stream, taken)
 }
 
 #[test]
 fn a_client_and_the_server_in_turn(rt: HostRuntime) -> Result<(), Fail> {
-    let mut taken = Vec::new(rt.alloc());
-    session(&rt, &mut taken)?;
-    assert!(rt;
-        has_octets(
-            rt.alloc(),
-            taken.as_slice(),
-            &[CONFIRM, CONNECTED, IDENTITY]
-        )?
-    );
+    let mut readiness = Readiness::new(&rt, rt.alloc())?;
+    let mut link = TcpLink::bind(&rt, &rt, &mut readiness, 0)?;
+    let stream = client_of(&rt, &link)?;
+    let mut server = server(rt.alloc())?;
+    let (mut taken, mut due) = (Vec::new(rt.alloc()), 0);
+    let mut questions = [(REQUEST, 22), (CONNECT, 161), (IDENTIFY, 204)].into_iter();
+    for now in 0..6000 {
+        read_some(&stream, &mut taken)?;
+        if taken.len() >= due {
+            let Some((question, count)) = questions.next() else {
+                break;
+            };
+            (&mut &stream).write_all(octets_of(rt.alloc(), &[question])?.as_slice())?;
+            due = count;
+        }
+        serve_turn(&mut server, &mut link, now, None)?;
+        thread::sleep(&rt, Duration::from_millis(1));
+    }
+    let answers = octets_of(rt.alloc(), &[CONFIRM, CONNECTED, IDENTITY])?;
+    assert!(rt; taken.as_slice() == answers.as_slice());
     Ok(())
 }

@@ -1,9 +1,9 @@
-// Command lines over files of the program's own folder.
-use anyhow::{Result, bail};
+// Commands over what they read and over files of the program's own folder.
+use crate::texts::{Texts, expanded};
+use anyhow::{Context, Result, bail};
 use bay_io::reader::WatchedReader;
 use bay_io::writer::WatchedWriter;
 use bay_main::commands::obey;
-use bay_main::ending::Ended;
 use bay_main::files::SystemFiles;
 use bay_main::host::SystemHost;
 use bay_main::words::{WordsFault, job_of};
@@ -12,140 +12,118 @@ use cases::told::{check, check_lines, check_text};
 use cases::words::{first_word, words_of};
 use std::alloc::Global;
 use std::fs;
-use std::io::Read;
-use std::net::{Net, TcpListener, TcpStream};
-use std::rt::{Files, Runtime};
 
-/// The input of the next commands, and the last command's complaint.
+// Checks that a command of a line's words ends with this status and prints this text, whose last
+// line it ends. Returns its complaint.
+fn check_run(
+    rt: &HostRuntime,
+    line: &str,
+    input: &[u8],
+    status: &str,
+    wanted: &str,
+) -> Result<String> {
+    let words: Vec<&str> = line
+        .split(" ")
+        .filter(|word| !word.is_empty())
+        .collect(rt.alloc())?;
+    let mut printed = Vec::new(rt.alloc());
+    let ended = obey(
+        rt.alloc(),
+        words.as_slice(),
+        &mut SystemFiles::new(rt),
+        &mut SystemHost::new(rt),
+        &mut WatchedReader::new(input),
+        &mut WatchedWriter::new(&mut printed),
+    );
+    if ended.status() != status.parse::<u8>()? {
+        bail!("it ends with {}", ended.status());
+    }
+    let found = str::from_utf8(printed.as_slice())?;
+    check_lines(found, wanted)?;
+    let is_so = found.strip_suffix("\n").unwrap_or("") == wanted;
+    check(is_so && found.is_empty() == wanted.is_empty())?;
+    Ok(String::from_str(rt.alloc(), ended.complaint())?)
+}
+
+/// What the next commands read, and the last command's complaint.
 #[derive(Drop)]
-pub struct Commands {
-    alloc: Global,
+pub struct Commands<'a> {
+    rt: &'a HostRuntime,
     input: Vec<u8>,
     complaint: String,
 }
 
-// Runs a command, and appends what it prints to the octets.
-fn ended<R: Runtime<A = Global> + Net<Listener = TcpListener, Stream = TcpStream>>(
-    rt: &R,
-    alloc: Global,
-    words: &[&str],
-    input: &[u8],
-    printed: &mut Vec<u8>,
-) -> Ended {
-    let mut files = SystemFiles::new(rt);
-    let mut host = SystemHost::new(rt);
-    let mut reader = WatchedReader::new(input);
-    let mut writer = WatchedWriter::new(printed);
-    obey(
-        alloc,
-        words,
-        &mut files,
-        &mut host,
-        &mut reader,
-        &mut writer,
-    )
-}
-
-// Returns the text or the octets of a section: octets are in hexadecimal digits, and a text ends
-// its last line.
-fn content_of(alloc: Global, is_octets: bool, body: &str) -> Result<Vec<u8>> {
-    if is_octets {
-        return octets_of(alloc, body);
-    }
-    let mut octets = Vec::from_slice(alloc, body.as_bytes())?;
-    octets.push(b'\n')?;
-    Ok(octets)
-}
-
-// Checks that what was printed is this text and ends its last line, or is empty.
-fn check_printed(printed: &[u8], wanted: &str) -> Result<()> {
-    let text = str::from_utf8(printed)?;
-    check_lines(text, wanted)?;
-    check(text.is_empty() || text.ends_with("\n"))
-}
-
-// Checks that a file holds these octets.
-fn check_file<R: Files>(rt: &R, alloc: Global, name: &str, wanted: &str) -> Result<()> {
-    let mut octets = Vec::new(alloc);
-    fs::open(rt, name)?.read_to_end(&mut octets)?;
-    check_octets(alloc, octets.as_slice(), wanted)
-}
-
-impl Commands {
+impl<'a> Commands<'a> {
     /// Creates commands with no input and no complaint.
-    pub fn new(alloc: Global) -> Commands {
+    pub fn new(rt: &'a HostRuntime) -> Commands<'a> {
         Commands {
-            alloc,
-            input: Vec::new(alloc),
-            complaint: String::new(alloc),
-        }
-    }
-
-    // Checks that a command ends with this status and prints this text.
-    fn run<R: Runtime<A = Global> + Net<Listener = TcpListener, Stream = TcpStream>>(
-        &mut self,
-        rt: &R,
-        status: &str,
-        line: &str,
-        wanted: &str,
-    ) -> Result<()> {
-        let mut words = Vec::new(self.alloc);
-        if !line.is_empty() {
-            words = words_of(self.alloc, line)?;
-        }
-        let mut printed = Vec::new(self.alloc);
-        let ended = ended(
             rt,
-            self.alloc,
-            words.as_slice(),
-            self.input.as_slice(),
-            &mut printed,
-        );
-        self.complaint = String::from_str(self.alloc, ended.complaint())?;
-        if ended.status() != status.parse::<u8>()? {
-            bail!("it ends with {}", ended.status());
+            input: Vec::new(rt.alloc()),
+            complaint: String::new(rt.alloc()),
         }
-        check_printed(printed.as_slice(), wanted)
     }
 
-    /// Sets the input of the next commands, or creates a file.
-    pub fn make<R: Files>(&mut self, rt: &R, kind: &str, name: &str, body: &str) -> Result<()> {
-        let content = content_of(self.alloc, kind == "octets", body)?;
+    // Sets the input of the next commands, or creates a file.
+    fn make(&mut self, name: &str, content: Vec<u8>) -> Result<()> {
         if name.is_empty() {
             self.input = content;
             return Ok(());
         }
-        Ok(fs::write(rt, name, content)?)
+        Ok(fs::write(self.rt, name, content)?)
     }
 
-    /// Runs the case of a section.
-    pub fn check<R: Runtime<A = Global> + Net<Listener = TcpListener, Stream = TcpStream>>(
-        &mut self,
-        rt: &R,
-        kind: &str,
-        rest: &str,
-        body: &str,
-    ) -> Result<()> {
+    // Runs a command.
+    fn run(&mut self, rest: &str, wanted: &str) -> Result<()> {
+        let (status, line) = first_word(rest);
+        self.complaint = check_run(self.rt, line, self.input.as_slice(), status, wanted)?;
+        Ok(())
+    }
+
+    // Replays the scenario of the texts.
+    fn report(&self, texts: &Texts, rest: &str, wanted: &str) -> Result<()> {
+        let trace = expanded(self.rt.alloc(), texts.trace)?;
+        let scenario = texts.scenario(self.rt.alloc(), trace.as_str())?;
+        let (status, _) = first_word(rest);
+        check_run(self.rt, "replay", scenario.as_bytes(), status, wanted)?;
+        Ok(())
+    }
+
+    /// Checks what becomes of the bay file of the texts with one part replaced and a program without
+    /// instructions: `OLD|NEW -> REPORT`.
+    pub fn check_bay(&self, bay: &str, line: &str) -> Result<()> {
+        let (change, wanted) = line.split_once(" -> ").context("no answer")?;
+        let (old, new) = change.split_once("|").context("no change")?;
+        let (front, back) = bay.split_once(old).context("no such part")?;
+        let status = if wanted.starts_with("load") { "1" } else { "0" };
+        let scenario = format!(in self.rt.alloc();
+            "{front}{new}{back}\n%%\nPROGRAM P\nEND_PROGRAM\n%%\n"
+        )?;
+        check_run(self.rt, "replay", scenario.as_bytes(), status, wanted)?;
+        Ok(())
+    }
+
+    /// Checks the case of a section.
+    pub fn check(&mut self, texts: &Texts, kind: &str, rest: &str, body: &str) -> Result<()> {
+        let alloc = self.rt.alloc();
         match kind {
-            "run" => {
-                let (status, line) = first_word(rest);
-                self.run(rt, status, line, body)
-            }
+            "report" => self.report(texts, rest, body),
+            "run" => self.run(rest, body),
+            "input" => self.make(rest, format!(in alloc; "{body}\n")?.into_bytes()),
+            "octets" => self.make(rest, octets_of(alloc, body)?),
             "complaint" => check_text(self.complaint.as_str().trim_end(), body),
-            "holds" => check_file(rt, self.alloc, rest, body),
-            "gone" => check(fs::open(rt, rest).is_err()),
+            "holds" => check_octets(alloc, fs::read(self.rt, rest)?.as_slice(), body),
+            "gone" => check(fs::open(self.rt, rest).is_err()),
             _ => bail!("there is no such section"),
         }
     }
 }
 
-/// Checks the job that words ask for, as Rust's `{:?}` prints it, or `refused`.
-pub fn check_job(alloc: Global, words: &str, wanted: &str) -> Result<()> {
-    let words = words_of(alloc, words)?;
-    let job = match job_of(alloc, words.as_slice()) {
-        Ok(job) => format!(in alloc; "{job:?}")?,
-        Err(WordsFault::Refused(_text)) => String::from_str(alloc, "refused")?,
+/// Checks the job that words ask for, as Rust's `{:?}` prints it, or `refused`: `WORDS -> JOB`.
+pub fn check_job(alloc: Global, line: &str) -> Result<()> {
+    let (words, wanted) = line.split_once(" -> ").context("no answer")?;
+    match job_of(alloc, words_of(alloc, words)?.as_slice()) {
+        Ok(job) => check_text(format!(in alloc; "{job:?}")?.as_str(), wanted),
+        Err(WordsFault::Refused(_text)) => check_text("refused", wanted),
         Err(WordsFault::OutOfMemory) => bail!("out of memory"),
-    };
-    check_text(job.as_str(), wanted)
+    }
 }

@@ -5,112 +5,65 @@
 // begin, and `AFTER contact ..` and `AFTER scan` are events of the process. Behind them stand the
 // lines that are printed, which begin with `> `: `> AFTER send OCTETS` and `> AFTER closed WHY`
 // without the association, whose number `#` stands for, and others as they are.
-use crate::texts::{Texts, check_trace};
+use crate::talk::Talk;
+use crate::texts::Texts;
 use anyhow::{Context, Result};
 use cases::words::first_word;
 use std::alloc::{AllocError, Global};
 
-// A trace, its expected report, and the time up to which they go.
-#[derive(Drop)]
-struct Talk {
-    trace: String,
-    report: String,
-    now: u64,
+// Appends what is printed at a time.
+fn tell(talk: &mut Talk, moment: u64, association: u16, told: &str) -> Result<(), AllocError> {
+    match first_word(told) {
+        ("send", octets) => match octets.split_once("#") {
+            Some((front, back)) => writeln!(
+                talk.report,
+                "{moment} send {association} {front}{association:04x}{back}"
+            ),
+            None => writeln!(talk.report, "{moment} send {association} {octets}"),
+        },
+        ("closed", why) => writeln!(talk.report, "{moment} closed {association} {why}"),
+        _ => writeln!(talk.report, "{moment} {told}"),
+    }
 }
 
-// Appends octets in hexadecimal digits, all at once or one by one.
-fn put_recv(
-    trace: &mut String,
-    moment: u64,
+// Appends a block of lines by an association, from a time on. Returns the last time.
+fn put_block(
+    talk: &mut Talk,
+    begin: u64,
     association: u16,
-    digits: &str,
+    block: &str,
     whole: bool,
-) -> Result<(), AllocError> {
-    if whole {
-        return writeln!(trace, "{moment} recv {association} {digits}");
+) -> Result<u64> {
+    let mut moment = begin;
+    for line in block.lines() {
+        let (is_told, line) = match line.strip_prefix("> ") {
+            Some(told) => (true, told),
+            None => (false, line),
+        };
+        let (after, what) = first_word(line);
+        moment = begin.saturating_add(after.parse::<u64>().context("no moment")?);
+        match first_word(what) {
+            _ if is_told => tell(talk, moment, association, what),
+            ("recv", digits) => talk.hear(moment, association, digits, whole),
+            _ => writeln!(talk.trace, "{moment} {what}"),
+        }?;
     }
-    for at in 0..digits.len() / 2 {
-        let begin = at.saturating_mul(2);
-        let octet = digits.get(begin..begin.saturating_add(2)).unwrap_or("");
-        writeln!(trace, "{moment} recv {association} {octet}")?;
-    }
-    Ok(())
-}
-
-impl Talk {
-    // Appends an event at a time.
-    fn put_event(
-        &mut self,
-        moment: u64,
-        association: u16,
-        event: &str,
-        whole: bool,
-    ) -> Result<(), AllocError> {
-        match first_word(event) {
-            ("recv", digits) => put_recv(&mut self.trace, moment, association, digits, whole),
-            _ => writeln!(self.trace, "{moment} {event}"),
-        }
-    }
-
-    // Appends what is printed at a time.
-    fn put_told(&mut self, moment: u64, association: u16, told: &str) -> Result<(), AllocError> {
-        match first_word(told) {
-            ("send", octets) => match octets.split_once("#") {
-                Some((front, back)) => writeln!(
-                    self.report,
-                    "{moment} send {association} {front}{association:04x}{back}"
-                ),
-                None => writeln!(self.report, "{moment} send {association} {octets}"),
-            },
-            ("closed", why) => writeln!(self.report, "{moment} closed {association} {why}"),
-            _ => writeln!(self.report, "{moment} {told}"),
-        }
-    }
-
-    // Appends a block of lines by an association, from the last time on.
-    fn put_block(&mut self, association: u16, block: &str, whole: bool) -> Result<()> {
-        let begin = self.now;
-        for line in block.lines() {
-            let (is_told, line) = match line.strip_prefix("> ") {
-                Some(told) => (true, told),
-                None => (false, line),
-            };
-            let (after, what) = first_word(line);
-            let moment = begin.saturating_add(after.parse::<u64>().context("no moment")?);
-            self.now = moment;
-            if is_told {
-                self.put_told(moment, association, what)?;
-            } else {
-                self.put_event(moment, association, what, whole)?;
-            }
-        }
-        Ok(())
-    }
-
-    // Opens `count` associations, and appends all blocks by each of them.
-    fn put_blocks(&mut self, body: &str, count: u16, whole: bool) -> Result<()> {
-        for association in 1..=count {
-            writeln!(self.trace, "0 open {association}")?;
-        }
-        for block in body.split("\n\n") {
-            for association in 1..=count {
-                self.put_block(association, block, whole)?;
-            }
-        }
-        Ok(())
-    }
+    Ok(moment)
 }
 
 // Checks that a talk by `count` associations at once, whole or octet by octet, is answered as its
 // lines say.
 fn check_by(alloc: Global, texts: &Texts, body: &str, count: u16, whole: bool) -> Result<()> {
-    let mut talk = Talk {
-        trace: String::new(alloc),
-        report: String::new(alloc),
-        now: 0,
-    };
-    talk.put_blocks(body, count, whole)?;
-    check_trace(alloc, texts, talk.trace.as_str(), talk.report.as_str())
+    let (mut talk, mut now) = (Talk::new(alloc), 0);
+    for association in 1..=count {
+        writeln!(talk.trace, "0 open {association}")?;
+    }
+    for block in body.split("\n\n") {
+        for association in 1..=count {
+            now = put_block(&mut talk, now, association, block, whole)?;
+        }
+    }
+    talk.check(alloc, texts)
 }
 
 /// Checks that a talk is answered as its lines say: by one association alone with whole messages,

@@ -5,132 +5,87 @@
 // by each other value, behind the front of association 1, and that is answered, waited with, or
 // ends it; behind ` -> ` stands how often it comes to what first, if that is said: answers, ends,
 // nothing yet, and faults by their numbers. The octets are hexadecimal digits.
-use crate::texts::{Texts, lines_behind_load, report_of};
-use anyhow::{Result, bail};
+use crate::texts::{Texts, replayed};
+use anyhow::{Context, Result, bail};
 use cases::told::{check, check_text};
 use cases::words::first_word;
 use std::alloc::{AllocError, Global};
-use std::fmt;
 
 // The number of milliseconds after which everything a client has selected or operated has expired.
 const PASSED: u64 = 10_000;
 
-// The counts of what frames led to: an answer, an end, nothing yet, and each fault.
-#[derive(Drop)]
-struct Counts {
-    answers: u32,
-    ends: u32,
-    waits: u32,
-    faults: [u32; 27],
-}
+// The counts of what frames led to first: an answer, nothing yet, an end, and each fault.
+const ANSWERS: usize = 0;
 
-impl Counts {
-    // Creates counts of no frame.
-    fn new() -> Counts {
-        Counts {
-            answers: 0,
-            ends: 0,
-            waits: 0,
-            faults: [0; 27],
+const WAITS: usize = 1;
+
+const CLOSED: usize = 2;
+
+type Counts = [u32; 29];
+
+// Returns the counts, those of faults with their numbers.
+fn counts_text(alloc: Global, counts: &Counts) -> Result<String, AllocError> {
+    let (answers, ends, waits) = (counts[ANSWERS], counts[CLOSED], counts[WAITS]);
+    let mut text = format!(in alloc; "answers={answers} ends={ends} waits={waits}")?;
+    for (number, count) in counts[CLOSED..].iter().enumerate().skip(1) {
+        if *count > 0 {
+            write!(text, " {number}={count}")?;
         }
     }
+    Ok(text)
+}
 
-    // Counts what a frame led to first, as it is printed.
-    fn count(&mut self, told: &str) -> Result<()> {
-        match told.split_once(" 1 ") {
-            None => self.waits = self.waits.saturating_add(1),
-            Some(("closed", "0")) => self.ends = self.ends.saturating_add(1),
-            Some(("closed", number)) => {
-                let number = number.parse::<usize>()?;
-                if number > 26 {
-                    bail!("closed with {number}");
-                }
-                self.faults[number] = self.faults[number].saturating_add(1);
+// Returns where that counts to which a frame leads first, as it is printed.
+fn place_of(told: &str) -> Result<usize> {
+    Ok(match told.split_once(" 1 ") {
+        None => WAITS,
+        Some(("closed", number)) => CLOSED.saturating_add(number.parse::<usize>()?),
+        Some(_) => ANSWERS,
+    })
+}
+
+// Checks the lines behind the scan before a frame: the frame is answered, waited for, or ends the
+// association, which then can't be closed, and the other association is answered. Behind a time
+// stands what is told, and its last digit says what was done: 1 is the frame, 2 is what is asked, 3
+// is the close. Returns where it counts.
+fn check_frame(lines: &str, answer: &str) -> Result<usize> {
+    let (mut first, mut closed, mut refused, mut served) = ("", false, false, 0u32);
+    for line in lines.lines().skip(1) {
+        match line.split_once(" ") {
+            Some((moment, told)) if moment.ends_with("1") => {
+                first = if first.is_empty() { told } else { first };
+                closed = closed || told.starts_with("closed 1 ");
             }
-            Some(_) => self.answers = self.answers.saturating_add(1),
-        }
-        Ok(())
-    }
-}
-
-impl fmt::Display for Counts {
-    // Writes the counts, those of faults with their numbers.
-    fn fmt<W: fmt::Write>(&self, f: &mut fmt::Formatter<W>) -> fmt::Result {
-        let (answers, ends, waits) = (self.answers, self.ends, self.waits);
-        write!(f, "answers={answers} ends={ends} waits={waits}")?;
-        for (number, count) in self.faults.iter().enumerate() {
-            if *count > 0 {
-                write!(f, " {number}={count}")?;
+            Some((moment, told)) if moment.ends_with("2") => {
+                check_text(told, answer)?;
+                served = served.saturating_add(1);
             }
+            Some((moment, told)) if moment.ends_with("3") => {
+                check_text(told, "refused 111")?;
+                refused = true;
+            }
+            // what opens it, and the time of the next scan
+            _ => {}
         }
-        Ok(())
     }
+    check(closed == refused && served == 1)?;
+    place_of(first)
 }
 
-/// The octets that open association 1, and what association 2 asks and is answered.
+/// The octets that open association 1 and association 2, and what association 2 asks and is
+/// answered.
 #[derive(Drop)]
 pub struct Hostile<'a> {
-    alloc: Global,
     first: &'a str,
     front: &'a str,
     asked: &'a str,
     answer: &'a str,
 }
 
-// What was seen of one frame: what it led to first, whether it closed the association, whether
-// closing was then refused, and how often the other association was answered.
-#[derive(Drop)]
-struct Seen<'r> {
-    told: &'r str,
-    closed: bool,
-    refused: bool,
-    served: u32,
-}
-
-impl<'r> Seen<'r> {
-    // Creates a record of nothing seen.
-    fn new() -> Seen<'r> {
-        Seen {
-            told: "",
-            closed: false,
-            refused: false,
-            served: 0,
-        }
-    }
-
-    // Notes a line after its time, whose last digit says what was done: 1 is the frame, 2 is what
-    // is asked, 3 is the close.
-    fn note(&mut self, moment: &str, told: &'r str, answer: &str) -> Result<()> {
-        if moment.ends_with("1") {
-            if self.told.is_empty() {
-                self.told = told;
-            }
-            self.closed = self.closed || told.starts_with("closed 1 ");
-        }
-        if moment.ends_with("2") {
-            check_text(told, answer)?;
-            self.served = self.served.saturating_add(1);
-        }
-        if moment.ends_with("3") {
-            check_text(told, "refused 111")?;
-            self.refused = true;
-        }
-        Ok(())
-    }
-
-    // Checks that the frame was answered, waited for, or ended the association, and that the other
-    // association is served.
-    fn check(&self, counts: &mut Counts) -> Result<()> {
-        check(self.closed == self.refused && self.served == 1)?;
-        counts.count(self.told)
-    }
-}
-
 impl<'a> Hostile<'a> {
     /// Creates a state without octets.
-    pub fn new(alloc: Global) -> Hostile<'a> {
+    pub fn new() -> Hostile<'a> {
         Hostile {
-            alloc,
             first: "",
             front: "",
             asked: "",
@@ -138,94 +93,78 @@ impl<'a> Hostile<'a> {
         }
     }
 
-    // Begins the trace: the first switch is open, and so is association 2.
-    fn put_begin(&self, trace: &mut String) -> Result<(), AllocError> {
-        writeln!(trace, "0 contact QA1 1\n0 open 2\n0 recv 2 {}", self.first)
-    }
-
-    // Appends a frame at a time, with the octet between two parts replaced.
-    fn put_frame(
+    // Returns the trace of frames with the octet between two parts replaced by each other value. At
+    // first switch 1 is open, and so is association 2.
+    fn trace_of(
         &self,
-        trace: &mut String,
-        now: u64,
+        alloc: Global,
         front: &str,
-        value: u8,
+        octet: u8,
         back: &str,
-    ) -> Result<(), AllocError> {
-        let (frame_at, asked_at) = (now.saturating_add(1), now.saturating_add(2));
-        writeln!(trace, "{now} scan\n{now} open 1")?;
-        if !self.front.is_empty() {
-            writeln!(trace, "{now} recv 1 {}", self.front)?;
-        }
-        writeln!(trace, "{frame_at} recv 1 {front}{value:02x}{back}")?;
-        writeln!(trace, "{asked_at} recv 2 {}", self.asked)?;
-        writeln!(trace, "{} close 1", now.saturating_add(3))
-    }
-
-    // Returns the trace of frames with the octet between two parts replaced by each other value.
-    fn trace_of(&self, front: &str, octet: u8, back: &str) -> Result<String, AllocError> {
-        let mut trace = String::new(self.alloc);
-        self.put_begin(&mut trace)?;
-        let mut now = 0u64;
-        for value in 0..=255u8 {
-            if value != octet {
-                now = now.saturating_add(PASSED);
-                self.put_frame(&mut trace, now, front, value, back)?;
-            }
+    ) -> Result<String, AllocError> {
+        let (first, asked) = (self.first, self.asked);
+        let mut trace = format!(in alloc; "0 contact QA1 1\n0 open 2\n0 recv 2 {first}\n")?;
+        // what is told again changes nothing
+        let (verb, opening) = match self.front {
+            "" => ("contact QA1 1", ""),
+            octets => ("recv 1 ", octets),
+        };
+        for more in 1..=255u8 {
+            let value = octet.wrapping_add(more);
+            let now = PASSED.saturating_mul(more as u64);
+            let (at, next, last) = (now + 1, now + 2, now + 3);
+            write!(
+                trace,
+                "{now} scan\n{now} open 1\n{now} {verb}{opening}\n\
+                {at} recv 1 {front}{value:02x}{back}\n{next} recv 2 {asked}\n{last} close 1\n"
+            )?;
         }
         Ok(trace)
     }
 
-    // Checks that the lines of such a trace are those of 255 frames, and counts them. The first
-    // lines, up to the first scan, are those of opening the other association.
-    fn check_lines(&self, lines: &str, counts: &mut Counts) -> Result<()> {
-        let wanted = format!(in self.alloc; "send 2 {}", self.answer)?;
-        let mut seen = Seen::new();
+    // Checks and counts the frames with one octet replaced: behind the lines of opening the other
+    // association stands a scan before each.
+    fn count_octet(
+        &self,
+        alloc: Global,
+        texts: &Texts,
+        trace: &str,
+        counts: &mut Counts,
+    ) -> Result<()> {
+        let answer = format!(in alloc; "send 2 {}", self.answer)?;
+        let mut report = Vec::new(alloc);
         let mut frames = 0u32;
-        for line in lines.lines() {
-            let (moment, told) = first_word(line);
-            if told.starts_with("scan ") {
-                if frames > 0 {
-                    seen.check(counts)?;
-                }
-                frames = frames.saturating_add(1);
-                seen = Seen::new();
-            }
-            seen.note(moment, told, wanted.as_str())?;
+        for lines in replayed(alloc, texts, trace, &mut report)?
+            .split(" scan ")
+            .skip(1)
+        {
+            let place = check_frame(lines, answer.as_str())?;
+            let count = counts.get_mut(place).context("there is no such fault")?;
+            *count = count.saturating_add(1);
+            frames = frames.saturating_add(1);
         }
-        seen.check(counts)?;
         check(frames == 255)
     }
 
-    // Checks the frames with one octet replaced.
-    fn check_octet(
-        &self,
-        texts: &Texts,
-        front: &str,
-        octet: u8,
-        back: &str,
-        counts: &mut Counts,
-    ) -> Result<()> {
-        let trace = self.trace_of(front, octet, back)?;
-        let scenario = texts.scenario(self.alloc, trace.as_str())?;
-        let report = report_of(self.alloc, scenario.as_str(), 0)?;
-        self.check_lines(lines_behind_load(report.as_slice())?, counts)
-    }
-
-    // Checks and counts the frames with each octet replaced.
-    fn count_all(&self, texts: &Texts, digits: &str, counts: &mut Counts) -> Result<()> {
+    // Checks the frames with each octet replaced, and their counts, if these are said.
+    fn check_all(&self, alloc: Global, texts: &Texts, digits: &str, told: &str) -> Result<()> {
+        let mut counts = [0; 29];
         for at in 0..digits.len() / 2 {
             let begin = at.saturating_mul(2);
             let (front, rest) = digits.split_at_checked(begin).unwrap_or((digits, ""));
             let (octet, back) = rest.split_at_checked(2).unwrap_or((rest, ""));
             let octet = u8::from_str_radix(octet, 16)?;
-            self.check_octet(texts, front, octet, back, counts)?;
+            let trace = self.trace_of(alloc, front, octet, back)?;
+            self.count_octet(alloc, texts, trace.as_str(), &mut counts)?;
         }
-        Ok(())
+        if told.is_empty() {
+            return Ok(());
+        }
+        check_text(counts_text(alloc, &counts)?.as_str(), told)
     }
 
     /// Processes a line.
-    pub fn check(&mut self, texts: &Texts, line: &'a str) -> Result<()> {
+    pub fn check(&mut self, alloc: Global, texts: &Texts, line: &'a str) -> Result<()> {
         let (kind, words) = first_word(line);
         let (octets, told) = words.split_once(" -> ").unwrap_or((words, ""));
         match kind {
@@ -235,13 +174,7 @@ impl<'a> Hostile<'a> {
                 self.asked = octets;
                 self.answer = told;
             }
-            "behind" => {
-                let mut counts = Counts::new();
-                self.count_all(texts, octets, &mut counts)?;
-                if !told.is_empty() {
-                    check_text(format!(in self.alloc; "{counts}")?.as_str(), told)?;
-                }
-            }
+            "behind" => return self.check_all(alloc, texts, octets, told),
             _ => bail!("what is this: {kind}"),
         }
         Ok(())

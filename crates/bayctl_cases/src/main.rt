@@ -30,9 +30,10 @@ mod commands;
 mod eight;
 mod fronts;
 mod hostile;
+mod talk;
 mod texts;
 
-use anyhow::{Context, Result};
+use anyhow::Result;
 use cases::sections::{BETWEEN, head_and_body, sections_of};
 use cases::told::Told;
 use cases::words::first_word;
@@ -42,67 +43,39 @@ use fronts::check_fronts;
 use hostile::Hostile;
 use std::alloc::Global;
 use std::io::Read;
-use std::net::{Net, TcpListener, TcpStream};
-use std::rt::Runtime;
-use texts::{Texts, check_changed_bay, check_scenario};
+use texts::Texts;
 
-// Checks the lines of the jobs that command lines ask for.
-fn tell_jobs(alloc: Global, told: &mut Told, body: &str) -> Result<()> {
-    for line in body.lines() {
-        let (words, wanted) = line.split_once(" -> ").context("no answer")?;
-        told.tell(line, check_job(alloc, words, wanted))?;
-    }
-    Ok(())
-}
-
-// Checks the lines of changed bay files.
-fn tell_bays(alloc: Global, told: &mut Told, texts: &Texts, body: &str) -> Result<()> {
-    for line in body.lines() {
-        told.tell(line, check_changed_bay(alloc, texts.bay, line))?;
-    }
-    Ok(())
-}
-
-// Checks the lines of hostile octets.
-fn tell_hostile(alloc: Global, told: &mut Told, texts: &Texts, body: &str) -> Result<()> {
-    let mut hostile = Hostile::new(alloc);
-    for line in body.lines() {
-        told.tell(line, hostile.check(texts, line))?;
-    }
-    Ok(())
-}
-
-// Checks the cases of a section that needs only texts. Returns whether it is such a section.
-fn tell_texts(
+// Checks the cases of a section each of whose lines is one.
+fn tell_lines(
     alloc: Global,
     told: &mut Told,
     texts: &Texts,
-    head: &str,
+    commands: &Commands,
+    kind: &str,
     body: &str,
-) -> Result<bool> {
-    match first_word(head) {
-        ("report", rest) => {
-            let (status, _) = first_word(rest);
-            told.tell(head, check_scenario(alloc, texts, status, body))?;
-        }
-        ("bays", _) => tell_bays(alloc, told, texts, body)?,
-        ("eight", _) => told.tell(head, check_eight(alloc, texts, body))?,
-        ("fronts", _) => told.tell(head, check_fronts(alloc, texts, body))?,
-        ("hostile", _) => tell_hostile(alloc, told, texts, body)?,
-        ("jobs", _) => tell_jobs(alloc, told, body)?,
-        _ => return Ok(false),
+) -> Result<()> {
+    let mut hostile = Hostile::new();
+    for line in body.lines() {
+        let outcome = match kind {
+            "bays" => commands.check_bay(texts.bay, line),
+            "jobs" => check_job(alloc, line),
+            _ => hostile.check(alloc, texts, line),
+        };
+        told.tell(line, outcome)?;
     }
-    Ok(true)
+    Ok(())
 }
 
 // Runs the cases of all sections, and returns what is reported of them.
-fn run<R: Runtime<A = Global> + Net<Listener = TcpListener, Stream = TcpStream>>(
-    rt: &R,
-    alloc: Global,
-    text: &str,
-) -> Result<String> {
-    let mut texts = Texts::new();
-    let mut commands = Commands::new(alloc);
+fn run(rt: &HostRuntime, text: &str) -> Result<String> {
+    let alloc = rt.alloc();
+    let mut texts = Texts {
+        bay: "",
+        frame: "",
+        logic: "",
+        trace: "",
+    };
+    let mut commands = Commands::new(rt);
     let mut told = Told::new(alloc);
     for section in sections_of(text)?.split(BETWEEN) {
         let (head, body) = head_and_body(section);
@@ -113,9 +86,12 @@ fn run<R: Runtime<A = Global> + Net<Listener = TcpListener, Stream = TcpStream>>
             "frame" => texts.frame = body,
             "logic" => texts.logic = body,
             "trace" => texts.trace = body,
-            "input" | "octets" => commands.make(rt, kind, rest, body)?,
-            _ if tell_texts(alloc, &mut told, &texts, head, body)? => {}
-            _ => told.tell(head, commands.check(rt, kind, rest, body))?,
+            "bays" | "jobs" | "hostile" => {
+                tell_lines(alloc, &mut told, &texts, &commands, kind, body)?
+            }
+            "eight" => told.tell(head, check_eight(alloc, &texts, body))?,
+            "fronts" => told.tell(head, check_fronts(alloc, &texts, body))?,
+            _ => told.tell(head, commands.check(&texts, kind, rest, body))?,
         }
     }
     told.finish()
@@ -124,7 +100,7 @@ fn run<R: Runtime<A = Global> + Net<Listener = TcpListener, Stream = TcpStream>>
 fn main(rt: HostRuntime) -> Result<()> {
     let mut text = String::new(rt.alloc());
     rt.reader().read_to_string(&mut text)?;
-    let told = run(&rt, rt.alloc(), text.as_str())?;
+    let told = run(&rt, text.as_str())?;
     print!(&rt; "{told}")?;
     Ok(())
 }
