@@ -1,5 +1,5 @@
 // Instructions and arithmetic, with rows whose values come from the format and the standard.
-use il_image::arithmetic::{Comparison, ArithmeticOperation, Width, compute};
+use il_image::arithmetic::{ArithmeticOperation, Comparison, Width, compute};
 use il_image::instr::Instr;
 use il_image::opcode::{Connective, SlotUse, TimerUse, When, Widening};
 use il_image::read::instr_at;
@@ -27,11 +27,26 @@ const INSTRS: [(&[u8], Instr); 37] = [
     (&[0x0C], Instr::Combine(Connective::And)),
     (&[0x0D], Instr::Combine(Connective::Or)),
     (&[0x0E], Instr::Combine(Connective::Xor)),
-    (&[0x0F, 0x02], Instr::Compute(ArithmeticOperation::Add, Width::Int)),
-    (&[0x10, 0x03], Instr::Compute(ArithmeticOperation::Sub, Width::Dint)),
-    (&[0x11, 0x05], Instr::Compute(ArithmeticOperation::Mul, Width::Lint)),
-    (&[0x12, 0x02], Instr::Compute(ArithmeticOperation::Div, Width::Int)),
-    (&[0x13, 0x03], Instr::Compute(ArithmeticOperation::Mod, Width::Dint)),
+    (
+        &[0x0F, 0x02],
+        Instr::Compute(ArithmeticOperation::Add, Width::Int),
+    ),
+    (
+        &[0x10, 0x03],
+        Instr::Compute(ArithmeticOperation::Sub, Width::Dint),
+    ),
+    (
+        &[0x11, 0x05],
+        Instr::Compute(ArithmeticOperation::Mul, Width::Lint),
+    ),
+    (
+        &[0x12, 0x02],
+        Instr::Compute(ArithmeticOperation::Div, Width::Int),
+    ),
+    (
+        &[0x13, 0x03],
+        Instr::Compute(ArithmeticOperation::Mod, Width::Dint),
+    ),
     (&[0x14], Instr::Compare(Comparison::Gt)),
     (&[0x15], Instr::Compare(Comparison::Ge)),
     (&[0x16], Instr::Compare(Comparison::Eq)),
@@ -81,7 +96,13 @@ const RESULTS: [(ArithmeticOperation, Width, i64, i64, i64); 14] = [
     (ArithmeticOperation::Mul, Width::Int, 300, 300, 24_464),
     (ArithmeticOperation::Mul, Width::Dint, 65_536, 65_536, 0),
     (ArithmeticOperation::Div, Width::Int, -32_768, -1, -32_768),
-    (ArithmeticOperation::Div, Width::Lint, i64::MIN, -1, i64::MIN),
+    (
+        ArithmeticOperation::Div,
+        Width::Lint,
+        i64::MIN,
+        -1,
+        i64::MIN,
+    ),
     (ArithmeticOperation::Div, Width::Int, -7, 2, -3),
     (ArithmeticOperation::Div, Width::Dint, 7, -2, -3),
     (ArithmeticOperation::Mod, Width::Int, -7, 2, -1),

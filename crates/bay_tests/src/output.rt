@@ -52,7 +52,11 @@ fn readers_that_wait(rt: HostRuntime) -> Result<(), Fail> {
     assert!(rt; output.write_octets(b"b")? == 1);
     output.flush_octets()?;
     is_open.set(false);
-    output.log_line(&[LinePart::Text(b"first "), LinePart::Number(1), LinePart::Text(b"\n")]);
+    output.log_line(&[
+        LinePart::Text(b"first "),
+        LinePart::Number(1),
+        LinePart::Text(b"\n"),
+    ]);
     output.log_line(&[LinePart::Text(&PIECE)]);
     output.log_line(&[LinePart::Text(&PIECE)]);
     is_open.set(true);
