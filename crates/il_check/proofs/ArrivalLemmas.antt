@@ -8,7 +8,7 @@ use Rattle.bay_base.specs.declared.types.ElementaryType.{ElementaryType}
 use Rattle.il_text.specs.Listing as text
 use Rattle.il_image.proofs.KindLemmas.{same-is, same-self}
 use Rattle.il_image.proofs.SetLemmas.{set-here, set-elsewhere}
-use Rattle.il_check.specs.Given.{NameTable, resolution_of}
+use Rattle.il_check.specs.Given.{ProgramNames, resolution_of}
 use Rattle.il_check.specs.Labelling.{Labelling, Becomes, Jumps, is_named, with_target}
 use Rattle.il_check.specs.Rules.{jumps_back, target_of}
 use Rattle.il_check.specs.WellTyped.{same_result, join_types, join, no_reach, arrival, arrival_at}
@@ -160,10 +160,10 @@ some-if false x = refl
 -- ---- labels that are there
 
 -- Labels have numbers below this.
-abbrev pub InRange : NameTable → ℕ → Type 0
+abbrev pub InRange : ProgramNames → ℕ → Type 0
 InRange names count = (name : List ℕ) (n : ℕ) → names.label name ≡ Some n → n < count
 
-pub target-in : (names : NameTable) (count : ℕ) (a : text.Action) (n : ℕ) → InRange names count
+pub target-in : (names : ProgramNames) (count : ℕ) (a : text.Action) (n : ℕ) → InRange names count
     → target_of (resolution_of names a) ≡ Some n → n < count
 target-in names count (text.jump condition name) n range e = range name n e
 target-in names count a n range e = absurd (cc)

@@ -3,7 +3,7 @@ use Rattle.std.proofs.Common.{◌≡◌, ℕ, List, [], ◌++◌, map, Option, N
 use Rattle.std.proofs.Math.Path.{fun_ext}
 use Rattle.std.specs.BTreeMap.{get_by_text}
 use Rattle.bay_base.specs.Exact.{unless_refused}
-use Rattle.bay_base.specs.NameTable.{upper}
+use Rattle.bay_base.specs.ProgramNames.{upper}
 use Rattle.bay_base.specs.declared.point.Point.{Point}
 use Rattle.il_text.specs.Listing as text
 use Rattle.il_text.specs.Views.{plain_program, declared_of, entry_of}
@@ -13,7 +13,7 @@ use Rattle.il_text.specs.declared.program.Program as program
 use Rattle.il_check.specs.Checking.{faults_of, checked_program, checked_of}
 use Rattle.il_check.specs.Declaring.{names_in, labels_from, looked_up, meanings_of, variables_of, timers_of, declarations_faults}
 use Rattle.il_check.specs.Faults.{first_fault_of, least_fault}
-use Rattle.il_check.specs.Given.{NameTable}
+use Rattle.il_check.specs.Given.{ProgramNames}
 use Rattle.il_check.specs.LabelsView.{StandsAs}
 use Rattle.il_check.specs.NamesView.{names_of}
 use Rattle.il_check.specs.Program.{Checked, ProgramItem}
@@ -22,7 +22,7 @@ use Rattle.il_check.specs.WellTyped.{Progress, first, no_reach, items_faults, it
 use Rattle.il_check.specs.declared.declare.Declarations.{Declarations}
 use Rattle.il_check.specs.declared.labels.Labels.{Labels}
 use Rattle.il_check.specs.declared.given.Meaning.{Meaning}
-use Rattle.il_check.specs.declared.names.NameTable as code
+use Rattle.il_check.specs.declared.names.ProgramNames as code
 use Rattle.il_check.specs.declared.fault.CheckFault.{CheckFault}
 use Rattle.il_check.specs.declared.typed.External.{External}
 use Rattle.il_check.specs.declared.typed.Variable.{Variable}
@@ -33,7 +33,7 @@ use Rattle.il_check.proofs.NotedLemmas.{noted-append, least_fault-none, append-n
 
 -- what is known once all is read
 pub record IsRead (points : List Point) (program : text.PlainProgram) (d : Declarations)
-    (l : Labels) (names : code.NameTable) (items : List ProgramItem) (answer : Option CheckFault)
+    (l : Labels) (names : code.ProgramNames) (items : List ProgramItem) (answer : Option CheckFault)
     : Type 0 where
   pub stands : StandsFor points program.declarations d
   pub declared : d.found ≡ least_fault (declarations_faults points [] program.declarations)
@@ -46,7 +46,7 @@ pub record IsRead (points : List Point) (program : text.PlainProgram) (d : Decla
       (items_faults (names_of names) program.items (first l.arrivals.items))
 
 module _ (points : List Point) (program : text.PlainProgram) (d : Declarations) (l : Labels)
-    (names : code.NameTable) (items : List ProgramItem) (answer : Option CheckFault)
+    (names : code.ProgramNames) (items : List ProgramItem) (answer : Option CheckFault)
     (read : IsRead points program d l names items answer) where
   meanings-same : (let f : List ℕ
       → Option Meaning = λ name. get_by_text names.meanings (upper name) in
@@ -65,7 +65,7 @@ module _ (points : List Point) (program : text.PlainProgram) (d : Declarations) 
 
   names-same : names_of names ≡ names_in points program
   names-same =
-      let with_both : (List ℕ → Option Meaning) → (List ℕ → Option ℕ) → NameTable =
+      let with_both : (List ℕ → Option Meaning) → (List ℕ → Option ℕ) → ProgramNames =
       λ m n. record { meaning = m; label = n } in
       ap (λ (m : List ℕ → Option Meaning). with_both m
       (λ name. get_by_text names.labels (upper name))) meanings-same
@@ -78,7 +78,7 @@ module _ (points : List Point) (program : text.PlainProgram) (d : Declarations) 
   found-is : answer ≡ least_fault (faults_of points program)
   found-is =
       read.found
-      ∙ ap (λ (n : NameTable). first_fault_of d.found
+      ∙ ap (λ (n : ProgramNames). first_fault_of d.found
       (items_faults n program.items (first l.arrivals.items)))
       names-same
       ∙ ap (λ (s : Progress). first_fault_of d.found
@@ -101,7 +101,7 @@ module _ (points : List Point) (program : text.PlainProgram) (d : Declarations) 
       (first (map (λ x. no_reach) (labels_from 0 program.items)))
   items-same none =
       read.items_read none
-      ∙ ap (λ (n : NameTable). items_left n program.items (first l.arrivals.items)) names-same
+      ∙ ap (λ (n : ProgramNames). items_left n program.items (first l.arrivals.items)) names-same
       ∙ ap (λ (s : Progress). items_left (names_in points program) program.items s) started
 
   -- no declaration has a fault where none is found

@@ -9,7 +9,7 @@ use Rattle.il_text.specs.Listing as text
 use Rattle.il_text.specs.declared.program.Operator.{Operator}
 use Rattle.il_text.specs.declared.program.Condition.TheVariants.{Always, IfTrue, IfFalse}
 use Rattle.il_check.specs.Faults.{fault_if}
-use Rattle.il_check.specs.Given.{NameTable, resolution_of}
+use Rattle.il_check.specs.Given.{ProgramNames, resolution_of}
 use Rattle.il_check.specs.Labelling.{Becomes, IsRight, IsCombined, IsRightEntry, AreRightEntries}
 use Rattle.il_check.specs.Rules.{is_wrong, is_unset, type_after, allows, uses_result, any_type, combines_unset, gives}
 use Rattle.il_check.specs.WellTyped.{type_behind, type_behind_all, instruction_faults, entry_faults, entries_faults}
@@ -98,7 +98,7 @@ from-within (suc room) line fs some e =
     ap (λ (b : Bool). cond b (TooMany line ∷ []) fs) (no-zero room) ∙ e
 
 mutual
-  pub entry-from : (names : NameTable) (room : ℕ) (is_reached : Bool) (passed : ℕ) (e : text.Entry)
+  pub entry-from : (names : ProgramNames) (room : ℕ) (is_reached : Bool) (passed : ℕ) (e : text.Entry)
       (t : Option ElementaryType) → entry_faults names room is_reached passed e t ≡ []
       → IsRightEntry names room passed e t
   entry-from names room is_reached passed (text.label line name) t e = tt
@@ -121,7 +121,7 @@ mutual
         },
       )
 
-  pub entries-from : (names : NameTable) (room : ℕ) (is_reached : Bool) (passed : ℕ) (es : text.Entries)
+  pub entries-from : (names : ProgramNames) (room : ℕ) (is_reached : Bool) (passed : ℕ) (es : text.Entries)
       (t : Option ElementaryType) → entries_faults names room is_reached passed es t ≡ []
       → AreRightEntries names room passed es t
   entries-from names room is_reached passed text.no_entries t e = tt
@@ -132,7 +132,7 @@ mutual
       )
 
 mutual
-  pub entry-to : (names : NameTable) (room : ℕ) (is_reached : Bool) (passed : ℕ) (e : text.Entry)
+  pub entry-to : (names : ProgramNames) (room : ℕ) (is_reached : Bool) (passed : ℕ) (e : text.Entry)
       (t : Option ElementaryType) → is_reached ≡ true → IsRightEntry names room passed e t
       → entry_faults names room is_reached passed e t ≡ []
   entry-to names room is_reached passed (text.label line name) t r ok = refl
@@ -147,7 +147,7 @@ mutual
       (none-both _ _ (none-if _ _ (and_right is_reached _ ok.2.set))
       (none-if _ _ (ap not r))))))
 
-  pub entries-to : (names : NameTable) (room : ℕ) (is_reached : Bool) (passed : ℕ) (es : text.Entries)
+  pub entries-to : (names : ProgramNames) (room : ℕ) (is_reached : Bool) (passed : ℕ) (es : text.Entries)
       (t : Option ElementaryType) → is_reached ≡ true → AreRightEntries names room passed es t
       → entries_faults names room is_reached passed es t ≡ []
   entries-to names room is_reached passed text.no_entries t r ok = refl
@@ -156,7 +156,7 @@ mutual
       (entries-to names room is_reached passed es (type_behind names x t) r ok.1)
 
 -- the opening parenthesis is reached, or an instruction is
-pub entry-reached : (names : NameTable) (room : ℕ) (is_reached : Bool) (passed line : ℕ)
+pub entry-reached : (names : ProgramNames) (room : ℕ) (is_reached : Bool) (passed line : ℕ)
     (operator : Operator) (negated : Bool) (items : text.Entries) (end : ℕ)
     (t : Option ElementaryType)
     → entry_faults names room is_reached passed (text.block line operator negated items end) t ≡ []
@@ -256,7 +256,7 @@ combined-under operator negated inner t u (inr e) ok =
     subst (λ (v : Option ElementaryType). combines_unset inner v ≡ false) e ok.set in
     absurd (let k : true ≡ false = sym (or-true (is_none inner)) ∙ set in cc)
 
-pub entry-under : (names : NameTable) (room passed : ℕ) (e : text.Entry) (t u : Option ElementaryType)
+pub entry-under : (names : ProgramNames) (room passed : ℕ) (e : text.Entry) (t u : Option ElementaryType)
     → Becomes t u → IsRightEntry names room passed e u → IsRightEntry names room passed e t
 entry-under names room passed (text.label line name) t u b ok = tt
 entry-under names room passed (text.action line a) t u b ok =

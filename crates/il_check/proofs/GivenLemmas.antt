@@ -20,7 +20,7 @@ use Rattle.il_image.specs.declared.value.Value.{Value}
 use Rattle.il_image.specs.declared.value.Value.TheVariants as value
 use Rattle.il_image.proofs.KindLemmas.{same-is, same-self}
 use Rattle.il_image.proofs.ValueLemmas.{value_is}
-use Rattle.il_check.specs.Given.{NameTable, given_of, literal_given, variable_given, output_given, place_given, source_given, is_zero, is_nonzero_literal, is_nonzero, called_of, arguments_given, resolution_of}
+use Rattle.il_check.specs.Given.{ProgramNames, given_of, literal_given, variable_given, output_given, place_given, source_given, is_zero, is_nonzero_literal, is_nonzero, called_of, arguments_given, resolution_of}
 use Rattle.il_check.specs.Labelling.{Becomes, IsRight}
 use Rattle.il_check.specs.Program.{Checked}
 use Rattle.il_check.specs.Rules as rules
@@ -185,7 +185,7 @@ literal-nonzero (literal.Time n) e =
     known-nonzero (value_of elementary.Time (pos n)) (pos n)
     (λ v is. (value_is elementary.Time (pos n) v is).number) e
 
-source-nonzero : (names : NameTable) (s : text.Source) → is_nonzero s ≡ true
+source-nonzero : (names : ProgramNames) (s : text.Source) → is_nonzero s ≡ true
     → IsNonzero (source_given names s)
 source-nonzero names (text.constant l) e = literal-nonzero l e
 source-nonzero names (text.variable place) e = absurd (cc)
@@ -215,16 +215,16 @@ IsFound c (Return condition) = Unit {0}
 IsFound c (Call what args) = IsCalled c what × AreGiven c args
 
 -- each name that means something means something declared
-abbrev pub AreNamed : Checked → NameTable → Type 0
+abbrev pub AreNamed : Checked → ProgramNames → Type 0
 AreNamed c names = (name : List ℕ) (m : Meaning) → names.meaning name ≡ Some m → IsNamed c m
 
-place-is : (c : Checked) (names : NameTable) → AreNamed c names → (p : text.Place)
+place-is : (c : Checked) (names : ProgramNames) → AreNamed c names → (p : text.Place)
     → IsGiven c (place_given names p)
 place-is c names meant (text.named name) = variable-is c (names.meaning name) (meant name)
 place-is c names meant (text.output timer what) =
     output-is c (names.meaning timer) what (meant timer)
 
-source-is : (c : Checked) (names : NameTable) → AreNamed c names → (s : text.Source)
+source-is : (c : Checked) (names : ProgramNames) → AreNamed c names → (s : text.Source)
     → IsGiven c (source_given names s)
 source-is c names meant (text.constant l) = literal-is c l
 source-is c names meant (text.variable place) = place-is c names meant place
@@ -235,7 +235,7 @@ called-is c None meant = tt
 called-is c (Some (meaning.Variable s kind writable)) meant = tt
 called-is c (Some (meaning.Timer n)) meant = meant (meaning.Timer n) refl
 
-arguments-are : (c : Checked) (names : NameTable) → AreNamed c names
+arguments-are : (c : Checked) (names : ProgramNames) → AreNamed c names
     → (args : List (Input × text.Source)) → AreGiven c (arguments_given names args)
 arguments-are c names meant [] = tt
 arguments-are c names meant (a ∷ []) = source-is c names meant a.1
@@ -243,7 +243,7 @@ arguments-are c names meant (a ∷ b ∷ more) =
     (source-is c names meant a.1, source-is c names meant b.1)
 
 -- what the names of an action are resolved to is declared
-pub found : (c : Checked) (names : NameTable) → AreNamed c names → (a : text.Action)
+pub found : (c : Checked) (names : ProgramNames) → AreNamed c names → (a : text.Action)
     → IsFound c (resolution_of names a)
 found c names meant (text.load negated source) = source-is c names meant source
 found c names meant (text.store how place) = place-is c names meant place

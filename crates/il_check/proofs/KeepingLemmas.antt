@@ -6,7 +6,7 @@ use Rattle.std.proofs.lemmas.List.{length-append}
 use Rattle.std.specs.List.{cons_option, list_all}
 use Rattle.std.specs.Prelude.{◌==◌}
 use Rattle.bay_base.specs.Exact.{unless_refused}
-use Rattle.bay_base.specs.NameTable.{upper}
+use Rattle.bay_base.specs.ProgramNames.{upper}
 use Rattle.bay_base.specs.Types.{same_type}
 use Rattle.bay_base.specs.declared.types.ElementaryType.{ElementaryType}
 use Rattle.bay_base.specs.declared.types.ElementaryType.TheVariants as elementary
@@ -26,7 +26,7 @@ use Rattle.il_image.proofs.ValueLemmas.{value_is}
 use Rattle.il_check.specs.Checking.{initial_standing, faults_of, checked_program, checked_of}
 use Rattle.il_check.specs.Declaring.{names_in, declarations_faults}
 use Rattle.il_check.specs.Faults.{least_fault}
-use Rattle.il_check.specs.Given.{NameTable, given_of, literal_given, variable_given, output_given, place_given, source_given, called_of, arguments_given, argument_given, resolution_of}
+use Rattle.il_check.specs.Given.{ProgramNames, given_of, literal_given, variable_given, output_given, place_given, source_given, called_of, arguments_given, argument_given, resolution_of}
 use Rattle.il_check.specs.Keeping.{slot_name, timer_name, label_names, IsValueOf, IsOperandOf, IsTargetOf, IsOperationOf, IsArgumentOf, AreArgumentsOf, IsEntryOf, AreEntriesOf, IsItemOf, AreItemsOf, Keeps}
 use Rattle.il_check.specs.Labelling.{IsRight, IsRightEntry, AreRightEntries}
 use Rattle.il_check.specs.OwnPlaces.{MeanOwnPlaces}
@@ -77,7 +77,7 @@ with-room : {A : Type 0} (room : ℕ) (x y : A) → 0 < room → cond (room == 0
 with-room zero x y some = absurd (omega arith)
 with-room (suc room) x y some = ap (λ (b : Bool). cond b x y) (no-zero room)
 
-module _ (c : Checked) (names : NameTable) (items : List text.Entry)
+module _ (c : Checked) (names : ProgramNames) (items : List text.Entry)
     (own : MeanOwnPlaces names c items) (meant : AreNamed c names) where
   named-slot : (name : List ℕ) (s : Slot) (kind : ElementaryType) (w : Bool)
       → names.meaning name ≡ Some (meaning.Variable s kind w)

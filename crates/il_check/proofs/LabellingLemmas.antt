@@ -4,14 +4,14 @@ use Rattle.std.proofs.lemmas.Option.{same_Some, cond_some}
 use Rattle.std.specs.Prelude.{◌==◌, is_some, option_map}
 use Rattle.std.proofs.lemmas.Bool.{cases_eq, not-false}
 use Rattle.std.specs.Str.{bytes_eq}
-use Rattle.bay_base.specs.NameTable.{upper}
+use Rattle.bay_base.specs.ProgramNames.{upper}
 use Rattle.bay_base.specs.declared.types.ElementaryType.{ElementaryType}
 use Rattle.bay_base.specs.declared.point.Point.{Point}
 use Rattle.il_text.specs.Listing as text
 use Rattle.il_text.specs.declared.program.Operator.{Operator}
 use Rattle.il_check.specs.Checking.{initial_standing}
 use Rattle.il_check.specs.Declaring.{labels_from, names_in, looked_up}
-use Rattle.il_check.specs.Given.{NameTable, resolution_of}
+use Rattle.il_check.specs.Given.{ProgramNames, resolution_of}
 use Rattle.il_check.specs.Labelling.{Labelling, Becomes, IsRight, Coming, Falls, Jumps, is_named, with_target, carry_of, beginning, coming_behind_label, coming_behind_action, with_result, Flows, IsWellTyped, behind_all, coming_behind}
 use Rattle.il_check.specs.Rules.{type_after, gives, goes_on, target_of}
 use Rattle.il_check.specs.WellTyped.{Progress, is_first, items_faults, join, arrival, arrival_at, standing_after, behind}
@@ -40,7 +40,7 @@ falls-in labels number kind None falls is typed = absurd (cc)
 falls-in labels number kind (Some t) falls is typed =
     becomes-along kind t (labels number) (typed t refl) falls
 
-stands-behind-label : (labels : Labelling) (count line : ℕ) (names : NameTable) (name : List ℕ)
+stands-behind-label : (labels : Labelling) (count line : ℕ) (names : ProgramNames) (name : List ℕ)
     (named : List ℕ) (s : Progress) (now : Coming) → Falls labels s.passed now
     → Stands labels count named s now
     → Stands labels count named (behind names (text.label line name) s)
@@ -86,7 +86,7 @@ stands-behind-action labels count r t named s now is jumps range st =
           (st.typed t is) jumps range st.brought st.under;
     }
 
-stands-behind-block : (labels : Labelling) (count : ℕ) (names : NameTable) (line : ℕ)
+stands-behind-block : (labels : Labelling) (count : ℕ) (names : ProgramNames) (line : ℕ)
     (operator : Operator) (negated : Bool) (items : text.Entries) (end : ℕ)
     (t : Option ElementaryType) (named : List ℕ) (s : Progress) (now : Coming) → now ≡ Some t
     → Stands labels count named s now
@@ -103,7 +103,7 @@ stands-behind-block labels count names line operator negated items end t named s
       under = st.under;
     }
 
-flows-to : (names : NameTable) (labels : Labelling) (count : ℕ) → InRange names count
+flows-to : (names : ProgramNames) (labels : Labelling) (count : ℕ) → InRange names count
     → (es : List text.Entry) (s : Progress) (named : List ℕ) (now : Coming)
     → Flows names labels es (carry_of s.passed named now) → Stands labels count named s now
     → items_faults names es s ≡ []
@@ -136,7 +136,7 @@ flows-to names labels count range (text.block line operator negated items end �
     (stands-behind-block labels count names line operator negated items end f.0 named s now
     f.1.0 st))
 
-stands-behind-all : (names : NameTable) (labels : Labelling) (count : ℕ) → InRange names count
+stands-behind-all : (names : ProgramNames) (labels : Labelling) (count : ℕ) → InRange names count
     → (es : List text.Entry) (s : Progress) (named : List ℕ) (now : Coming)
     (t : Option ElementaryType) → Flows names labels es (carry_of s.passed named now)
     → Stands labels count named s now
@@ -171,7 +171,7 @@ stands-behind-all names labels count range (text.block line operator negated ite
 -- ---- without a fault there is a labelling
 
 -- the type of the current result at the label of this number with the least types
-abbrev pub least : NameTable → List text.Entry → Progress → ℕ → Option ElementaryType
+abbrev pub least : ProgramNames → List text.Entry → Progress → ℕ → Option ElementaryType
 least names [] s n = None
 least names (text.label line name ∷ es) s n =
     cond (n == s.passed) (join s.now (arrival (slice_get s.arrivals s.passed))).kind
@@ -182,7 +182,7 @@ least names (text.block line operator negated items end ∷ es) s n =
     least names es (behind names (text.block line operator negated items end) s) n
 
 -- what one more jump brings to a label
-brought-by : (names : NameTable) (es : List text.Entry) (r : Resolved) (s : Progress) (n : ℕ)
+brought-by : (names : ProgramNames) (es : List text.Entry) (r : Resolved) (s : Progress) (n : ℕ)
     (v : Reach) (target : Option ℕ) → target_of r ≡ target → slice_get s.arrivals n ≡ Some v
     → v.is_reached ≡ true
     → ((w : Reach) → slice_get (arrival_at (target_of r) s.now s.arrivals) n ≡ Some w
@@ -216,7 +216,7 @@ brought-by names es r s n v (Some m) t is reached more =
     ]
 
 -- what has come to a label becomes its type
-brought-becomes : (names : NameTable) (es : List text.Entry) (s : Progress) (n : ℕ) (v : Reach)
+brought-becomes : (names : ProgramNames) (es : List text.Entry) (s : Progress) (n : ℕ) (v : Reach)
     → slice_get s.arrivals n ≡ Some v → v.is_reached ≡ true → Becomes v.kind (least names es s n)
 brought-becomes names [] s n v is reached = inr refl
 brought-becomes names (text.label line name ∷ es) s n v is reached = elim (cases_eq n s.passed) [
@@ -265,7 +265,7 @@ falls-out : (labels : Labelling) (number : ℕ) (r : Reach) (b : Bool) → r.is_
 falls-out labels number r true e h = h e
 falls-out labels number r false e h = tt
 
-pub jumps-out : (labels : Labelling) (names : NameTable) (es : List text.Entry) (count : ℕ)
+pub jumps-out : (labels : Labelling) (names : ProgramNames) (es : List text.Entry) (count : ℕ)
     (r : Resolved) (s : Progress) (named : List ℕ) (target : Option ℕ) → target_of r ≡ target
     → s.now.is_reached ≡ true → IsRight s.passed r s.now.kind
     → ((n : ℕ) → target_of r ≡ Some n → n < count) → Brought named s.arrivals count
@@ -289,10 +289,10 @@ jumps-out labels names es count r s named (Some m) t reached ok range b same =
     (join-right old s.now reached) more)
 
 -- the labels have the least types
-abbrev pub AreLeast : Labelling → NameTable → List text.Entry → Progress → Type 0
+abbrev pub AreLeast : Labelling → ProgramNames → List text.Entry → Progress → Type 0
 AreLeast labels names es s = (n : ℕ) → s.passed ≤ n → labels n ≡ least names es s n
 
-label-least : (names : NameTable) (labels : Labelling) (line : ℕ) (name : List ℕ) (es : List text.Entry)
+label-least : (names : ProgramNames) (labels : Labelling) (line : ℕ) (name : List ℕ) (es : List text.Entry)
     (s : Progress) → AreLeast labels names (text.label line name ∷ es) s
     → labels s.passed ≡ (join s.now (arrival (slice_get s.arrivals s.passed))).kind
 label-least names labels line name es s same =
@@ -302,7 +302,7 @@ label-least names labels line name es s same =
     ∙ ap (λ (b : Bool). cond b (join s.now come).kind (least names es after s.passed))
     (same-number s.passed s.passed refl)
 
-pub least-behind-label : (names : NameTable) (labels : Labelling) (line : ℕ) (name : List ℕ)
+pub least-behind-label : (names : ProgramNames) (labels : Labelling) (line : ℕ) (name : List ℕ)
     (es : List text.Entry) (s : Progress) → AreLeast labels names (text.label line name ∷ es) s
     → AreLeast labels names es (behind names (text.label line name) s)
 least-behind-label names labels line name es s same n le =
@@ -312,7 +312,7 @@ least-behind-label names labels line name es s same n le =
     ∙ ap (λ (b : Bool). cond b (join s.now come).kind (least names es after n))
     (other-number n s.passed (not_before s.passed n le))
 
-pub exact-behind-label : (names : NameTable) (labels : Labelling) (count : ℕ) (line : ℕ) (name : List ℕ)
+pub exact-behind-label : (names : ProgramNames) (labels : Labelling) (count : ℕ) (line : ℕ) (name : List ℕ)
     (es : List text.Entry) (s : Progress) (named : List ℕ) (now : Coming)
     → AreLeast labels names (text.label line name ∷ es) s → Exact count named s now
     → Exact count named (behind names (text.label line name) s)
@@ -331,7 +331,7 @@ exact-behind-label names labels count line name es s named now same x =
       brought = x.brought;
     }
 
-pub exact-behind-action : (names : NameTable) (count : ℕ) (range : InRange names count)
+pub exact-behind-action : (names : ProgramNames) (count : ℕ) (range : InRange names count)
     (a : text.Action) (s : Progress) (named : List ℕ) (now : Coming) → s.now.is_reached ≡ true
     → Exact count named s now
     → Exact count (with_target (target_of (resolution_of names a)) named)
@@ -347,7 +347,7 @@ exact-behind-action names count range a s named now reached x =
           (λ n e. target-in names count a n range e) x.brought;
     }
 
-pub exact-behind-block : (names : NameTable) (count line : ℕ) (operator : Operator) (negated : Bool)
+pub exact-behind-block : (names : ProgramNames) (count line : ℕ) (operator : Operator) (negated : Bool)
     (items : text.Entries) (end : ℕ) (s : Progress) (named : List ℕ) (now : Coming)
     → s.now.is_reached ≡ true → Exact count named s now
     → Exact count named (behind names (text.block line operator negated items end) s)
@@ -357,7 +357,7 @@ exact-behind-block names count line operator negated items end s named now reach
   brought = x.brought;
 }
 
-pub flows-from : (names : NameTable) (labels : Labelling) (count : ℕ) → InRange names count
+pub flows-from : (names : ProgramNames) (labels : Labelling) (count : ℕ) → InRange names count
     → (es : List text.Entry) (s : Progress) (named : List ℕ) (now : Coming)
     → AreLeast labels names es s → items_faults names es s ≡ []
     → Exact count named s now → Flows names labels es (carry_of s.passed named now)

@@ -4,7 +4,7 @@ use Rattle.std.specs.Prelude.{◌==◌}
 use Rattle.std.specs.List.{cons_option}
 use Rattle.std.proofs.lemmas.Bool.{and_parts, cases_eq, not-false}
 use Rattle.bay_base.specs.Exact.{unless_refused}
-use Rattle.bay_base.specs.NameTable.{upper}
+use Rattle.bay_base.specs.ProgramNames.{upper}
 use Rattle.bay_base.specs.Types.{same_type}
 use Rattle.bay_base.specs.declared.types.ElementaryType.{ElementaryType}
 use Rattle.bay_base.specs.declared.point.Point.{Point}
@@ -14,7 +14,7 @@ use Rattle.il_image.proofs.KindLemmas.{same-is}
 use Rattle.il_check.specs.Checking.{initial_standing, faults_of, checked_program, checked_of}
 use Rattle.il_check.specs.Declaring.{labels_from, names_in, declarations_faults}
 use Rattle.il_check.specs.Faults.{least_fault}
-use Rattle.il_check.specs.Given.{NameTable, resolution_of}
+use Rattle.il_check.specs.Given.{ProgramNames, resolution_of}
 use Rattle.il_check.specs.Labelling.{Labelling, IsRight, IsCombined, IsRightEntry, AreRightEntries, Coming, Jumps, with_target, carry_of, coming_behind_label, coming_behind_action}
 use Rattle.il_check.specs.Program.{Entry, operation, block, Entries, no_entries, entry, ProgramItem, label, transfer, plain, Checked, entry_before}
 use Rattle.il_check.specs.Rules as rules
@@ -99,7 +99,7 @@ with-room : {A : Type 0} (room : ℕ) (x y : A) → 0 < room → y ≡ cond (roo
 with-room zero x y some = absurd (omega arith)
 with-room (suc room) x y some = sym (ap (λ (b : Bool). cond b x y) (no-zero room))
 
-module _ (c : Checked) (names : NameTable) (meant : AreNamed c names) where
+module _ (c : Checked) (names : ProgramNames) (meant : AreNamed c names) where
   entries-typed : (room passed : ℕ) (es : text.Entries) (t : Option ElementaryType)
       (k : ElementaryType) → AreRightEntries names room passed es t
       → type_behind_all names es t ≡ Some k
@@ -167,7 +167,7 @@ block-depth operator negated es None room some h = omega arith
 block-depth operator negated es (Some kind) room some h = omega arith
 
 mutual
-  entry-within : (names : NameTable) (room passed : ℕ) (e : text.Entry) (t : Option ElementaryType)
+  entry-within : (names : ProgramNames) (room passed : ℕ) (e : text.Entry) (t : Option ElementaryType)
       → IsRightEntry names room passed e t → option_depth (entry_left names room e t) ≤ room
   entry-within names room passed (text.label line name) t ok = omega arith
   entry-within names room passed (text.action line a) t ok =
@@ -178,7 +178,7 @@ mutual
       (with-room room no_entries (entries_left names (room - 1) items None) ok.0)
       (entries-within names (room - 1) passed items None ok.1))
 
-  entries-within : (names : NameTable) (room passed : ℕ) (es : text.Entries) (t : Option ElementaryType)
+  entries-within : (names : ProgramNames) (room passed : ℕ) (es : text.Entries) (t : Option ElementaryType)
       → AreRightEntries names room passed es t → entries_depth (entries_left names room es t) ≤ room
   entries-within names room passed text.no_entries t ok = omega arith
   entries-within names room passed (text.entry e es) t ok =
@@ -198,7 +198,7 @@ labels-more (Some (plain e)) is n h = h
 after : (n m : ℕ) → n ≤ m → (m ≡ n → ⊥) → n + 1 ≤ m
 after n m le ne = omega (arith, ne)
 
-labels-below : (names : NameTable) (es : List text.Entry) (s : Progress) (n : ℕ) → s.passed ≤ n
+labels-below : (names : ProgramNames) (es : List text.Entry) (s : Progress) (n : ℕ) → s.passed ≤ n
     → n < s.passed + length (labels_from s.passed es) → has_label (items_left names es s) n ≡ true
 labels-below names [] s n le lt = absurd (omega arith)
 labels-below names (text.label line name ∷ es) s n le lt = elim (cases_eq n s.passed) [
@@ -270,7 +270,7 @@ block-case c labels passed named now t u is o at depth b more =
     subst (λ (x : Option Entry). AreItems c labels (cons_option (option_map plain x) is)
     (carry_of passed named now)) (sym b.is) (t, u, (at, b.right, deep), more)
 
-module _ (c : Checked) (names : NameTable) (meant : AreNamed c names) (labels : Labelling) (count : ℕ)
+module _ (c : Checked) (names : ProgramNames) (meant : AreNamed c names) (labels : Labelling) (count : ℕ)
     (range : InRange names count) where
   items-typed : (es : List text.Entry) (s : Progress) (named : List ℕ) (now : Coming)
       → AreLeast labels names es s → items_faults names es s ≡ [] → Exact count named s now

@@ -10,7 +10,7 @@ use Rattle.il_text.specs.Views.{entry_of}
 use Rattle.il_text.specs.declared.program.Item.{Item}
 use Rattle.il_text.proofs.ListingLemmas.{front-item}
 use Rattle.il_check.specs.Faults.{first_fault_of}
-use Rattle.il_check.specs.Given.{NameTable}
+use Rattle.il_check.specs.Given.{ProgramNames}
 use Rattle.il_check.specs.Program as plain
 use Rattle.il_check.specs.ProgramViews.{entry_view, item_view}
 use Rattle.il_check.specs.WalkView.{standing_of}
@@ -71,7 +71,7 @@ cons-after xs (Some x) rest = append_assoc xs (x ∷ []) rest
 rest_of : List Item → ℕ → text.Entries
 rest_of all i = text.entries_of (map entry_of (drop i all))
 
-module _ (names : NameTable) (room : ℕ) (is_reached : Bool) (passed : ℕ) (all : List Item)
+module _ (names : ProgramNames) (room : ℕ) (is_reached : Bool) (passed : ℕ) (all : List Item)
     (begun : Option CheckFault) where
   entries : text.Entries
   entries = text.entries_of (map entry_of all)
@@ -174,7 +174,7 @@ module _ (names : NameTable) (room : ℕ) (is_reached : Bool) (passed : ℕ) (al
       (sym (nothing-left all i within))
       ∙ known.found
 
-module _ (names : NameTable) (all : List Item) (begun : Option CheckFault) (start : Progress) where
+module _ (names : ProgramNames) (all : List Item) (begun : Option CheckFault) (start : Progress) where
   -- what is known after so many items; what is left of them is, as long as no fault is found
   pub record ItemsSoFar (i : ℕ) (now : Option CheckFault) (w : Walk) : Type 0 where
     pub left : now ≡ None → map item_view w.items.items

@@ -3,7 +3,7 @@ use Rattle.std.specs.Prelude.{ℕ, ◌+◌, Bool, true, false, not, ◌&&◌, na
 use Rattle.std.specs.Char.{to_ascii_uppercase}
 use Rattle.std.specs.List.{list_all}
 use Rattle.std.specs.Str.{bytes_eq}
-use Rattle.bay_base.specs.NameTable.{upper, same_name}
+use Rattle.bay_base.specs.ProgramNames.{upper, same_name}
 use Rattle.bay_base.specs.Types.{same_type}
 use Rattle.bay_base.specs.declared.types.ElementaryType.{ElementaryType}
 use Rattle.bay_base.specs.declared.point.Point.{Point}
@@ -19,7 +19,7 @@ use Rattle.il_image.specs.Images.{is_name_octet}
 use Rattle.il_image.specs.Values.{default_value, type_of}
 use Rattle.il_image.specs.Machine.{most_slots, most_timers}
 use Rattle.il_check.specs.Faults.{fault_if}
-use Rattle.il_check.specs.Given.{NameTable, typed_value}
+use Rattle.il_check.specs.Given.{ProgramNames, typed_value}
 use Rattle.il_check.specs.Rules.{number_in}
 use Rattle.il_check.specs.declared.typed.External as given
 use Rattle.il_check.specs.declared.typed.Variable.{Variable}
@@ -170,7 +170,7 @@ labels_from number (text.action line a ∷ es) = labels_from number es
 labels_from number (text.block line operator negated items end ∷ es) = labels_from number es
 
 -- the names of a program
-abbrev pub names_in : List Point → text.PlainProgram → NameTable
+abbrev pub names_in : List Point → text.PlainProgram → ProgramNames
 names_in points program = record {
   meaning = λ name. looked_up (meanings_of points program.declarations) (upper name);
   label = λ name. looked_up (labels_from 0 program.items) (upper name);

@@ -25,7 +25,7 @@ use Rattle.il_check.specs.declared.given.Resolved.{Resolved}
 use Rattle.il_check.specs.declared.given.Resolved.TheVariants.{Load, Store, Combine, Not, Convert, Jump, Return, Call}
 
 -- what the names of a program mean: of its variables and timers, and the numbers of its labels
-pub record NameTable : Type 0 where
+pub record ProgramNames : Type 0 where
   pub meaning : List ℕ → Option Meaning
   pub label : List ℕ → Option ℕ
 
@@ -81,12 +81,12 @@ output_given (Some (meaning.Timer timer)) gives =
     })
 
 -- a variable, or an output of a timer, by its name
-abbrev pub place_given : NameTable → text.Place → Given
+abbrev pub place_given : ProgramNames → text.Place → Given
 place_given names (text.named name) = variable_given (names.meaning name)
 place_given names (text.output timer gives) = output_given (names.meaning timer) gives
 
 -- an operand
-abbrev pub source_given : NameTable → text.Source → Given
+abbrev pub source_given : ProgramNames → text.Source → Given
 source_given names (text.constant value) = literal_given value
 source_given names (text.variable place) = place_given names place
 
@@ -116,18 +116,18 @@ called_of (Some (meaning.Variable slot kind writable)) = called.Misused
 called_of (Some (meaning.Timer timer)) = called.Timer timer
 
 -- what a call gives to one input
-abbrev pub argument_given : NameTable → Input × text.Source → GivenArgument
+abbrev pub argument_given : ProgramNames → Input × text.Source → GivenArgument
 argument_given names a = record { input = a.0; given = source_given names a.1 }
 
 -- a call has two arguments at most
-abbrev pub arguments_given : NameTable → List (Input × text.Source) → GivenArguments
+abbrev pub arguments_given : ProgramNames → List (Input × text.Source) → GivenArguments
 arguments_given names [] = arguments.None
 arguments_given names (a ∷ []) = arguments.One (argument_given names a)
 arguments_given names (a ∷ b ∷ more) =
     arguments.Two (argument_given names a) (argument_given names b)
 
 -- an instruction, with what its names mean
-abbrev pub resolution_of : NameTable → text.Action → Resolved
+abbrev pub resolution_of : ProgramNames → text.Action → Resolved
 resolution_of names (text.load negated source) = Load negated (source_given names source)
 resolution_of names (text.store kind place) = Store kind (place_given names place)
 resolution_of names (text.combine operator negated source) =

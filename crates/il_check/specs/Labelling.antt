@@ -4,7 +4,7 @@ use Rattle.std.specs.Prelude.{◌≡◌, ℕ, ◌+◌, ◌-◌, ◌<◌, ◌==�
 use Rattle.bay_base.specs.declared.types.ElementaryType.{ElementaryType}
 use Rattle.il_text.specs.Listing as text
 use Rattle.il_text.specs.declared.program.Operator.{Operator}
-use Rattle.il_check.specs.Given.{NameTable, resolution_of}
+use Rattle.il_check.specs.Given.{ProgramNames, resolution_of}
 use Rattle.il_check.specs.Rules.{is_wrong, is_unset, type_after, combines_wrong, combines_unset, misses_name, jumps_back, misses_label, writes_fixed, may_divide_by_zero, divides, gives, goes_on, target_of}
 use Rattle.il_check.specs.WellTyped.{Progress, behind, is_first, type_behind, type_behind_all}
 use Rattle.il_check.specs.declared.given.Resolved.{Resolved}
@@ -41,7 +41,7 @@ pub record IsCombined (operator : Operator) (negated : Bool) (inner result : Opt
 abbrev mutual
   -- An entry is right, in which so many parentheses may stand within one another. A parenthesis
   -- begins with a result that is not set.
-  pub IsRightEntry : NameTable → ℕ → ℕ → text.Entry → Option ElementaryType → Type 0
+  pub IsRightEntry : ProgramNames → ℕ → ℕ → text.Entry → Option ElementaryType → Type 0
   IsRightEntry names room passed (text.label line name) result = Unit {0}
   IsRightEntry names room passed (text.action line a) result =
       IsRight passed (resolution_of names a) result
@@ -49,7 +49,7 @@ abbrev mutual
       (0 < room) × AreRightEntries names (room - 1) passed items None
       × IsCombined operator negated (type_behind_all names items None) result
 
-  pub AreRightEntries : NameTable → ℕ → ℕ → text.Entries → Option ElementaryType → Type 0
+  pub AreRightEntries : ProgramNames → ℕ → ℕ → text.Entries → Option ElementaryType → Type 0
   AreRightEntries names room passed text.no_entries result = Unit {0}
   AreRightEntries names room passed (text.entry e es) result =
       IsRightEntry names room passed e result
@@ -119,7 +119,7 @@ abbrev pub behind_block : Operator → Option ElementaryType → Carried → Car
 behind_block operator t c = carry_of c.passed c.named (Some (option_map (gives operator) t))
 
 -- A label is the first of its name and not too many, and what falls into it brings its type.
-abbrev pub LabelFlows : NameTable → Labelling → List ℕ → Carried → Type 0
+abbrev pub LabelFlows : ProgramNames → Labelling → List ℕ → Carried → Type 0
 LabelFlows names labels name c =
     (is_first c.passed (names.label name) ≡ true) × (c.passed < most_labels)
     × Falls labels c.passed c.now
@@ -129,12 +129,12 @@ abbrev pub ActionFlows : Labelling → Resolved → Option ElementaryType → Ca
 ActionFlows labels r t c = (c.now ≡ Some t) × IsRight c.passed r t × Jumps labels (target_of r) t
 
 -- A parenthesis is reached by a result of this type, and is right on it.
-abbrev pub BlockFlows : NameTable → text.Entry → Option ElementaryType → Carried → Type 0
+abbrev pub BlockFlows : ProgramNames → text.Entry → Option ElementaryType → Carried → Type 0
 BlockFlows names b t c = (c.now ≡ Some t) × IsRightEntry names most_nested c.passed b t
 
 -- Each instruction is reached, and right on the result that comes to it; and each way to a label
 -- brings the label's type, or the label is unset.
-abbrev pub Flows : NameTable → Labelling → List text.Entry → Carried → Type 0
+abbrev pub Flows : ProgramNames → Labelling → List text.Entry → Carried → Type 0
 Flows names labels [] c = Unit {0}
 Flows names labels (text.label line name ∷ es) c =
     LabelFlows names labels name c × Flows names labels es (behind_label labels c)
@@ -146,7 +146,7 @@ Flows names labels (text.block line operator negated items end ∷ es) c =
     × Flows names labels es (behind_block operator t c)
 
 -- With some labelling every instruction is right.
-abbrev pub IsWellTyped : NameTable → List text.Entry → Type 0
+abbrev pub IsWellTyped : ProgramNames → List text.Entry → Type 0
 IsWellTyped names items = (labels : Labelling) × Flows names labels items beginning
 
 -- ---- what comes behind items
@@ -157,7 +157,7 @@ with_result f None = None
 with_result f (Some t) = f t
 
 -- what comes behind these items, with this labelling
-abbrev pub coming_behind : NameTable → Labelling → List text.Entry → Carried → Coming
+abbrev pub coming_behind : ProgramNames → Labelling → List text.Entry → Carried → Coming
 coming_behind names labels [] c = c.now
 coming_behind names labels (text.label line name ∷ es) c =
     coming_behind names labels es (behind_label labels c)
@@ -170,6 +170,6 @@ coming_behind names labels (text.block line operator negated items end ∷ es) c
     (carry_of c.passed c.named (with_result (λ t. Some (option_map (gives operator) t)) c.now))
 
 -- what the checks know behind items
-abbrev pub behind_all : NameTable → List text.Entry → Progress → Progress
+abbrev pub behind_all : ProgramNames → List text.Entry → Progress → Progress
 behind_all names [] s = s
 behind_all names (e ∷ es) s = behind_all names es (behind names e s)

@@ -2,12 +2,12 @@
 use Rattle.std.specs.Prelude.{ℕ, ◌&&◌, is_none, List, Option, Some, if◌then◌else◌}
 use Rattle.std.specs.BTreeMap.{get_by_text}
 use Rattle.std.specs.Str.{bytes_eq}
-use Rattle.bay_base.specs.NameTable.{upper}
+use Rattle.bay_base.specs.ProgramNames.{upper}
 use Rattle.il_check.specs.Given as spec
-use Rattle.il_check.specs.declared.names.NameTable.{NameTable}
+use Rattle.il_check.specs.declared.names.ProgramNames.{ProgramNames}
 
 -- names are looked up in upper case
-abbrev pub names_of : NameTable → spec.NameTable
+abbrev pub names_of : ProgramNames → spec.ProgramNames
 names_of n =
     record {
       meaning = λ name. get_by_text n.meanings (upper name);

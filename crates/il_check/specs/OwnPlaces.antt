@@ -1,10 +1,10 @@
 -- A name means what is declared by that name, at its own place.
 use Rattle.std.specs.Prelude.{◌≡◌, ℕ, true, List, slice_get, Some}
-use Rattle.bay_base.specs.NameTable.{upper}
+use Rattle.bay_base.specs.ProgramNames.{upper}
 use Rattle.il_text.specs.Listing as text
 use Rattle.il_image.specs.Values.{type_of}
 use Rattle.il_check.specs.Declaring.{labels_from}
-use Rattle.il_check.specs.Given.{NameTable}
+use Rattle.il_check.specs.Given.{ProgramNames}
 use Rattle.il_check.specs.Program.{Checked}
 use Rattle.il_check.specs.declared.given.Meaning.{Meaning}
 use Rattle.il_check.specs.declared.given.Meaning.TheVariants as meaning
@@ -26,7 +26,7 @@ IsOwn c name (meaning.Timer n) = (t : Timer) × (slice_get c.timers n ≡ Some t
 
 -- What a name means is declared by that name; and the name of each external, variable and timer
 -- means it, at its place. What a label means is the number of the label of that name.
-pub record MeanOwnPlaces (names : NameTable) (c : Checked) (items : List text.Entry) : Type 0 where
+pub record MeanOwnPlaces (names : ProgramNames) (c : Checked) (items : List text.Entry) : Type 0 where
   pub own : (name : List ℕ) (m : Meaning) → names.meaning name ≡ Some m → IsOwn c (upper name) m
   pub externals : (n : ℕ) (e : External) → slice_get c.externals n ≡ Some e
       → names.meaning e.name ≡ Some (meaning.Variable (slot.External n) e.kind e.writable)

@@ -7,7 +7,7 @@ use Rattle.bay_base.specs.Types.{same_type}
 use Rattle.il_text.specs.Listing as text
 use Rattle.il_text.specs.declared.program.Operator.{Operator}
 use Rattle.il_check.specs.Faults.{fault_if}
-use Rattle.il_check.specs.Given.{NameTable, resolution_of}
+use Rattle.il_check.specs.Given.{ProgramNames, resolution_of}
 use Rattle.il_check.specs.Program as plain
 use Rattle.il_check.specs.Rules.{is_wrong, is_unset, type_after, combines_wrong, combines_unset, misses_name, jumps_back, misses_label, writes_fixed, may_divide_by_zero, divides, gives, goes_on, target_of}
 use Rattle.il_check.specs.Typing.{entry_in, item_in, block_in}
@@ -53,14 +53,14 @@ closing_faults is_reached line operator negated inner result =
     ++ fault_if (not is_reached) (Unreachable line))
 
 -- the type of the result behind an entry
-abbrev pub type_behind : NameTable → text.Entry → Option ElementaryType → Option ElementaryType
+abbrev pub type_behind : ProgramNames → text.Entry → Option ElementaryType → Option ElementaryType
 type_behind names (text.label line name) result = result
 type_behind names (text.action line a) result = type_after (resolution_of names a) result
 type_behind names (text.block line operator negated items end) result =
     option_map (gives operator) result
 
 -- the type of the result behind entries
-abbrev pub type_behind_all : NameTable → text.Entries → Option ElementaryType → Option ElementaryType
+abbrev pub type_behind_all : ProgramNames → text.Entries → Option ElementaryType → Option ElementaryType
 type_behind_all names text.no_entries result = result
 type_behind_all names (text.entry e es) result =
     type_behind_all names es (type_behind names e result)
@@ -69,7 +69,7 @@ abbrev mutual
   -- The faults of an entry, in which so many parentheses may stand within one another. A
   -- parenthesis begins with a result that is not set; of one too deep, what is in it and its end
   -- are not judged.
-  pub entry_faults : NameTable → ℕ → Bool → ℕ → text.Entry → Option ElementaryType → List CheckFault
+  pub entry_faults : ProgramNames → ℕ → Bool → ℕ → text.Entry → Option ElementaryType → List CheckFault
   entry_faults names room is_reached passed (text.label line name) result = []
   entry_faults names room is_reached passed (text.action line a) result =
       instruction_faults is_reached passed line (resolution_of names a) result
@@ -79,7 +79,7 @@ abbrev mutual
       else (entries_faults names (room - 1) is_reached passed items None
       ++ closing_faults is_reached end operator negated (type_behind_all names items None) result))
 
-  pub entries_faults : NameTable → ℕ → Bool → ℕ → text.Entries → Option ElementaryType → List CheckFault
+  pub entries_faults : ProgramNames → ℕ → Bool → ℕ → text.Entries → Option ElementaryType → List CheckFault
   entries_faults names room is_reached passed text.no_entries result = []
   entries_faults names room is_reached passed (text.entry e es) result =
       entry_faults names room is_reached passed e result
@@ -87,14 +87,14 @@ abbrev mutual
 
 abbrev mutual
   -- what is left of an entry; the grammar has no label, jump, return or call within a parenthesis
-  pub entry_left : NameTable → ℕ → text.Entry → Option ElementaryType → Option plain.Entry
+  pub entry_left : ProgramNames → ℕ → text.Entry → Option ElementaryType → Option plain.Entry
   entry_left names room (text.label line name) result = None
   entry_left names room (text.action line a) result = entry_in (resolution_of names a) result
   entry_left names room (text.block line operator negated items end) result =
       block_in operator negated
       (if room == 0 then plain.no_entries else entries_left names (room - 1) items None) result
 
-  pub entries_left : NameTable → ℕ → text.Entries → Option ElementaryType → plain.Entries
+  pub entries_left : ProgramNames → ℕ → text.Entries → Option ElementaryType → plain.Entries
   entries_left names room text.no_entries result = plain.no_entries
   entries_left names room (text.entry e es) result =
       plain.entry_before (entry_left names room e result)
@@ -163,7 +163,7 @@ behind_block operator s = record {
 }
 
 -- behind an item
-abbrev pub behind : NameTable → text.Entry → Progress → Progress
+abbrev pub behind : ProgramNames → text.Entry → Progress → Progress
 behind names (text.label line name) s = behind_label s
 behind names (text.action line a) s = standing_after (resolution_of names a) s
 behind names (text.block line operator negated items end) s = behind_block operator s
@@ -185,7 +185,7 @@ label_faults line number passed =
     ++ fault_if (nat_le most_labels passed) (TooMany line)
 
 -- the faults of an item, behind what is known before it
-abbrev pub item_faults : NameTable → text.Entry → Progress → List CheckFault
+abbrev pub item_faults : ProgramNames → text.Entry → Progress → List CheckFault
 item_faults names (text.label line name) s = label_faults line (names.label name) s.passed
 item_faults names (text.action line a) s =
     instruction_faults s.now.is_reached s.passed line (resolution_of names a) s.now.kind
@@ -195,12 +195,12 @@ item_faults names (text.block line operator negated items end) s =
     s.now.kind
 
 -- the faults of items behind what is known before them
-abbrev pub items_faults : NameTable → List text.Entry → Progress → List CheckFault
+abbrev pub items_faults : ProgramNames → List text.Entry → Progress → List CheckFault
 items_faults names [] s = []
 items_faults names (e ∷ es) s = item_faults names e s ++ items_faults names es (behind names e s)
 
 -- what is left of an item
-abbrev pub item_left : NameTable → text.Entry → Progress → Option plain.ProgramItem
+abbrev pub item_left : ProgramNames → text.Entry → Progress → Option plain.ProgramItem
 item_left names (text.label line name) s = Some (plain.label s.passed)
 item_left names (text.action line a) s = item_in (resolution_of names a) s.now.kind
 item_left names (text.block line operator negated items end) s =
@@ -209,7 +209,7 @@ item_left names (text.block line operator negated items end) s =
     s.now.kind)
 
 -- what is left of items
-abbrev pub items_left : NameTable → List text.Entry → Progress → List plain.ProgramItem
+abbrev pub items_left : ProgramNames → List text.Entry → Progress → List plain.ProgramItem
 items_left names [] s = []
 items_left names (e ∷ es) s =
     cons_option (item_left names e s) (items_left names es (behind names e s))

@@ -11,7 +11,7 @@ ghost use Rattle.il_check.specs.declared.fault.CheckFault.TheVariants.{OutOfMemo
 use crate::declare::{Declarations, declare_all};
 use crate::fault::CheckFault;
 use crate::labels::{Labels, all_labels};
-use crate::names::NameTable;
+use crate::names::ProgramNames;
 use crate::program::{Parts, Typed};
 use crate::walk::Judge;
 use bay_base::point::Point;
@@ -75,7 +75,7 @@ fn checked(alloc: Global, program: &Program<'_>, points: &[Point]) -> Result<Typ
         ..
     } = declared;
     let Labels { numbers, arrivals } = labels;
-    let names = NameTable {
+    let names = ProgramNames {
         meanings,
         labels: numbers,
     };

@@ -1,7 +1,7 @@
 // The names of a program, and what they mean (IEC 61131-3:2003, 2.1.2 and 2.4.3).
 ghost use Rattle.std.specs.Prelude.{◌≡◌, ℕ, List, is_some, IfOk, OnOk, string_bytes};
 ghost use Rattle.std.specs.BTreeMap.{get_by_text};
-ghost use Rattle.bay_base.specs.NameTable as base;
+ghost use Rattle.bay_base.specs.ProgramNames as base;
 ghost use Rattle.il_check.specs.NamesView.{names_of, with_value};
 
 use crate::given::Meaning;
@@ -10,7 +10,7 @@ use std::collections::BTreeMap;
 
 /// The meanings of variables' and timers' names, and the numbers of labels, by names in upper case.
 #[derive(Drop)]
-pub(crate) struct NameTable {
+pub(crate) struct ProgramNames {
     pub(crate) meanings: BTreeMap<String, Meaning>,
     pub(crate) labels: BTreeMap<String, usize>,
 }
@@ -70,7 +70,7 @@ pub(crate) fn add_label(
     Ok(())
 }
 
-impl NameTable {
+impl ProgramNames {
     /// Returns the meaning of a name, or `None` if it is not declared.
     pub(crate) fn meaning(
         &self,

@@ -1,13 +1,13 @@
 // Instructions with what their names mean.
 ghost use Rattle.std.specs.Prelude.{◌≡◌, IfOk, OnOk, string_bytes, option_map};
-ghost use Rattle.bay_base.specs.NameTable as base;
+ghost use Rattle.bay_base.specs.ProgramNames as base;
 ghost use Rattle.il_text.specs.Views.{place_of, source_of, argument_of, arguments_of, action_of};
 ghost use Rattle.il_text.specs.Listing as text;
 ghost use Rattle.il_check.specs.Given as spec;
 ghost use Rattle.il_check.specs.NamesView.{names_of};
 
 use crate::given::{Called, Given, GivenArgument, GivenArguments, KnownOperand, Meaning, Resolved};
-use crate::names::NameTable;
+use crate::names::ProgramNames;
 use crate::typed::TypedOperand;
 use bay_base::types::ElementaryType;
 use il_image::value::Value;
@@ -147,7 +147,7 @@ fn called_of(meaning: Option<Meaning>) -> Called
     }
 }
 
-impl NameTable {
+impl ProgramNames {
     // Resolves a symbolic variable: a variable, or an output of a timer.
     fn variable(
         &self,

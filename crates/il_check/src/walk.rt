@@ -18,7 +18,7 @@ use crate::given::Resolved;
 use crate::judge::{
     ClosedParenthesis, InstructionPlace, note_closing, note_instruction, note_label, note_opening,
 };
-use crate::names::NameTable;
+use crate::names::ProgramNames;
 use crate::note::note_if;
 use crate::reach::{Reach, join, unreached};
 use crate::rules::{given_type, goes_on, target_of, type_after};
@@ -67,7 +67,7 @@ impl Judge {
     // Resolves the names of an instruction and notes its faults.
     fn instruction(
         &mut self,
-        names: &NameTable,
+        names: &ProgramNames,
         context: InstructionPlace,
         line: usize,
         instruction: Instruction<'_>,
@@ -89,7 +89,7 @@ impl Judge {
     // set.
     fn operate(
         &mut self,
-        names: &NameTable,
+        names: &ProgramNames,
         context: InstructionPlace,
         line: usize,
         instruction: Instruction<'_>,
@@ -118,7 +118,7 @@ impl Judge {
     #[cycle(entries)]
     fn entries(
         &mut self,
-        names: &NameTable,
+        names: &ProgramNames,
         context: InstructionPlace,
         items: &[Item<'_>],
     ) -> Result<Passed, AllocError>
@@ -150,7 +150,7 @@ impl Judge {
     #[tactic(auto, using(crate::proofs::EntryLemmas::entry_rules))]
     fn entry(
         &mut self,
-        names: &NameTable,
+        names: &ProgramNames,
         context: InstructionPlace,
         item: &Item<'_>,
         kind: Option<ElementaryType>,
@@ -197,7 +197,7 @@ impl Judge {
     #[cycle(entries)]
     fn block(
         &mut self,
-        names: &NameTable,
+        names: &ProgramNames,
         context: InstructionPlace,
         parenthesis: Parenthesis,
         items: &[Item<'_>],
@@ -449,7 +449,7 @@ impl Judge {
     // Checks a label.
     fn label(
         &mut self,
-        names: &NameTable,
+        names: &ProgramNames,
         line: usize,
         name: &str,
         walk: &mut Walk,
@@ -474,7 +474,7 @@ impl Judge {
     // Checks an instruction outside parentheses.
     fn act(
         &mut self,
-        names: &NameTable,
+        names: &ProgramNames,
         line: usize,
         instruction: Instruction<'_>,
         walk: &mut Walk,
@@ -500,7 +500,7 @@ impl Judge {
     // Checks a parenthesis that is not inside another.
     fn enclose(
         &mut self,
-        names: &NameTable,
+        names: &ProgramNames,
         item: &Item<'_>,
         walk: &mut Walk,
     ) -> Result<(), AllocError>
@@ -533,7 +533,7 @@ impl Judge {
     #[tactic(auto, using(crate::proofs::EntryLemmas::entry_rules))]
     fn item(
         &mut self,
-        names: &NameTable,
+        names: &ProgramNames,
         item: &Item<'_>,
         walk: &mut Walk,
     ) -> Result<(), AllocError>
@@ -561,7 +561,7 @@ impl Judge {
     /// Checks all items of a program. No typed items are left if a fault is found.
     pub(crate) fn items(
         &mut self,
-        names: &NameTable,
+        names: &ProgramNames,
         items: &[Item<'_>],
         arrivals: Vec<Reach>,
     ) -> Result<Vec<TypedItem>, AllocError>

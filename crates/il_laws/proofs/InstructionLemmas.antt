@@ -22,7 +22,7 @@ use Rattle.il_image.specs.declared.value.Value.{Value}
 use Rattle.il_image.specs.declared.value.Value.TheVariants as value
 use Rattle.il_image.proofs.KindLemmas.{same-is, same-self}
 use Rattle.il_check.specs.Declaring.{literal_value, of_type}
-use Rattle.il_check.specs.Given.{NameTable, arguments_given, called_of, given_of, is_nonzero, is_nonzero_literal, is_zero, output_given, place_given, resolution_of, source_given, variable_given}
+use Rattle.il_check.specs.Given.{ProgramNames, arguments_given, called_of, given_of, is_nonzero, is_nonzero_literal, is_zero, output_given, place_given, resolution_of, source_given, variable_given}
 use Rattle.il_check.specs.Labelling.{IsCombined, IsRight}
 use Rattle.il_check.specs.Rules.{allows, arguments_fit, converted_from, converted_to, divides, fits, gives, input_type, is_fixed, is_missing, is_plain, is_timer, is_unset, is_wrong, jumps_back, load_type, may_divide_by_zero, may_load, may_negate, misses_argument, misses_label, misses_name, misses_timer, number_in, own_type, takes, type_after, works, writes_fixed}
 use Rattle.il_check.specs.declared.given.Given.{Given}
@@ -122,12 +122,12 @@ output-fits what (Some (meaning.Timer n)) kind =
           sym k ∙ same),
     )
 
-place-fits : (names : NameTable) (place : text.Place) (kind : ElementaryType)
+place-fits : (names : ProgramNames) (place : text.Place) (kind : ElementaryType)
     → (fits kind (place_given names place) ≡ true) ↔ (place_kind names place ≡ Some kind)
 place-fits names (text.named name) kind = variable-fits (names.meaning name) kind
 place-fits names (text.output timer what) kind = output-fits what (names.meaning timer) kind
 
-fits-is : (names : NameTable) (source : text.Source) (kind : ElementaryType)
+fits-is : (names : ProgramNames) (source : text.Source) (kind : ElementaryType)
     → (fits kind (source_given names source) ≡ true) ↔ CanHave names source kind
 fits-is names (text.constant (literal.Truth b)) kind = known-fits elementary.Bool kind _
 fits-is names (text.constant (literal.Number z)) kind = number-fits kind z _ refl
@@ -156,7 +156,7 @@ output-loads what (Some (meaning.Timer n)) = ap Some (sym (output-same what))
 along : {A : Type 0} (x y z : A) → x ≡ y → (x ≡ z) ↔ (y ≡ z)
 along x y z e = (λ f. sym e ∙ f, λ f. e ∙ f)
 
-load-is : (names : NameTable) (source : text.Source) (kind : ElementaryType)
+load-is : (names : ProgramNames) (source : text.Source) (kind : ElementaryType)
     → (load_type (source_given names source) ≡ Some kind) ↔ IsLoaded names source kind
 load-is names (text.constant (literal.Truth b)) kind = some-same elementary.Bool kind
 load-is names (text.constant (literal.Number z)) kind = number-loads kind z _ refl
@@ -214,7 +214,7 @@ initial-is kind (literal.Time n) =
 -- ---- what else is looked at
 
 -- a target that has a type is a variable that may be written, or it is fixed
-may-write : (names : NameTable) (place : text.Place) (kind : ElementaryType)
+may-write : (names : ProgramNames) (place : text.Place) (kind : ElementaryType)
     → place_kind names place ≡ Some kind
     → (is_fixed (place_given names place) ≡ false) ↔ MayWrite names place
 may-write names (text.named name) kind e = named (names.meaning name) e
@@ -339,7 +339,7 @@ timer-there None h = absurd h
 timer-there (Some (meaning.Variable s k w)) h = absurd h
 timer-there (Some (meaning.Timer n)) h = refl
 
-given-is : (names : NameTable) (a : Input × text.Source)
+given-is : (names : ProgramNames) (a : Input × text.Source)
     → (fits (input_type a.0) (source_given names a.1) ≡ true) ↔ CanHave names a.1 (input_kind a.0)
 given-is names a =
     let f = fits-is names a.1 (input_type a.0) in (
@@ -347,7 +347,7 @@ given-is names a =
       λ h. f.1 (subst (CanHave names a.1) (sym (input-same a.0)) h),
     )
 
-are-given : (names : NameTable) (args : List (Input × text.Source))
+are-given : (names : ProgramNames) (args : List (Input × text.Source))
     → (arguments_fit (arguments_given names args) ≡ true) ↔ AreGiven names args
 are-given names [] = (λ e. tt, λ h. refl)
 are-given names (a ∷ []) = given-is names a
@@ -363,7 +363,7 @@ none-of : (a b : Truth) → a ≡ false → b ≡ false → a || b ≡ false
 none-of true b e f = absurd (cc)
 none-of false b e f = f
 
-given-there : (names : NameTable) (args : List (Input × text.Source)) → AreGiven names args
+given-there : (names : ProgramNames) (args : List (Input × text.Source)) → AreGiven names args
     → misses_argument (arguments_given names args) ≡ false
 given-there names [] h = refl
 given-there names (a ∷ []) h =
@@ -452,7 +452,7 @@ not-above label passed e = grind (arith, nat_tests)
 above-not : (label passed : ℕ) → passed ≤ label → ltb label passed ≡ false
 above-not label passed e = grind (arith, nat_tests)
 
-jumped : (names : NameTable) (passed : ℕ) (condition : Condition) (name : List ℕ) (l : Option ℕ)
+jumped : (names : ProgramNames) (passed : ℕ) (condition : Condition) (name : List ℕ) (l : Option ℕ)
     (t u : Option ElementaryType) → names.label name ≡ l
     → IsRight passed (resolved.Jump condition l) t → t ≡ u
     → IsRightAction names passed (text.jump condition name) t u
@@ -466,7 +466,7 @@ jumped names passed condition name (Some n) t u is ok e = (
 )
 
 -- an action that is well typed is right by the table
-pub acts : (names : NameTable) (passed : ℕ) (a : text.Action) (t u : Option ElementaryType)
+pub acts : (names : ProgramNames) (passed : ℕ) (a : text.Action) (t u : Option ElementaryType)
     → IsRight passed (resolution_of names a) t → type_after (resolution_of names a) t ≡ u
     → IsRightAction names passed a t u
 acts names passed (text.load negated source) t u ok e =
@@ -529,7 +529,7 @@ right-jump passed condition (Some l) n t is le h =
     let both = (tested condition (Some l) t).1 h in
     right-where passed (resolved.Jump condition (Some l)) t refl both.0 both.1 (above-not l passed (subst (λ (k : ℕ). passed ≤ k) same le)) refl refl refl
 
-pub right-by : (names : NameTable) (passed : ℕ) (a : text.Action) (t u : Option ElementaryType)
+pub right-by : (names : ProgramNames) (passed : ℕ) (a : text.Action) (t u : Option ElementaryType)
     → IsRightAction names passed a t u
     → IsRight passed (resolution_of names a) t × (type_after (resolution_of names a) t ≡ u)
 right-by names passed (text.load negated source) t u h =

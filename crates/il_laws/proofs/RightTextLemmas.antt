@@ -6,7 +6,7 @@ use Rattle.il_text.specs.Listing as text
 use Rattle.il_text.specs.declared.program.Condition.TheVariants.{Always, IfTrue, IfFalse}
 use Rattle.il_check.specs.Checking.{checked_of}
 use Rattle.il_check.specs.Declaring.{names_in}
-use Rattle.il_check.specs.Given.{NameTable, resolution_of}
+use Rattle.il_check.specs.Given.{ProgramNames, resolution_of}
 use Rattle.il_check.specs.Labelling.{AreRightEntries, Carried, Coming, Flows, IsCombined, IsRightEntry, Jumps, Labelling, beginning, behind_label, carry_of, coming_behind_action, with_target}
 use Rattle.il_check.specs.Program.{Checked}
 use Rattle.il_check.specs.RightProgram.{IsRightProgram}
@@ -20,7 +20,7 @@ use Rattle.il_laws.proofs.InstructionLemmas.{acts, block-is, right-by}
 -- ---- parentheses
 
 mutual
-  entry-right : (names : NameTable) (room passed : ℕ) (e : text.Entry) (t u : Option ElementaryType)
+  entry-right : (names : ProgramNames) (room passed : ℕ) (e : text.Entry) (t u : Option ElementaryType)
       → IsRightEntry names room passed e t → type_behind names e t ≡ u
       → EntryIsRight names room passed e t u
   entry-right names room passed (text.label line name) t u h e = sym e
@@ -33,7 +33,7 @@ mutual
         (block-is operator negated inner t u).0 (h.2, e),
       )
 
-  entries-right : (names : NameTable) (room passed : ℕ) (es : text.Entries)
+  entries-right : (names : ProgramNames) (room passed : ℕ) (es : text.Entries)
       (t u : Option ElementaryType) → AreRightEntries names room passed es t
       → type_behind_all names es t ≡ u → EntriesAreRight names room passed es t u
   entries-right names room passed text.no_entries t u h e = sym e
@@ -45,7 +45,7 @@ mutual
       )
 
 mutual
-  entry-back : (names : NameTable) (room passed : ℕ) (e : text.Entry) (t u : Option ElementaryType)
+  entry-back : (names : ProgramNames) (room passed : ℕ) (e : text.Entry) (t u : Option ElementaryType)
       → EntryIsRight names room passed e t u
       → IsRightEntry names room passed e t × (type_behind names e t ≡ u)
   entry-back names room passed (text.label line name) t u h = (tt, sym h)
@@ -61,7 +61,7 @@ mutual
         b.1,
       )
 
-  entries-back : (names : NameTable) (room passed : ℕ) (es : text.Entries)
+  entries-back : (names : ProgramNames) (room passed : ℕ) (es : text.Entries)
       (t u : Option ElementaryType) → EntriesAreRight names room passed es t u
       → AreRightEntries names room passed es t × (type_behind_all names es t ≡ u)
   entries-back names room passed text.no_entries t u h = (tt, sym h)
@@ -78,13 +78,13 @@ mutual
 
 -- ---- the items
 
-label-same : (names : NameTable) (a : text.Action)
+label-same : (names : ProgramNames) (a : text.Action)
     → target_of (resolution_of names a) ≡ label_of names a
 label-same names (text.load negated source) = refl
 label-same names (text.jump condition name) = refl
 label-same names a = refl
 
-comes-same : (names : NameTable) (a : text.Action) (t : Option ElementaryType)
+comes-same : (names : ProgramNames) (a : text.Action) (t : Option ElementaryType)
     → coming_behind_action (resolution_of names a) t
     ≡ comes_behind a (type_after (resolution_of names a) t)
 comes-same names (text.jump Always name) t = refl
@@ -101,7 +101,7 @@ carried-same k l m x y e f =
     ap (λ (n : Option ℕ). carry_of k.passed (with_target n k.named) x) e
     ∙ ap (carry_of k.passed (with_target m k.named)) f
 
-module _ (names : NameTable) (labels : Labelling) where
+module _ (names : ProgramNames) (labels : Labelling) where
   items-right : (es : List text.Entry) (k : Carried) → Flows names labels es k
       → ItemsAreRight names labels es k
   items-right [] k h = tt

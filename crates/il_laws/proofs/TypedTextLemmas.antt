@@ -23,7 +23,7 @@ use Rattle.il_image.proofs.ValueLemmas.{value_is}
 use Rattle.il_check.specs.Checking.{checked_of, checked_program, faults_of, initial_standing}
 use Rattle.il_check.specs.Declaring.{names_in}
 use Rattle.il_check.specs.Faults.{least_fault}
-use Rattle.il_check.specs.Given.{NameTable, resolution_of}
+use Rattle.il_check.specs.Given.{ProgramNames, resolution_of}
 use Rattle.il_check.specs.Keeping.{AreArgumentsOf, AreEntriesOf, AreItemsOf, IsArgumentOf, IsEntryOf, IsOperandOf, IsOperationOf, IsTransferOf, Keeps, label_names}
 use Rattle.il_check.specs.Labelling.{Carried, Labelling, beginning, behind_label}
 use Rattle.il_check.specs.Program.{Checked, Entries, Entry, ProgramItem, block, entry, entry_before, label, no_entries, operation, plain, transfer}
@@ -114,7 +114,7 @@ number-case negated z true o is e =
     (own-first z ((has-value elementary.Lint z).0 is)) e
 number-case negated z false o is e = absurd (cc)
 
-module _ (names : NameTable) where
+module _ (names : ProgramNames) where
   operation-loads : (a : text.Action) (t : Option ElementaryType) (o : SimpleOperation)
       → operation_in (resolution_of names a) t ≡ Some o → OwnLoad a o
   operation-loads (text.load negated (text.constant (literal.Number z))) t o e =

@@ -1,11 +1,11 @@
 -- The meaning of a program goes by names.
 use Rattle.std.specs.Prelude.{◌≡◌, ℕ, Bool, List, map, slice_get, slice_set, Some, if◌then◌else◌}
 use Rattle.std.specs.Str.{bytes_eq}
-use Rattle.bay_base.specs.NameTable.{upper}
+use Rattle.bay_base.specs.ProgramNames.{upper}
 use Rattle.bay_base.specs.declared.types.ElementaryType.{ElementaryType}
 use Rattle.il_image.specs.declared.timer.TimerState.{TimerState}
 use Rattle.il_image.specs.declared.value.Value.{Value}
-use Rattle.il_check.specs.Given.{NameTable}
+use Rattle.il_check.specs.Given.{ProgramNames}
 use Rattle.il_check.specs.Program.{Checked}
 use Rattle.il_check.specs.declared.given.Meaning.TheVariants as meaning
 use Rattle.il_check.specs.declared.typed.Slot.{Slot}
@@ -25,7 +25,7 @@ changed_at name x values other = if bytes_eq name other then x else values other
 
 -- What is read where a name says so is what maps from names have for it, in upper case; and what is
 -- written there changes them there and nowhere else.
-pub record GoesByNames (names : NameTable) (c : Checked) (values : List ℕ → Value)
+pub record GoesByNames (names : ProgramNames) (c : Checked) (values : List ℕ → Value)
     (timers : List ℕ → TimerState) : Type 0 where
   pub reads : (name : List ℕ) (s : Slot) (kind : ElementaryType) (writable : Bool)
       → names.meaning name ≡ Some (meaning.Variable s kind writable) →

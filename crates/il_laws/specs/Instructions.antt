@@ -10,7 +10,7 @@ use Rattle.il_text.specs.declared.program.Literal.TheVariants as literal
 use Rattle.il_text.specs.declared.program.Operator.{Operator}
 use Rattle.il_text.specs.declared.program.Operator.TheVariants.{Div, Mod}
 use Rattle.il_text.specs.declared.program.Output.{Output}
-use Rattle.il_check.specs.Given.{NameTable}
+use Rattle.il_check.specs.Given.{ProgramNames}
 use Rattle.il_check.specs.declared.given.Meaning.{Meaning}
 use Rattle.il_check.specs.declared.given.Meaning.TheVariants as meaning
 use Rattle.il_laws.specs.Table.{IsFirstFit, IsNumberOf, MayNegate, Stores, Tests, input_kind, output_kind, result_type, wider_type}
@@ -38,18 +38,18 @@ timer_output what (Some (meaning.Timer timer)) = Some (output_kind what)
 timer_output what other = None
 
 -- the type of a variable or of an output
-abbrev pub place_kind : NameTable → text.Place → Option ElementaryType
+abbrev pub place_kind : ProgramNames → text.Place → Option ElementaryType
 place_kind names (text.named name) = variable_kind (names.meaning name)
 place_kind names (text.output timer what) = timer_output what (names.meaning timer)
 
 -- The operand can have the type.
-abbrev pub CanHave : NameTable → text.Source → ElementaryType → Type 0
+abbrev pub CanHave : ProgramNames → text.Source → ElementaryType → Type 0
 CanHave names (text.constant l) kind = IsLiteralOf l kind
 CanHave names (text.variable place) kind = place_kind names place ≡ Some kind
 
 -- A load gives the operand this type: a number without a type gets the first of INT, DINT and LINT
 -- that it fits.
-abbrev pub IsLoaded : NameTable → text.Source → ElementaryType → Type 0
+abbrev pub IsLoaded : ProgramNames → text.Source → ElementaryType → Type 0
 IsLoaded names (text.constant (literal.Number z)) kind = IsFirstFit z kind
 IsLoaded names source kind = CanHave names source kind
 
@@ -61,7 +61,7 @@ IsWritable (Some (meaning.Variable slot kind writable)) = writable ≡ true
 IsWritable other = ⊥
 
 -- Only variables are written.
-abbrev pub MayWrite : NameTable → text.Place → Type 0
+abbrev pub MayWrite : ProgramNames → text.Place → Type 0
 MayWrite names (text.named name) = IsWritable (names.meaning name)
 MayWrite names (text.output timer what) = ⊥
 
@@ -97,7 +97,7 @@ IsTimer (Some (meaning.Timer timer)) = Unit {0}
 IsTimer other = ⊥
 
 -- Each argument, of which a call has two at most, can have the type of its input.
-abbrev pub AreGiven : NameTable → List (Input × text.Source) → Type 0
+abbrev pub AreGiven : ProgramNames → List (Input × text.Source) → Type 0
 AreGiven names [] = Unit {0}
 AreGiven names (a ∷ []) = CanHave names a.1 (input_kind a.0)
 AreGiven names (a ∷ b ∷ more) =
@@ -117,7 +117,7 @@ pub record Combines (operator : Operator) (negated : Bool) (t u : Option Element
   pub leaves : u ≡ Some new
 
 -- The instruction is right behind so many labels: a jump goes to a label below.
-abbrev pub IsRightAction : NameTable → ℕ → text.Action → Option ElementaryType → Option ElementaryType
+abbrev pub IsRightAction : ProgramNames → ℕ → text.Action → Option ElementaryType → Option ElementaryType
     → Type 0
 IsRightAction names passed (text.load negated source) t u =
     (kind : ElementaryType) × IsLoaded names source kind × MayNegate negated kind

@@ -6,7 +6,7 @@ use Rattle.bay_base.specs.declared.point.Point.{Point}
 use Rattle.il_text.specs.Listing as text
 use Rattle.il_text.specs.declared.program.Condition.TheVariants.{Always}
 use Rattle.il_check.specs.Declaring.{names_in}
-use Rattle.il_check.specs.Given.{NameTable}
+use Rattle.il_check.specs.Given.{ProgramNames}
 use Rattle.il_check.specs.Labelling.{Carried, Coming, Jumps, LabelFlows, Labelling, beginning, behind_label, carry_of, with_target}
 use Rattle.il_check.specs.RightProgram.{AreRightDeclarations}
 use Rattle.il_check.specs.Limits.{most_nested}
@@ -15,7 +15,7 @@ use Rattle.il_laws.specs.Instructions.{IsRightAction, IsRightBlock}
 abbrev mutual
   -- An entry is right, in which so many parentheses may stand within one another. A parenthesis
   -- begins with a result that is not set.
-  pub EntryIsRight : NameTable → ℕ → ℕ → text.Entry → Option ElementaryType → Option ElementaryType
+  pub EntryIsRight : ProgramNames → ℕ → ℕ → text.Entry → Option ElementaryType → Option ElementaryType
       → Type 0
   EntryIsRight names room passed (text.label line name) t u = u ≡ t
   EntryIsRight names room passed (text.action line a) t u = IsRightAction names passed a t u
@@ -24,7 +24,7 @@ abbrev mutual
       × EntriesAreRight names (room - 1) passed items None inner
       × IsRightBlock operator negated inner t u
 
-  pub EntriesAreRight : NameTable → ℕ → ℕ → text.Entries → Option ElementaryType
+  pub EntriesAreRight : ProgramNames → ℕ → ℕ → text.Entries → Option ElementaryType
       → Option ElementaryType → Type 0
   EntriesAreRight names room passed text.no_entries t u = u ≡ t
   EntriesAreRight names room passed (text.entry e es) t u =
@@ -32,7 +32,7 @@ abbrev mutual
       × EntriesAreRight names room passed es w u
 
 -- the label that an instruction jumps to
-abbrev pub label_of : NameTable → text.Action → Option ℕ
+abbrev pub label_of : ProgramNames → text.Action → Option ℕ
 label_of names (text.jump condition name) = names.label name
 label_of names a = None
 
@@ -45,7 +45,7 @@ comes_behind a u = Some u
 
 -- Each instruction is reached, and right on the result that comes to it; and each way to a label
 -- brings the label's type, or the label's result is not set.
-abbrev pub ItemsAreRight : NameTable → Labelling → List text.Entry → Carried → Type 0
+abbrev pub ItemsAreRight : ProgramNames → Labelling → List text.Entry → Carried → Type 0
 ItemsAreRight names labels [] k = Unit {0}
 ItemsAreRight names labels (text.label line name ∷ es) k =
     LabelFlows names labels name k × ItemsAreRight names labels es (behind_label labels k)

@@ -1,14 +1,14 @@
 use Rattle.std.proofs.Common.{inr, map, Ok, ap, sym, ◌∙◌}
 use Rattle.il_text.specs.Views.{plain_program}
 use Rattle.il_check.specs.ProgramViews.{item_view, checked_view}
-use Rattle.il_check.specs.declared.names.NameTable.{NameTable}
+use Rattle.il_check.specs.declared.names.ProgramNames.{ProgramNames}
 use Rattle.il_check.proofs.CheckedLemmas.{IsRead, is_read, refused, passed, apart-names}
 use Rattle.il_check.proofs.TypedLemmas.{typed-of}
 use Rattle.il_check.proofs.check.checked.Goals as goal
 
 pub of_parts-requires : goal.of_parts-requires
 of_parts-requires c =
-    let names : NameTable =
+    let names : ProgramNames =
     record {
       meanings = c.in_ok-declared.declared.meanings;
       labels = c.in_ok-labels.labels.numbers;
@@ -33,7 +33,7 @@ of_parts-requires c =
 
 pub returns-in-Some-clause-checked : goal.returns-in-Some-clause-checked
 returns-in-Some-clause-checked c =
-    let names : NameTable =
+    let names : ProgramNames =
     record {
       meanings = c.in_ok-declared.declared.meanings;
       labels = c.in_ok-labels.labels.numbers;
@@ -51,7 +51,7 @@ returns-in-Some-clause-checked c =
 
 pub returns-in-None-clause-checked : goal.returns-in-None-clause-checked
 returns-in-None-clause-checked c =
-    let names : NameTable =
+    let names : ProgramNames =
     record {
       meanings = c.in_ok-declared.declared.meanings;
       labels = c.in_ok-labels.labels.numbers;
