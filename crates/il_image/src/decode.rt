@@ -166,28 +166,45 @@ fn value_size(version: Version) -> Size
     }
 }
 
+// What stands in a list of an image.
+trait ListItem: Sized {
+    ghost use Rattle.std.specs.Prelude.{List, ℕ, Result};
+    ghost use Rattle.il_image.specs.declared.opcode.Version.{Version};
+    ghost use Rattle.il_image.specs.declared.fault.ImageFault.{ImageFault};
+
+    ghost at: { Version → List ℕ → Result (Self × List ℕ) ImageFault };
+
+    // Reads the item at the front of octets.
+    fn read(version: Version, octets: &[u8]) -> Result<(Self, &[u8]), ImageFault>
+        ensures { IsRead (λ r. (r.0, r.1.now)) result (at version octets.now) };
+}
+
 // A variable: its type and its initial value.
-#[tactic(auto, unfolding(crate::specs::Decoding::variable_at))]
-fn variable_at(version: Version, octets: &[u8]) -> Result<(Value, &[u8]), ImageFault>
-    ensures { IsRead (λ r. (r.0, r.1.now)) result (spec.variable_at version octets.now) }
-{
-    let (elementary, rest) = type_at(version, octets)?;
-    value_at(value_size(version), elementary, rest)
+impl ListItem for Value {
+    ghost at = { spec.variable_at };
+
+    #[tactic(auto, unfolding(crate::specs::Decoding::variable_at))]
+    fn read(version: Version, octets: &[u8]) -> Result<(Value, &[u8]), ImageFault> {
+        let (elementary, rest) = type_at(version, octets)?;
+        value_at(value_size(version), elementary, rest)
+    }
 }
 
 // A timer's kind. Version 1 has no octet for it, and only timers on delay.
-#[tactic(auto, unfolding(crate::specs::Decoding::timer_at))]
-fn timer_at(version: Version, octets: &[u8]) -> Result<(TimerKind, &[u8]), ImageFault>
-    ensures { IsRead (λ r. (r.0, r.1.now)) result (spec.timer_at version octets.now) }
-{
-    if version == Version::One {
-        return Ok((TimerKind::OnDelay, octets));
-    }
-    let (octet, rest) = octet_at(octets)?;
-    match octet {
-        0x01 => Ok((TimerKind::OnDelay, rest)),
-        0x02 => Ok((TimerKind::OffDelay, rest)),
-        _ => Err(ImageFault::BadOpcode),
+impl ListItem for TimerKind {
+    ghost at = { spec.timer_at };
+
+    #[tactic(auto, unfolding(crate::specs::Decoding::timer_at))]
+    fn read(version: Version, octets: &[u8]) -> Result<(TimerKind, &[u8]), ImageFault> {
+        if version == Version::One {
+            return Ok((TimerKind::OnDelay, octets));
+        }
+        let (octet, rest) = octet_at(octets)?;
+        match octet {
+            0x01 => Ok((TimerKind::OnDelay, rest)),
+            0x02 => Ok((TimerKind::OffDelay, rest)),
+            _ => Err(ImageFault::BadOpcode),
+        }
     }
 }
 
@@ -211,42 +228,23 @@ fn points_at(
     Ok((Listing::new(points), rest))
 }
 
-// The variables behind their count.
-fn variables_at(
+// The variables, or the timers, behind their count.
+fn items_at<T: ListItem + Drop>(
     alloc: Global,
     version: Version,
     octets: &[u8],
-) -> Result<(Listing<Value>, &[u8]), ImageFault>
+) -> Result<(Listing<T>, &[u8]), ImageFault>
     ensures { Gives ImageFault.OutOfMemory (λ r. (r.0, r.1.now)) result
-        (counted_at (spec.variable_at version) octets.now) }
+        (counted_at (T.at version) octets.now) }
 {
     let (count, mut rest) = number_at(octets)?;
-    let mut variables = Vec::new(alloc);
+    let mut items = Vec::new(alloc);
     'items: for _ in 0..count {
-        let (value, behind) = variable_at(version, rest)?;
-        variables.push(value)?;
+        let (item, behind) = T::read(version, rest)?;
+        items.push(item)?;
         rest = behind;
     }
-    Ok((Listing::new(variables), rest))
-}
-
-// The timers behind their count.
-fn timers_at(
-    alloc: Global,
-    version: Version,
-    octets: &[u8],
-) -> Result<(Listing<TimerKind>, &[u8]), ImageFault>
-    ensures { Gives ImageFault.OutOfMemory (λ r. (r.0, r.1.now)) result
-        (counted_at (spec.timer_at version) octets.now) }
-{
-    let (count, mut rest) = number_at(octets)?;
-    let mut timers = Vec::new(alloc);
-    'items: for _ in 0..count {
-        let (kind, behind) = timer_at(version, rest)?;
-        timers.push(kind)?;
-        rest = behind;
-    }
-    Ok((Listing::new(timers), rest))
+    Ok((Listing::new(items), rest))
 }
 
 // Refuses octets that are not instructions one behind the other.
@@ -289,8 +287,8 @@ pub fn decode(alloc: Global, octets: &[u8]) -> Result<Image, ImageFault>
     let rest = behind_mark(octets)?;
     let (version, rest) = version_at(rest)?;
     let (points, rest) = points_at(alloc, version, rest)?;
-    let (variables, rest) = variables_at(alloc, version, rest)?;
-    let (timers, rest) = timers_at(alloc, version, rest)?;
+    let (variables, rest) = items_at::<Value>(alloc, version, rest)?;
+    let (timers, rest) = items_at::<TimerKind>(alloc, version, rest)?;
     let code = code_at(alloc, version, rest)?;
     Ok(Image::new(points, variables, timers, code))
 }

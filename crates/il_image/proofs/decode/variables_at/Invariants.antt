@@ -1,9 +1,0 @@
-use Rattle.std.proofs.Common.{◌≡◌, ◌-◌}
-use Rattle.il_image.specs.Decoding.{counted_at, items_at, variable_at}
-use Rattle.il_image.proofs.ItemLemmas.{joined}
-use Rattle.il_image.proofs.decode.variables_at.Given as goal
-
-abbrev pub invariant-items : goal.invariant-items
-invariant-items l =
-    counted_at (variable_at l.version) l.octets
-    ≡ joined l.variables.items (items_at (variable_at l.version) (l.count - l.counter) l.rest)
