@@ -3,6 +3,7 @@ use Rattle.std.proofs.Common.{◌≡◌, ℕ, suc, arith, ◌+◌, ◌-◌, ◌<
 use Rattle.std.specs.Borrow.{Bor}
 use Rattle.std.proofs.lemmas.List.{drop_more, map-append}
 use Rattle.std.specs.List.{flat_map, enumerate_from}
+use Rattle.std.proofs.lemmas.Grind.{flat_map-append}
 use Rattle.bay_tree.specs.declared.row.Row.{Row}
 use Rattle.bay_tree.specs.declared.leaf.Leaf.TheVariants.{Int8, Unsigned32}
 use Rattle.bay_nodes.specs.declared.switch.Control.{Control}
@@ -10,7 +11,7 @@ use Rattle.bay_nodes.specs.declared.switch.Switch.{Switch}
 use Rattle.bay_nodes.specs.declared.switch.SwitchKind.{SwitchKind}
 use Rattle.bay_nodes.specs.declared.nameplate.Nameplate.{Nameplate}
 use Rattle.bay_nodes.specs.declared.tables.InitialValue.{InitialValue}
-use Rattle.bay_nodes.specs.Node.{NodePart, Parts, Node, row, rows_of, rows_of_parts, parts_of, inside, value, commands, model_of, node_name, node_rows, device_node, device_parts, physical_node, physical_parts, position_node, position_parts, control_parts, is_of}
+use Rattle.bay_nodes.specs.Node.{NodePart, Parts, Node, row, rows_of, rows_of_parts, parts_of, inside, value, commands, model_of, node_name, node_rows, device_node, device_parts, physical_node, physical_parts, position_node, position_parts, position_nodes, control_parts, control_nodes, interlocking_node, interlocking_nodes, meter_node, meter_nodes, rows_of_all, is_of}
 use Rattle.bay_nodes.specs.NodeRows.{line_row, under, table_rows, tabled_nodes, status_group, type_rows, position_model, command_rows, control_group, control_model}
 
 -- a node's own row, and the rows of its table
@@ -182,3 +183,22 @@ tabled-are make p class table parts same alike n (t ∷ ts) =
     (node-appended p (node_name class n) table parts same ∙ ap node_rows (sym (alike n t)))
     ∙ ap (λ rs. node_rows (make (n, t)) ++ rs)
     (tabled-are make p class table parts same alike (n + 1) ts)
+
+joined : {X A : Type 0} (f : X → List A) (us vs ws xs ys zs : List X)
+    → ((((([] ++ flat_map f us) ++ flat_map f vs) ++ flat_map f ws) ++ flat_map f xs)
+    ++ flat_map f ys) ++ flat_map f zs
+    ≡ flat_map f (us ++ (vs ++ (ws ++ (xs ++ (ys ++ zs)))))
+joined f us vs ws xs ys zs = simp (append_assoc, flat_map-append)
+
+-- the rows of all nodes, appended one group behind the other
+pub all-joined : (p : Nameplate) (ss : List Switch) (ms : List (List ℕ)) (o a b c d e f : List Row)
+    → o ≡ [] → a ≡ o ++ flat_map node_rows (device_node p ∷ physical_node p ∷ [])
+    → b ≡ a ++ flat_map node_rows (position_nodes true ss)
+    → c ≡ b ++ flat_map node_rows (position_nodes false ss)
+    → d ≡ c ++ flat_map node_rows (control_nodes ss)
+    → e ≡ d ++ numbered_from interlocking_node 1 ss → f ≡ e ++ numbered_from meter_node 1 ms
+    → f ≡ rows_of_all p ss ms
+all-joined p ss ms o a b c d e f ho ha hb hc hd he hf =
+    rw (hf, he, hd, hc, hb, ha, ho)
+    (joined node_rows (device_node p ∷ physical_node p ∷ []) (position_nodes true ss)
+    (position_nodes false ss) (control_nodes ss) (interlocking_nodes ss) (meter_nodes ms))

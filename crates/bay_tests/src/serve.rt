@@ -2,7 +2,7 @@
 // process, and its status.
 use crate::memory_link::MemoryLink;
 use crate::session::{self, CONNECT, REQUEST, octets_of};
-use bay_io::calls::{Part, Sink};
+use bay_io::calls::{LinePart, Sink};
 use bay_io::input::ReadFault;
 use bay_io::reader::WatchedReader;
 use bay_io::writer::WatchedWriter;
@@ -70,18 +70,18 @@ struct Recorder<'a> {
 
 impl Recorder<'_> {
     // Keeps a part of a text.
-    fn keep(&self, part: Part<'_>) -> io::Result<()> {
+    fn keep(&self, part: LinePart<'_>) -> io::Result<()> {
         let mut text = self.text.try_borrow_mut()?;
         match part {
-            Part::Text(octets) => Ok(text.extend_from_slice(octets)?),
-            Part::Number(number) => write!(text, "{number}"),
+            LinePart::Text(octets) => Ok(text.extend_from_slice(octets)?),
+            LinePart::Number(number) => write!(text, "{number}"),
         }
     }
 }
 
 impl Sink for Recorder<'_> {
     fn write_octets(&mut self, octets: &[u8]) -> io::Result<usize> {
-        self.keep(Part::Text(octets))?;
+        self.keep(LinePart::Text(octets))?;
         Ok(octets.len())
     }
 
@@ -89,8 +89,8 @@ impl Sink for Recorder<'_> {
         Ok(())
     }
 
-    fn log_line(&mut self, parts: &[Part<'_>]) {
-        let _ = self.keep(Part::Text(b"| "));
+    fn log_line(&mut self, parts: &[LinePart<'_>]) {
+        let _ = self.keep(LinePart::Text(b"| "));
         for part in parts {
             let _ = self.keep(*part);
         }
