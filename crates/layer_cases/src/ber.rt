@@ -1,4 +1,6 @@
 // Values of BER: what octets spell, and whether they are what is written of it.
+ghost use Rattle.std.specs.Prelude.{◌<◌};
+
 use anyhow::Result;
 use bay_ber::content::{bits_of, bool_of, int_of};
 use bay_ber::outgoing::Outgoing;

@@ -16,6 +16,7 @@ use bay_control::controls::Controls;
 use bay_control::request::{Ask, Identity, Originator, View};
 use bay_nodes::switch::Operation;
 use cases::octets::octets_of;
+use cases::told::check_text;
 use cases::words::words_of;
 use std::alloc::Global;
 
@@ -67,9 +68,12 @@ impl ControlSession {
         })
     }
 
-    /// Starts again, with nothing selected and no execution.
-    pub fn start(&mut self) {
+    /// Takes a line that asks for nothing: `start` begins again, with nothing selected and no
+    /// execution.
+    pub fn take(&mut self, line: &str) -> Result<()> {
+        check_text(line, "start")?;
         self.controls = Controls::new();
+        Ok(())
     }
 
     // Answers a request of an association for a switch.

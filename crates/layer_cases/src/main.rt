@@ -111,22 +111,15 @@ impl<'a> Section<'a> {
         })
     }
 
-    // Takes a line that asks for nothing.
-    fn take(&mut self, bay: &str, line: &'a str) -> Result<()> {
-        match (self, first_word(line)) {
-            (Section::Programs(programs), ("=", declared)) => programs.declare(declared),
-            (Section::Controls(session), ("start", _)) => session.start(),
-            (Section::Tree(rows), ("row", words)) => return rows.add(words),
-            (Section::Tree(rows), ("bay", _)) => return rows.take(bay),
-            _ => bail!("no answer"),
-        }
-        Ok(())
-    }
-
     // Runs a case, or takes a part of one.
     fn check(&mut self, alloc: Global, bay: &str, line: &'a str) -> Result<()> {
         let Some((asked, wanted)) = line.split_once(" -> ") else {
-            return self.take(bay, line);
+            return match self {
+                Section::Programs(programs) => programs.take(line),
+                Section::Controls(session) => session.take(line),
+                Section::Tree(rows) => rows.take(bay, line),
+                Section::Lines => bail!("no answer"),
+            };
         };
         let (kind, words) = first_word(asked);
         let found = match self {

@@ -121,9 +121,10 @@ impl<'a> Programs<'a> {
         })
     }
 
-    /// Takes what the next programs declare.
-    pub fn declare(&mut self, declared: &'a str) {
-        self.declared = declared;
+    /// Takes a line that asks for nothing: what the next programs declare.
+    pub fn take(&mut self, line: &'a str) -> Result<()> {
+        self.declared = line.strip_prefix("= ").context("no answer")?;
+        Ok(())
     }
 
     // Returns the report of an image, whose machine is scanned from then on, or the number of its
@@ -151,16 +152,20 @@ impl<'a> Programs<'a> {
         let text = text_of(alloc, spelled.as_str())?;
         let program = read_program(alloc, text.as_str())?;
         let typed = match check(alloc, &program, self.points.as_slice()) {
-            Ok(_) if kind == "check" => return Ok(format!(in alloc; "0 0")?),
             Ok(typed) => typed,
             Err(fault) => {
                 let (code, line) = (fault.code().unwrap_or(0), fault.line());
                 return Ok(format!(in alloc; "{code} {line} {fault}")?);
             }
         };
+        if kind == "check" {
+            return Ok(format!(in alloc; "0 0")?);
+        }
         Ok(match compile(alloc, &typed) {
-            Ok(image) if kind == "octets" => image_text(alloc, &image),
-            Ok(image) => self.verdict(image),
+            Ok(image) => match kind {
+                "octets" => image_text(alloc, &image),
+                _ => self.verdict(image),
+            },
             Err(fault) => format!(in alloc; "{} {fault}", fault.code().unwrap_or(0)),
         }?)
     }

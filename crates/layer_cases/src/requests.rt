@@ -41,8 +41,10 @@ pub fn request(alloc: Global, kind: &str, octets: &[u8]) -> Result<String> {
     Ok(match read_request(alloc, octets) {
         Ok(Request::Initiate(proposal)) => format!(in alloc; "{proposal:?}"),
         Ok(Request::Conclude) => format!(in alloc; "conclude"),
-        Ok(Request::Confirmed { id, call }) if kind == "request" => call_text(alloc, id, &call),
-        Ok(Request::Confirmed { call, .. }) => control_text(alloc, kind, &call),
+        Ok(Request::Confirmed { id, call }) => match kind {
+            "request" => call_text(alloc, id, &call),
+            _ => control_text(alloc, kind, &call),
+        },
         Err(fault) => { format!(in alloc; "{} {fault:?}: {fault}", fault.code().unwrap_or(0)) }
     }?)
 }

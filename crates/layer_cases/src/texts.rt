@@ -8,18 +8,16 @@ use std::alloc::{AllocError, Global};
 /// Returns the text that a case spells.
 pub fn text_of(alloc: Global, spelled: &str) -> Result<String> {
     let mut text = String::new(alloc);
-    let mut before = "";
     for part in spelled.split("\\n") {
         let (times, line) = part.split_once(" * ").unwrap_or(("1", part));
         for _ in 0..times.parse::<u32>()? {
-            write!(text, "{before}{line}")?;
-            before = "\n";
+            writeln!(text, "{line}")?;
         }
     }
-    for (spelled, meant) in [(" / ", "\n"), ("\\r", "\r"), ("\\t", "\t")] {
-        text = text.replace(alloc, spelled, meant)?;
-    }
-    Ok(text)
+    let text = text.as_str().strip_suffix("\n").unwrap_or("");
+    let lines = text.replace(alloc, " / ", "\n")?;
+    let returns = lines.replace(alloc, "\\r", "\r")?;
+    Ok(returns.replace(alloc, "\\t", "\t")?)
 }
 
 // Returns what precedes and follows the text of a case: nothing if it is a whole text; a program,
@@ -51,10 +49,18 @@ pub fn reading(alloc: Global, kind: &str, spelled: &str) -> Result<String> {
     let (before, after) = around(kind);
     let spelled = format!(in alloc; "{before}{spelled}{after}")?;
     let text = text_of(alloc, spelled.as_str())?;
-    Ok(match read_program(alloc, text.as_str()) {
-        Ok(program) if kind == "reads" => program_text(alloc, &program),
-        Ok(_) => format!(in alloc; "0 0"),
-        Err(fault) if kind == "reads" => format!(in alloc; "{fault}"),
-        Err(fault) => format!(in alloc; "{} {}", fault.code().unwrap_or(0), fault.line()),
+    let program = match read_program(alloc, text.as_str()) {
+        Ok(program) => program,
+        Err(fault) => {
+            let (code, line) = (fault.code().unwrap_or(0), fault.line());
+            return Ok(match kind {
+                "reads" => format!(in alloc; "{fault}"),
+                _ => format!(in alloc; "{code} {line}"),
+            }?);
+        }
+    };
+    Ok(match kind {
+        "reads" => program_text(alloc, &program),
+        _ => format!(in alloc; "0 0"),
     }?)
 }

@@ -12,6 +12,7 @@ use bay_tree::row::Row;
 use bay_tree::search::is_tree;
 use bay_tree::tree::Tree;
 use cases::octets::octets_of;
+use cases::told::check_text;
 use cases::words::{first_word, words_of};
 use std::alloc::Global;
 
@@ -114,19 +115,19 @@ impl Rows {
         }
     }
 
-    /// Appends a row: its name, its kind and its value.
-    pub fn add(&mut self, words: &str) -> Result<()> {
-        let (name, rest) = first_word(words);
+    /// Takes a line that asks for nothing: the rows of the bay, or a row, with its name, its kind
+    /// and its value.
+    pub fn take(&mut self, bay: &str, line: &str) -> Result<()> {
+        let Some(row) = line.strip_prefix("row ") else {
+            check_text(line, "bay")?;
+            self.rows = read_bay(self.alloc, bay)?.rows.into_vec();
+            return Ok(());
+        };
+        let (name, rest) = first_word(row);
         let (kind, value) = first_word(rest);
-        let name = Text::from_str(self.alloc, name)?;
         let leaf = leaf_of(self.alloc, kind, value)?;
+        let name = Text::from_str(self.alloc, name)?;
         Ok(self.rows.push(Row { name, leaf })?)
-    }
-
-    /// Takes the rows of a bay.
-    pub fn take(&mut self, bay: &str) -> Result<()> {
-        self.rows = read_bay(self.alloc, bay)?.rows.into_vec();
-        Ok(())
     }
 
     // Returns whether the rows are a tree, which the next lines are about if so.
