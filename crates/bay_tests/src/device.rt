@@ -44,56 +44,80 @@ const IMAGE: [&str; 2] = [
 // Checks that look-ups find names in either case, do not find others' names, and count each kind
 // correctly.
 fn check_look_ups(rt: &impl Abort, device: &Device) {
-    let switches = ["qb1", "QA1", "QB2"].map(|id| device.switch(id));
+    let switches = [
+        device.switch("qb1"),
+        device.switch("QA1"),
+        device.switch("QB2"),
+    ];
     assert_eq!(rt; switches, [Some(1), Some(0), None]);
-    let inputs = ["es", "Lk", "M1"].map(|name| device.input(name));
+    let inputs = [device.input("es"), device.input("Lk"), device.input("M1")];
     assert_eq!(rt; inputs, [Some(0), Some(1), None]);
-    assert_eq!(rt; (device.meter("m1"), device.meter("ES")), (Some(0), None));
-    let counts = (
+    assert_eq!(rt; [device.meter("m1"), device.meter("ES")], [Some(0), None]);
+    let counts = [
         device.switch_count(),
         device.input_count(),
         device.meter_count(),
-    );
-    assert_eq!(rt; counts, (2, 2, 1));
+    ];
+    assert_eq!(rt; counts, [2, 2, 1]);
+    let ids = [device.id(0), device.id(1), device.id(2)];
+    assert_eq!(rt; ids, [Some("QA1"), Some("QB1"), None]);
     assert_eq!(rt;
-        [0, 1, 2].map(|at| device.id(at)),
-        [Some("QA1"), Some("QB1"), None]
-    );
-    assert_eq!(rt;
-        (device.ena(0), device.ena(2)),
-        (Some((false, false)), None)
+        [device.ena(0), device.ena(2)],
+        [Some((false, false)), None]
     );
 }
+
+// The contacts of a switch that there is and of one that there is not.
+const SOME: Event<'static> = Event::Contact {
+    switch: 0,
+    position: Dbpos::Off,
+};
+
+const NO: Event<'static> = Event::Contact {
+    switch: 2,
+    position: Dbpos::Off,
+};
+
+// No octets of association 1, and one of association 2.
+const NOTHING: Event<'static> = Event::Recv {
+    association: 1,
+    octets: &[],
+};
+
+const OTHER: Event<'static> = Event::Recv {
+    association: 2,
+    octets: &[0],
+};
 
 // Checks a device's answers to events of the process, and of associations of which one asks for a
 // transport connection, by their numbers, with 0 for those that are done.
 fn check_run(rt: &impl Abort, alloc: Global, device: &mut Device) -> Result<(), Fail> {
     let request = octets_of(alloc, &[REQUEST])?;
-    let contact = |switch| Event::Contact {
-        switch,
-        position: Dbpos::Off,
-    };
-    let heard = |association, octets| Event::Recv {
-        association,
-        octets,
+    let asked = Event::Recv {
+        association: 1,
+        octets: request.as_slice(),
     };
     let answers = device.run(&[
-        (1000, contact(0)),
+        (1000, SOME),
         (1000, Event::Scan),
-        (999, contact(0)),
-        (1001, contact(2)),
-        (4_294_967_296_000, contact(2)),
+        (999, SOME),
+        (1001, NO),
+        (4_294_967_296_000, NO),
         (2000, Event::Open { association: 1 }),
-        (2000, heard(1, request.as_slice())),
-        (2000, heard(1, &[])),
-        (2000, heard(2, &[0])),
+        (2000, asked),
+        (2000, NOTHING),
+        (2000, OTHER),
         (2000, Event::Close { association: 1 }),
         (2000, Event::Close { association: 1 }),
-        (2000, heard(1, &[])),
+        (2000, NOTHING),
     ])?;
     let mut codes = Vec::new(alloc);
     for answer in answers.as_slice() {
-        codes.push(answer.as_ref().err().map_or(0, |fault| fault.code()))?;
+        let code = match answer {
+            Ok(_) => 0,
+            Err(fault) => fault.code(),
+        };
+        codes.push(code)?;
     }
     assert!(rt; codes.as_slice() == [0, 0, 110, 113, 114, 0, 0, 0, 111, 0, 111, 111].as_slice());
     let [_, Ok(scanned), _, _, _, _, Ok(confirmed), ..] = answers.as_slice() else {
@@ -165,6 +189,15 @@ fn loaded_of(alloc: Global, bay: &Bay, octets: &mut [u8], at: usize) -> usize
     loaded
 }
 
+// Does so with each octet, and returns how many are loaded.
+fn loaded_in(alloc: Global, bay: &Bay, octets: &mut [u8]) -> usize {
+    let mut loaded = 0usize;
+    for at in 0..octets.len() {
+        loaded = loaded.saturating_add(loaded_of(alloc, bay, octets, at));
+    }
+    loaded
+}
+
 // Three names of another point, the other version, and changes of the code: 14, and in version 2
 // one more, to a PUSHL. In version 1 also 1 to 64 timers, of which nothing follows their number.
 #[test]
@@ -172,10 +205,7 @@ fn changed_images(rt: HostRuntime) -> Result<(), Fail> {
     let bay = read_bay(rt.alloc(), session::BAY)?;
     for (version, wanted) in [("01", 82), ("02", 19)] {
         let mut octets = octets_of(rt.alloc(), &[IMAGE[0], version, IMAGE[1]])?;
-        let mut loaded = 0usize;
-        for at in 0..octets.len() {
-            loaded = loaded.saturating_add(loaded_of(rt.alloc(), &bay, octets.as_mut_slice(), at));
-        }
+        let loaded = loaded_in(rt.alloc(), &bay, octets.as_mut_slice());
         assert_eq!(rt; loaded, wanted, "version {version}");
     }
     Ok(())

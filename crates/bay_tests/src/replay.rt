@@ -133,7 +133,7 @@ fn check_each(rt: &impl Abort, alloc: Global, scenario: &[u8], most: usize) {
     // where a call moves one octet there is one for each, and one for the end or the flush
     assert!(rt; most > 1 || whole.reads == scenario.len() as u64 + 1);
     assert!(rt; most > 1 || whole.writes == REPORT.len() as u64 + 1);
-    for number in 1..=whole.reads + whole.writes {
+    for number in 1..=whole.reads.saturating_add(whole.writes) {
         let read = if number > whole.reads { 0 } else { number };
         let write = number.saturating_sub(whole.reads);
         check_failing(rt, alloc, scenario, Calls { most, read, write });

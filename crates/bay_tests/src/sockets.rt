@@ -51,27 +51,30 @@ fn read_some(stream: &TcpStream, answer: &mut Vec<u8>) -> Result<(), Fail> {
 // what follows them.
 fn drained(rt: &HostRuntime, stream: &TcpStream, count: usize) -> Result<usize, Fail> {
     let mut octets = Vec::new(rt.alloc());
-    let mut idle = 0;
-    while idle < 3000u32 {
+    let mut idle = 0u32;
+    for _ in 0..u32::MAX {
         let before = octets.len();
         read_some(stream, &mut octets)?;
-        if octets.len() == before && before >= count {
-            break;
-        }
         if octets.len() == before {
-            idle += 1;
+            if before >= count || idle == 3000 {
+                break;
+            }
+            idle = idle.saturating_add(1);
             thread::sleep(rt, Duration::from_millis(1));
         }
     }
     Ok(octets.len())
 }
 
+// As many octets as are written at once.
+const PIECE: [u8; 65_536] = [7; 65_536];
+
 // Sends octets to client 1, which reads none, until none can be taken. Returns how many were taken,
 // or `None` if a write fails or they have no end.
 fn filled<C: Clock>(link: &mut TcpLink<'_, C>) -> Option<usize> {
     let mut told = 0usize;
     for _ in 0..4000 {
-        match link.write(1, &[7; 65_536]) {
+        match link.write(1, &PIECE) {
             Ok(0) => return Some(told),
             Ok(count) => told = told.saturating_add(count),
             Err(_) => return None,
@@ -103,10 +106,10 @@ fn clients_of_a_link(rt: HostRuntime) -> Result<(), Fail> {
     assert!(rt; matches!(waited(&rt, &mut readiness, 50), Ok(45..)));
     assert_eq!(rt; link.accept(1), Ok(None));
     let mut streams = Vec::new(rt.alloc());
-    for association in 1..=2u16 {
+    for place in 0..2u16 {
         streams.push(client_of(&rt, &link)?)?;
         assert!(rt; matches!(waited(&rt, &mut readiness, 30_000), Ok(..15_000)));
-        assert!(rt; matches!(link.accept(association), Ok(Some(_))));
+        assert!(rt; matches!(link.accept(place + 1), Ok(Some(_))));
         // that the new one can be written to ends one more wait
         assert!(rt; waited(&rt, &mut readiness, 50).is_ok());
         assert!(rt; matches!(waited(&rt, &mut readiness, 50), Ok(45..)));

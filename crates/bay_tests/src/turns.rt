@@ -91,7 +91,7 @@ fn clients_are_answered_and_closed(rt: HostRuntime) -> Result<(), Fail> {
         let pieces = [asked.as_slice()];
         let clients = [pieces.as_slice(); 9];
         let taken = RefCell::new(Vec::new(rt.alloc()));
-        let mut link = MemoryLink::new(&clients[..row.clients], true, &taken);
+        let mut link = MemoryLink::new(clients.get(..row.clients).unwrap_or(&[]), true, &taken);
         link.per_write = row.per_write;
         let closed = closings(rt.alloc(), &mut link, row.turns)?;
         assert!(rt; closed.as_slice() == row.closed && link.closed == closed.len() as u64);

@@ -112,7 +112,8 @@ impl<'a> Hostile<'a> {
         for more in 1..=255u8 {
             let value = octet.wrapping_add(more);
             let now = PASSED.saturating_mul(more as u64);
-            let (at, next, last) = (now + 1, now + 2, now + 3);
+            let (at, next) = (now.saturating_add(1), now.saturating_add(2));
+            let last = now.saturating_add(3);
             write!(
                 trace,
                 "{now} scan\n{now} open 1\n{now} {verb}{opening}\n\
