@@ -1,5 +1,5 @@
 -- A task and a job without their places in memory.
-use Rattle.std.specs.Prelude.{string_bytes, option_map, List, ℕ}
+use Rattle.std.specs.Prelude.{option_map, List, ℕ}
 use Rattle.std.specs.Borrow.{Bor}
 use Rattle.bay_words.specs.declared.task.ProgramFile.{ProgramFile}
 use Rattle.bay_words.specs.declared.task.ProgramFile.TheVariants.{Logic, Image}
@@ -30,15 +30,15 @@ asked_view asked = record { task = task_view asked.task; log = asked.log }
 abbrev pub job_view : Job → JobData
 job_view job = record {
   verb = job.verb;
-  bay = option_map string_bytes job.bay;
-  logic = option_map string_bytes job.logic;
-  image = option_map string_bytes job.image;
-  out = option_map string_bytes job.out;
-  trace = option_map string_bytes job.trace;
-  rules = option_map string_bytes job.rules;
+  bay = option_map (λ name. name.now) job.bay;
+  logic = option_map (λ name. name.now) job.logic;
+  image = option_map (λ name. name.now) job.image;
+  out = option_map (λ name. name.now) job.out;
+  trace = option_map (λ name. name.now) job.trace;
+  rules = option_map (λ name. name.now) job.rules;
   port = job.port;
   turns = job.turns;
   process = job.process;
-  tell = option_map string_bytes job.tell;
+  tell = option_map (λ name. name.now) job.tell;
   log = job.log;
 }

@@ -1,9 +1,9 @@
 // The program as `clap` knows it: its commands and their options.
 ghost use Rattle.std.specs.Prelude.{◌≡◌, false, IfOk};
-ghost use Rattle.clap.specs.Words.{app_of, with_rule};
+ghost use Rattle.clap.specs.Words.{app_of, new_app, rule_of};
 ghost use Rattle.clap.specs.declared.builder.command.Command.TheViews.{out-Command as fields_of};
-ghost use Rattle.bay_words.specs.Jobs.{text_rule, log_rule, needed_rule, number_rule, check_app, replay_app, serve_app, compile_app, audit_app, program_app, job_app};
-ghost use Rattle.bay_words.specs.Jobs as spec;
+ghost use Rattle.bay_words.specs.Jobs.{job_app, program_app};
+ghost use Rattle.bay_words.specs.Options.{app_in, rule_in, with_commands};
 
 use clap::builder::ValueParser;
 use clap::{Arg, ArgAction, Command};
@@ -13,199 +13,202 @@ use std::alloc::{AllocError, Global};
 // changes of each version.
 const VERSION: &str = "1.1.0";
 
-// Adds an optional option `--ID VALUE` to the command.
-fn with_text<'a>(
-    alloc: Global,
-    command: Command<'a>,
-    id: &'a str,
-    value: &'a str,
-    help: &'a str,
-) -> Result<Command<'a>, AllocError>
-    ensures app { IfOk result
-        (λ c. app_of c ≡ with_rule (app_of command.entry) (text_rule id.entry.now)) }
-    ensures globals { IfOk result
-        (λ c. (fields_of c).has_globals ≡ (fields_of command.entry).has_globals) }
-{
-    let text = Arg::new(alloc, id)
-        .long(id)
-        .value_name(value)
-        .help(help)
-        .action(ArgAction::Set);
-    let command = command.arg(text)?;
-    Ok(command)
+// What stands below the options of a command with a program.
+const WANTED: &str = "Exactly one of --logic and --image is wanted.";
+
+// What an option takes: nothing, a text, or a number from the least to the greatest. A value has a
+// name in help.
+#[derive(Clone, Copy)]
+enum Value {
+    Nothing,
+    Text(&'static str),
+    Number(&'static str, u64, u64),
 }
 
-// Adds a required option `--ID F` to the command.
-fn with_needed_file<'a>(
-    alloc: Global,
-    command: Command<'a>,
-    id: &'a str,
-    help: &'a str,
-) -> Result<Command<'a>, AllocError>
-    ensures app { IfOk result
-        (λ c. app_of c ≡ with_rule (app_of command.entry) (needed_rule id.entry.now)) }
-    ensures globals { IfOk result
-        (λ c. (fields_of c).has_globals ≡ (fields_of command.entry).has_globals) }
-{
-    let file = Arg::new(alloc, id)
-        .long(id)
-        .value_name("F")
-        .help(help)
-        .required(true)
-        .action(ArgAction::Set);
-    let command = command.arg(file)?;
-    Ok(command)
-}
-
-// Adds an option `--ID VALUE` to the command, whose value is a number from `least` to `greatest`.
-// It is required if `required` is true.
-fn with_number<'a>(
-    alloc: Global,
-    command: Command<'a>,
-    id: &'a str,
-    value: &'a str,
-    least: u64,
-    greatest: u64,
+// An option `--ID VALUE` of a command.
+#[derive(Clone, Copy)]
+struct Choice {
+    id: &'static str,
+    value: Value,
     required: bool,
-    help: &'a str,
-) -> Result<Command<'a>, AllocError>
-    ensures app { IfOk result
-        (λ c. app_of c
-        ≡ with_rule (app_of command.entry) (number_rule id.entry.now least greatest required)) }
-    ensures globals { IfOk result
-        (λ c. (fields_of c).has_globals ≡ (fields_of command.entry).has_globals) }
-{
-    let number = Arg::new(alloc, id)
-        .long(id)
-        .value_name(value)
-        .help(help)
-        .required(required)
-        .value_parser(ValueParser::unsigned(least, greatest))
-        .action(ArgAction::Set);
-    let command = command.arg(number)?;
-    Ok(command)
+    help: &'static str,
 }
 
-// Adds the option `--log` to the command.
-fn with_log<'a>(alloc: Global, command: Command<'a>) -> Result<Command<'a>, AllocError>
-    ensures app { IfOk result (λ c. app_of c ≡ with_rule (app_of command.entry) log_rule) }
-    ensures globals { IfOk result
-        (λ c. (fields_of c).has_globals ≡ (fields_of command.entry).has_globals) }
-{
-    let log = Arg::new(alloc, "log")
-        .long("log")
-        .help("Log to standard error what happens, and why")
-        .action(ArgAction::SetTrue);
-    let command = command.arg(log)?;
-    Ok(command)
+// A command with its options, and with what stands below them in help.
+#[derive(Clone, Copy)]
+struct Entry {
+    name: &'static str,
+    about: &'static str,
+    note: Option<&'static str>,
+    options: &'static [Choice],
 }
 
-// Adds the options of a program to the command. Exactly one of them is required.
-fn with_program<'a>(alloc: Global, command: Command<'a>) -> Result<Command<'a>, AllocError>
-    ensures app { IfOk result (λ c. app_of c ≡ spec.with_program (app_of command.entry)) }
-    ensures globals { IfOk result
-        (λ c. (fields_of c).has_globals ≡ (fields_of command.entry).has_globals) }
+// The bay file.
+const BAY: Choice = Choice {
+    id: "bay",
+    value: Value::Text("F"),
+    required: true,
+    help: "Bay file",
+};
+
+// The program, in either form.
+const LOGIC: Choice = Choice {
+    id: "logic",
+    value: Value::Text("F"),
+    required: false,
+    help: "Program in Instruction List",
+};
+
+const IMAGE: Choice = Choice {
+    id: "image",
+    value: Value::Text("F"),
+    required: false,
+    help: "Compiled program, in place of --logic",
+};
+
+// The log.
+const LOG: Choice = Choice {
+    id: "log",
+    value: Value::Nothing,
+    required: false,
+    help: "Log to standard error what happens, and why",
+};
+
+// All commands.
+const ENTRIES: [Entry; 5] = [
+    Entry {
+        name: "check",
+        about: "Check a bay file and a program",
+        note: Some(WANTED),
+        options: &[BAY, LOGIC, IMAGE, LOG],
+    },
+    Entry {
+        name: "replay",
+        about: "Replay the scenario on standard input",
+        note: None,
+        options: &[LOG],
+    },
+    Entry {
+        name: "serve",
+        about: "Serve clients on 127.0.0.1",
+        note: Some(WANTED),
+        options: &[
+            BAY,
+            LOGIC,
+            IMAGE,
+            Choice {
+                id: "port",
+                value: Value::Number("N", 1, 65_535),
+                required: true,
+                help: "Port for clients",
+            },
+            Choice {
+                id: "turns",
+                value: Value::Number("N", 0, 4_294_967_295),
+                required: true,
+                help: "Number of turns",
+            },
+            Choice {
+                id: "trace",
+                value: Value::Text("F"),
+                required: false,
+                help: "Trace file, one line per turn",
+            },
+            Choice {
+                id: "process",
+                value: Value::Number("P", 1, 65_535),
+                required: false,
+                help: "Port for the process, used when the trace is done",
+            },
+            Choice {
+                id: "tell",
+                value: Value::Text("WHAT"),
+                required: false,
+                help: "What else the process is told: releases",
+            },
+            LOG,
+        ],
+    },
+    Entry {
+        name: "compile",
+        about: "Compile a program for a bay",
+        note: None,
+        options: &[
+            BAY,
+            Choice {
+                id: "logic",
+                value: Value::Text("F"),
+                required: true,
+                help: "Program in Instruction List",
+            },
+            Choice {
+                id: "out",
+                value: Value::Text("F"),
+                required: true,
+                help: "File for the compiled program",
+            },
+            LOG,
+        ],
+    },
+    Entry {
+        name: "audit",
+        about: "Prove or refute rules of a bay and a program",
+        note: Some(WANTED),
+        options: &[
+            BAY,
+            LOGIC,
+            IMAGE,
+            Choice {
+                id: "rules",
+                value: Value::Text("F"),
+                required: true,
+                help: "Rules file, one rule per line",
+            },
+            LOG,
+        ],
+    },
+];
+
+// Makes an option for `clap`.
+fn arg_of<'a>(alloc: Global, choice: Choice) -> Arg<'a>
+    ensures rule { rule_of result ≡ rule_in choice }
+    ensures local { result.global ≡ false }
 {
-    let command = command.after_help("Exactly one of --logic and --image is wanted.");
-    let command = with_text(
-        alloc,
-        command,
-        "logic",
-        "F",
-        "ProgramFile in Instruction List",
-    )?;
-    let image = "Compiled program, in place of --logic";
-    let command = with_text(alloc, command, "image", "F", image)?;
-    Ok(command)
+    let arg = Arg::new(alloc, choice.id)
+        .long(choice.id)
+        .help(choice.help)
+        .required(choice.required);
+    match choice.value {
+        Value::Nothing => arg.action(ArgAction::SetTrue),
+        Value::Text(name) => arg.value_name(name).action(ArgAction::Set),
+        Value::Number(name, least, greatest) => arg
+            .value_name(name)
+            .value_parser(ValueParser::unsigned(least, greatest))
+            .action(ArgAction::Set),
+    }
 }
 
-// Builds `check` with its options.
-fn check_command<'a>(alloc: Global) -> Result<Command<'a>, AllocError>
-    ensures app { IfOk result (λ c. app_of c ≡ check_app) }
+// Makes a command for `clap`, without its options.
+fn bare_command<'a>(alloc: Global, entry: Entry) -> Command<'a>
+    ensures app { app_of result ≡ new_app entry.name.now }
+    ensures local { (fields_of result).has_globals ≡ false }
+{
+    let command = Command::new(alloc, entry.name).about(entry.about);
+    match entry.note {
+        Some(note) => command.after_help(note),
+        None => command,
+    }
+}
+
+// Makes a command for `clap` with its options.
+fn command_of<'a>(alloc: Global, entry: Entry) -> Result<Command<'a>, AllocError>
+    ensures app { IfOk result (λ c. app_of c ≡ app_in entry) }
     ensures local { IfOk result (λ c. (fields_of c).has_globals ≡ false) }
 {
-    let about = "Check a bay file and a program";
-    let command = Command::new(alloc, "check").about(about);
-    let command = with_needed_file(alloc, command, "bay", "Bay file")?;
-    let command = with_program(alloc, command)?;
-    let command = with_log(alloc, command)?;
-    Ok(command)
-}
-
-// Builds `serve` with its options.
-fn serve_command<'a>(alloc: Global) -> Result<Command<'a>, AllocError>
-    ensures app { IfOk result (λ c. app_of c ≡ serve_app) }
-    ensures local { IfOk result (λ c. (fields_of c).has_globals ≡ false) }
-{
-    let about = "Serve clients on 127.0.0.1";
-    let command = Command::new(alloc, "serve").about(about);
-    let command = with_needed_file(alloc, command, "bay", "Bay file")?;
-    let command = with_program(alloc, command)?;
-    let port = "Port for clients";
-    let command = with_number(alloc, command, "port", "N", 1, 65_535, true, port)?;
-    let turns = "Number of turns";
-    let command = with_number(alloc, command, "turns", "N", 0, 4_294_967_295, true, turns)?;
-    let trace = "Trace file, one line per turn";
-    let command = with_text(alloc, command, "trace", "F", trace)?;
-    let process = "Port for the process, used when the trace is done";
-    let command = with_number(alloc, command, "process", "P", 1, 65_535, false, process)?;
-    let tell = "What else the process is told: releases";
-    let command = with_text(alloc, command, "tell", "WHAT", tell)?;
-    let command = with_log(alloc, command)?;
-    Ok(command)
-}
-
-// Builds `compile` with its options.
-fn compile_command<'a>(alloc: Global) -> Result<Command<'a>, AllocError>
-    ensures app { IfOk result (λ c. app_of c ≡ compile_app) }
-    ensures local { IfOk result (λ c. (fields_of c).has_globals ≡ false) }
-{
-    let command = Command::new(alloc, "compile").about("Compile a program for a bay");
-    let command = with_needed_file(alloc, command, "bay", "Bay file")?;
-    let command = with_needed_file(alloc, command, "logic", "ProgramFile in Instruction List")?;
-    let out = "File for the compiled program";
-    let command = with_needed_file(alloc, command, "out", out)?;
-    let command = with_log(alloc, command)?;
-    Ok(command)
-}
-
-// Builds `audit` with its options.
-fn audit_command<'a>(alloc: Global) -> Result<Command<'a>, AllocError>
-    ensures app { IfOk result (λ c. app_of c ≡ audit_app) }
-    ensures local { IfOk result (λ c. (fields_of c).has_globals ≡ false) }
-{
-    let about = "Prove or refute rules of a bay and a program";
-    let command = Command::new(alloc, "audit").about(about);
-    let command = with_needed_file(alloc, command, "bay", "Bay file")?;
-    let command = with_program(alloc, command)?;
-    let rules = "Rules file, one rule per line";
-    let command = with_needed_file(alloc, command, "rules", rules)?;
-    let command = with_log(alloc, command)?;
-    Ok(command)
-}
-
-// Builds `replay` with its option.
-fn replay_command<'a>(alloc: Global) -> Result<Command<'a>, AllocError>
-    ensures app { IfOk result (λ c. app_of c ≡ replay_app) }
-    ensures local { IfOk result (λ c. (fields_of c).has_globals ≡ false) }
-{
-    let about = "Replay the scenario on standard input";
-    let command = Command::new(alloc, "replay").about(about);
-    let command = with_log(alloc, command)?;
-    Ok(command)
-}
-
-// Builds the program without its commands.
-fn program_command<'a>(alloc: Global) -> Result<Command<'a>, AllocError>
-    ensures { IfOk result (λ c. app_of c ≡ program_app) }
-{
-    let command = Command::new(alloc, "bayctl")
-        .about("The controller of one bay")
-        .version(VERSION)
-        .no_binary_name(true)
-        .subcommand_required(true)
-        .arg_required_else_help(true)
-        .bin_name("bayctl")?;
+    let mut command = bare_command(alloc, entry);
+    for choice in entry.options {
+        command = command.arg(arg_of(alloc, *choice))?;
+    }
     Ok(command)
 }
 
@@ -213,11 +216,15 @@ fn program_command<'a>(alloc: Global) -> Result<Command<'a>, AllocError>
 pub fn job_command<'a>(alloc: Global) -> Result<Command<'a>, AllocError>
     ensures { IfOk result (λ c. app_of c ≡ job_app) }
 {
-    let command = program_command(alloc)?;
-    let command = command.subcommand(check_command(alloc)?)?;
-    let command = command.subcommand(replay_command(alloc)?)?;
-    let command = command.subcommand(serve_command(alloc)?)?;
-    let command = command.subcommand(compile_command(alloc)?)?;
-    let command = command.subcommand(audit_command(alloc)?)?;
+    let mut command = Command::new(alloc, "bayctl")
+        .about("The controller of one bay")
+        .version(VERSION)
+        .no_binary_name(true)
+        .subcommand_required(true)
+        .arg_required_else_help(true)
+        .bin_name("bayctl")?;
+    for entry in &ENTRIES {
+        command = command.subcommand(command_of(alloc, *entry)?)?;
+    }
     Ok(command)
 }

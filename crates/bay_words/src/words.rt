@@ -1,5 +1,5 @@
 // What the words of a command line ask for.
-ghost use Rattle.std.specs.Prelude.{◌≡◌, ◌⊎◌, codes, map, Some, None, IfOk, IfErr, option_map, string_bytes};
+ghost use Rattle.std.specs.Prelude.{◌≡◌, ◌⊎◌, codes, map, Some, None, IfOk, IfErr, option_and_then, option_map};
 ghost use Rattle.std.specs.Str.{bytes_eq};
 ghost use Rattle.clap.specs.Words.{first_of, rows_of, found_of, kind_of, subcommand_rows_of};
 ghost use Rattle.bay_words.specs.Jobs.{asked_in, audit_in, compile_in, check_in, job_in, number_of, program_in, serve_in, task_in};
@@ -29,21 +29,21 @@ pub enum Verb {
 }
 
 /// What a command line asks for: the verb, the names of the files that were given, and the numbers.
-#[derive(Debug, Drop)]
-pub struct Job {
+#[derive(Clone, Copy, Debug)]
+pub struct Job<'a> {
     pub verb: Verb,
     /// The bay file.
-    pub bay: Option<String>,
+    pub bay: Option<&'a str>,
     /// The program in Instruction List.
-    pub logic: Option<String>,
+    pub logic: Option<&'a str>,
     /// The compiled program, instead of the program in Instruction List.
-    pub image: Option<String>,
+    pub image: Option<&'a str>,
     /// The file that the compiled program is written to.
-    pub out: Option<String>,
+    pub out: Option<&'a str>,
     /// The trace of the process to serve, line by line.
-    pub trace: Option<String>,
+    pub trace: Option<&'a str>,
     /// The rules that are answered.
-    pub rules: Option<String>,
+    pub rules: Option<&'a str>,
     /// The port of 127.0.0.1 on which clients are served, from 1 on.
     pub port: Option<u16>,
     /// The number of turns to serve.
@@ -51,7 +51,7 @@ pub struct Job {
     /// The port of 127.0.0.1 on which the controller listens to the process, from 1 on.
     pub process: Option<u16>,
     /// What else the process is told.
-    pub tell: Option<String>,
+    pub tell: Option<&'a str>,
     /// Whether the log is written.
     pub log: bool,
 }
@@ -73,43 +73,20 @@ fn value_of<'a>(found: &ArgMatches<'a>, id: &str) -> Option<&'a str>
     found.get_str(id)
 }
 
-// Returns the port that a value spells, a number from 1 to 65,535.
-fn port_of(value: &str) -> Option<u16>
-    ensures { result ≡ number_of 1 65535 value.now }
+// Returns the port that was given with an option, a number from 1 to 65,535.
+fn port_in(found: &ArgMatches<'_>, id: &str) -> Option<u16>
+    ensures { result ≡ option_and_then (number_of 1 65535)
+        (first_of id.now (rows_of (found_of found.now))) }
 {
-    let port = value.parse::<u16>().ok()?;
+    let port = value_of(found, id)?.parse::<u16>().ok()?;
     if port == 0 { None } else { Some(port) }
 }
 
-// Returns the number of turns that a value spells, from 0 to 4,294,967,295.
-fn turns_of(value: &str) -> Option<u32>
-    ensures { result ≡ number_of 0 4294967295 value.now }
-{
-    value.parse::<u32>().ok()
-}
-
-// Returns the port that was given.
-fn port_in(found: &ArgMatches<'_>) -> Option<u16>
-    ensures { result ≡ spec.port_in (rows_of (found_of found.now)) }
-{
-    let value = value_of(found, "port")?;
-    port_of(value)
-}
-
-// Returns the port of the process that was given.
-fn process_in(found: &ArgMatches<'_>) -> Option<u16>
-    ensures { result ≡ spec.process_in (rows_of (found_of found.now)) }
-{
-    let value = value_of(found, "process")?;
-    port_of(value)
-}
-
-// Returns the number of turns that was given.
+// Returns the number of turns that was given, from 0 to 4,294,967,295.
 fn turns_in(found: &ArgMatches<'_>) -> Option<u32>
     ensures { result ≡ spec.turns_in (rows_of (found_of found.now)) }
 {
-    let value = value_of(found, "turns")?;
-    turns_of(value)
+    value_of(found, "turns")?.parse::<u32>().ok()
 }
 
 // Returns the program or the image that was named, if exactly one of the two was.
@@ -176,10 +153,10 @@ fn serve_from<'a>(found: &ArgMatches<'a>) -> Option<Task<&'a str>>
 {
     let bay = value_of(found, "bay")?;
     let program = program_from(found)?;
-    let port = port_in(found)?;
+    let port = port_in(found, "port")?;
     let turns = turns_in(found)?;
     let trace = value_of(found, "trace");
-    let process = process_in(found);
+    let process = port_in(found, "process");
     let tells_releases = tells_of(process, value_of(found, "tell"))?;
     if !is_apart(port, process) {
         return None;
@@ -219,24 +196,11 @@ fn compile_from<'a>(found: &ArgMatches<'a>) -> Option<Task<&'a str>>
     Some(Task::Compile { bay, logic, out })
 }
 
-// Whether the value of a flag is `true`.
-fn is_true(value: &str) -> bool
-    ensures { result ≡ bytes_eq value.now (codes "true") }
-{
-    match value {
-        "true" => true,
-        _ => false,
-    }
-}
-
 // Returns whether the log is asked for.
 fn logs(found: &ArgMatches<'_>) -> bool
     ensures { result ≡ spec.logs (rows_of (found_of found.now)) }
 {
-    match value_of(found, "log") {
-        Some(value) => is_true(value),
-        None => false,
-    }
+    matches!(value_of(found, "log"), Some("true"))
 }
 
 // Returns the task that a subcommand with its options asks for.
@@ -254,24 +218,16 @@ fn named_task<'a>(name: &str, found: &ArgMatches<'a>) -> Option<Task<&'a str>>
     }
 }
 
-// Returns what a subcommand with its options asks for.
-fn named_asked<'a>(name: &str, found: &ArgMatches<'a>) -> Option<Asked<&'a str>>
-    ensures { option_map asked_view result
-        ≡ spec.named_asked name.now (rows_of (found_of found.now)) }
-{
-    let task = named_task(name, found)?;
-    Some(Asked {
-        task,
-        log: logs(found),
-    })
-}
-
 // Returns what the parsed words ask for.
 fn task_from<'a>(matches: &ArgMatches<'a>) -> Option<Asked<&'a str>>
     ensures { option_map asked_view result ≡ spec.entered_task (subcommand_rows_of matches.now) }
 {
     let (name, found) = matches.subcommand()?;
-    named_asked(name, found)
+    let task = named_task(name, found)?;
+    Some(Asked {
+        task,
+        log: logs(found),
+    })
 }
 
 // Returns the verb of a task.
@@ -287,73 +243,33 @@ fn verb_of(task: &Task<&str>) -> Verb
     }
 }
 
-// Copies the value of an option.
-fn option_of(alloc: Global, found: &ArgMatches<'_>, id: &str) -> Result<Option<String>, AllocError>
-    ensures { IfOk result (λ o. option_map string_bytes o
-        ≡ first_of id.now (rows_of (found_of found.now))) }
-{
-    match value_of(found, id) {
-        Some(value) => {
-            let value = String::from_str(alloc, value)?;
-            Ok(Some(value))
-        }
-        None => Ok(None),
-    }
-}
-
 // Makes a job of a verb and the values of its options.
-fn with_options(alloc: Global, found: &ArgMatches<'_>, verb: Verb) -> Result<Job, AllocError>
-    ensures { IfOk result (λ j. job_view j ≡ spec.with_options (rows_of (found_of found.now)) verb) }
+fn with_options<'a>(found: &ArgMatches<'a>, verb: Verb) -> Job<'a>
+    ensures { job_view result ≡ spec.with_options (rows_of (found_of found.now)) verb }
 {
-    let bay = option_of(alloc, found, "bay")?;
-    let logic = option_of(alloc, found, "logic")?;
-    let image = option_of(alloc, found, "image")?;
-    let out = option_of(alloc, found, "out")?;
-    let trace = option_of(alloc, found, "trace")?;
-    let rules = option_of(alloc, found, "rules")?;
-    let port = port_in(found);
-    let turns = turns_in(found);
-    let process = process_in(found);
-    let tell = option_of(alloc, found, "tell")?;
-    Ok(Job {
+    Job {
         verb,
-        bay,
-        logic,
-        image,
-        out,
-        trace,
-        rules,
-        port,
-        turns,
-        process,
-        tell,
+        bay: value_of(found, "bay"),
+        logic: value_of(found, "logic"),
+        image: value_of(found, "image"),
+        out: value_of(found, "out"),
+        trace: value_of(found, "trace"),
+        rules: value_of(found, "rules"),
+        port: port_in(found, "port"),
+        turns: turns_in(found),
+        process: port_in(found, "process"),
+        tell: value_of(found, "tell"),
         log: logs(found),
-    })
-}
-
-// Returns the job of a subcommand and its options, if they ask for a task.
-fn named_job(alloc: Global, name: &str, found: &ArgMatches<'_>) -> Result<Option<Job>, AllocError>
-    ensures { IfOk result
-        (λ j. option_map job_view j ≡ spec.named_job name.now (rows_of (found_of found.now))) }
-{
-    match named_task(name, found) {
-        Some(task) => {
-            let job = with_options(alloc, found, verb_of(&task))?;
-            Ok(Some(job))
-        }
-        None => Ok(None),
     }
 }
 
 // Returns the job that was parsed.
-fn job_from(alloc: Global, matches: &ArgMatches<'_>) -> Result<Option<Job>, AllocError>
-    ensures { IfOk result
-        (λ j. option_map job_view j ≡ spec.entered_job (subcommand_rows_of matches.now)) }
+fn job_from<'a>(matches: &ArgMatches<'a>) -> Option<Job<'a>>
+    ensures { option_map job_view result ≡ spec.entered_job (subcommand_rows_of matches.now) }
 {
-    match matches.subcommand() {
-        Some((name, found)) => named_job(alloc, name, found),
-        None => Ok(None),
-    }
+    let (name, found) = matches.subcommand()?;
+    let task = named_task(name, found)?;
+    Some(with_options(found, verb_of(&task)))
 }
 
 // Returns the usage of a command that requires either a program or an image.
@@ -376,7 +292,7 @@ fn wrong_options(found: &ArgMatches<'_>) -> &'static str {
         Some(word) if !is_releases(word) => {
             "invalid value for '--tell <WHAT>'\n  [possible values: releases]"
         }
-        Some(_) if process_in(found).is_none() => {
+        Some(_) if port_in(found, "process").is_none() => {
             "the following required arguments were not provided:\n  --process <P>"
         }
         _ => "--process wants another port than --port",
@@ -449,15 +365,14 @@ pub fn task_of<'a>(alloc: Global, words: &'a [&'a str]) -> Result<Asked<&'a str>
 }
 
 /// Like `task_of`, but returns a record of all options that were given.
-pub fn job_of<'a>(alloc: Global, words: &'a [&'a str]) -> Result<Job, WordsFault>
+pub fn job_of<'a>(alloc: Global, words: &'a [&'a str]) -> Result<Job<'a>, WordsFault>
     ensures ok { IfOk result (λ j. job_in (map (λ w. w.now) words.entry.now) ≡ Some (job_view j)) }
     ensures refused { IfErr result
         (λ e. (e ≡ WordsFault.OutOfMemory) ⊎ (job_in (map (λ w. w.now) words.entry.now) ≡ None)) }
 {
     let matches = matches_of(alloc, words)?;
-    match job_from(alloc, &matches) {
-        Ok(Some(job)) => Ok(job),
-        Ok(None) => Err(refused_options(alloc, &matches)),
-        Err(AllocError) => Err(WordsFault::OutOfMemory),
+    match job_from(&matches) {
+        Some(job) => Ok(job),
+        None => Err(refused_options(alloc, &matches)),
     }
 }

@@ -1,21 +1,10 @@
-use Rattle.std.proofs.Common.{rules, ap, ap₂, ◌∙◌}
-use Rattle.clap.specs.Words.{App, with_subcommand}
+use Rattle.std.proofs.Common.{ap}
+use Rattle.clap.specs.Words.{App}
+use Rattle.bay_words.proofs.OptionLemmas.{commands-step}
 use Rattle.bay_words.proofs.command.job_command.Goals as goal
 
-pub returns : goal.returns
-returns c =
-    c.in_ok-command-6.ensures.shape (search rules)
-    ∙ ap₂ with_subcommand
-    (c.in_ok-command-5.ensures.shape (search rules)
-    ∙ ap₂ with_subcommand
-    (c.in_ok-command-4.ensures.shape (search rules)
-    ∙ ap₂ with_subcommand
-    (c.in_ok-command-3.ensures.shape (search rules)
-    ∙ ap₂ with_subcommand
-    (c.in_ok-command-2.ensures.shape (search rules)
-    ∙ ap₂ with_subcommand c.in_ok-command.ensures
-    (ap (λ (a : App). a.top) c.in_ok-check_command.ensures.app))
-    (ap (λ (a : App). a.top) c.in_ok-replay_command.ensures.app))
-    (ap (λ (a : App). a.top) c.in_ok-serve_command.ensures.app))
-    (ap (λ (a : App). a.top) c.in_ok-compile_command.ensures.app))
-    (ap (λ (a : App). a.top) c.in_ok-audit_command.ensures.app)
+pub loop-entry-preserved : goal.loop-entry-preserved
+loop-entry-preserved c =
+    commands-step _ _ _ _ _ _ c.loop-entry.invariant c.loop-entry-test.true
+    (ap (λ (a : App). a.top) c.in_ok-command_of.ensures.app)
+    (c.in_ok-command-2.ensures.shape c.in_ok-command_of.ensures.local)
