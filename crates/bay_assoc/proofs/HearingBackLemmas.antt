@@ -7,9 +7,9 @@ use Rattle.std.proofs.lemmas.Bool.Decides.{nat_tests}
 use Rattle.bay_base.specs.Options.{◌>>=◌}
 use Rattle.bay_ber.proofs.ReadLemmas.{IsBytes, bind-ok}
 use Rattle.bay_ber.proofs.BackLemmas.{bind-some, bytes-behind, bytes-before, unguarded}
-use Rattle.bay_assoc.specs.declared.initiate.Agreed.{Agreed}
-use Rattle.bay_assoc.specs.Initiate.{initiate_in}
-use Rattle.bay_assoc.proofs.InitiateLemmas.{initiate-back}
+use Rattle.bay_initiate.specs.declared.initiate.Agreed.{Agreed}
+use Rattle.bay_initiate.specs.Initiate.{initiate_in}
+use Rattle.bay_initiate.proofs.InitiateLemmas.{initiate-back}
 use Rattle.bay_base.specs.Results.{◌>>=◌ as ◌>>◌}
 use Rattle.bay_assoc.specs.declared.fault.AssocFault.{AssocFault}
 use Rattle.bay_assoc.specs.declared.fault.AssocFault.TheVariants as fault

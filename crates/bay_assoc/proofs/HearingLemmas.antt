@@ -10,7 +10,7 @@ use Rattle.bay_assoc.specs.Hearing.{Hearing, answer, mms, released, aborted, agr
 use Rattle.bay_assoc.specs.SpelledSession.{IsSpdu}
 use Rattle.bay_assoc.specs.SpelledValues.{IsUser}
 use Rattle.bay_assoc.specs.SpelledHearing.{IsAnswered, IsReleased, IsHeard}
-use Rattle.bay_assoc.proofs.InitiateLemmas.{initiate-read}
+use Rattle.bay_initiate.proofs.InitiateLemmas.{initiate-read}
 use Rattle.bay_assoc.proofs.SpduLemmas.{spdu-again}
 use Rattle.bay_assoc.proofs.ValueLemmas.{user-read, request-read, associate-read, release-read}
 

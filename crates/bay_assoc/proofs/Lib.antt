@@ -1,10 +1,8 @@
 pub mod AcseBackLemmas
-pub mod AgreedLemmas
 pub mod ContextLemmas
 pub mod FrontLemmas
 pub mod HearingBackLemmas
 pub mod HearingLemmas
-pub mod InitiateLemmas
 pub mod LastLemmas
 pub mod ModeLemmas
 pub mod RefusalLemmas

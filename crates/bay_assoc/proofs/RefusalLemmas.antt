@@ -2,11 +2,11 @@
 use Rattle.std.proofs.Common.{◌≡◌, ◌≢◌, ℕ, ℤ, pos, Bool, true, false, cond, List, Option, Some, None, Result, Ok, Err, refl, sym, ap, subst, ◌∙◌}
 use Rattle.std.proofs.lemmas.Bool.{eq-eqb}
 use Rattle.bay_ber.proofs.ReadLemmas.{IsBytes}
-use Rattle.bay_assoc.specs.declared.initiate.Proposal.{Proposal}
-use Rattle.bay_assoc.specs.declared.initiate.Agreed.{Agreed}
-use Rattle.bay_assoc.specs.Initiate.{initiate_in}
-use Rattle.bay_assoc.specs.SpelledInitiate.{IsInitiate}
-use Rattle.bay_assoc.proofs.InitiateLemmas.{initiate-read, initiate-back}
+use Rattle.bay_initiate.specs.declared.initiate.Proposal.{Proposal}
+use Rattle.bay_initiate.specs.declared.initiate.Agreed.{Agreed}
+use Rattle.bay_initiate.specs.Initiate.{initiate_in}
+use Rattle.bay_initiate.specs.SpelledInitiate.{IsInitiate}
+use Rattle.bay_initiate.proofs.InitiateLemmas.{initiate-read, initiate-back}
 use Rattle.bay_base.specs.Results.{◌>>=◌ as ◌>>◌}
 use Rattle.bay_assoc.specs.declared.fault.AssocFault.{AssocFault}
 use Rattle.bay_assoc.specs.declared.fault.AssocFault.TheVariants as fault

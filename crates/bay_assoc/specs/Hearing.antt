@@ -1,11 +1,11 @@
 -- What an association hears of a TSDU, and in which phase it is then.
 use Rattle.std.specs.Prelude.{ℕ, ℤ, pos, negsuc, ◌==◌, Bool, false, min, List, [], ◌∷◌, find, Option, Some, None, option_map, Result, Ok, Err, if◌then◌else◌}
 use Rattle.bay_base.specs.Options.{◌>>=◌}
-use Rattle.bay_assoc.specs.declared.initiate.Proposal.{Proposal}
-use Rattle.bay_assoc.specs.declared.initiate.Agreed.{Agreed}
-use Rattle.bay_assoc.specs.Initiate.{initiate_in}
-use Rattle.bay_assoc.specs.Agreed.{agreed_text}
-use Rattle.bay_assoc.specs.Sizes.{agreed_size}
+use Rattle.bay_initiate.specs.declared.initiate.Proposal.{Proposal}
+use Rattle.bay_initiate.specs.declared.initiate.Agreed.{Agreed}
+use Rattle.bay_initiate.specs.Initiate.{initiate_in}
+use Rattle.bay_initiate.specs.Agreed.{agreed_text}
+use Rattle.bay_initiate.specs.Sizes.{agreed_size}
 use Rattle.bay_base.specs.Results.{◌>>=◌ as ◌>>◌}
 use Rattle.bay_assoc.specs.declared.fault.AssocFault.{AssocFault}
 use Rattle.bay_assoc.specs.declared.fault.AssocFault.TheVariants as fault

@@ -11,9 +11,6 @@
 -- `SpelledValues` for the rest. `SpelledRefusals` says why a TSDU is refused: the outermost layer
 -- that is spelled wrong decides.
 --
--- `Initiate` reads the proposal of an association of MMS (ISO 9506-2), and `SpelledInitiate` is its
--- relation; `Agreed` is the answer to it, and `Sizes` says how long PDUs are.
---
 -- `Texts`: what is sent. `Hears`: what a call answers and which phase it leaves. `Results`: what is
 -- wanted of a TSDU. `Sized`: how long PDUs and answers are. `TakesMemory`: which TSDUs take memory.
 -- `Tags`: tags and object identifiers. `Code` numbers the faults; `Views` and `SessionViews` map
@@ -21,22 +18,19 @@
 
 -- What public clauses cite of the crates below.
 pub use Rattle.bay_ber.specs.Octets
+pub use Rattle.bay_initiate.specs.Sizes
 -- Its own definitions.
 pub mod Acse
-pub mod Agreed
 pub mod Code
 pub mod Hearing
 pub mod Hears
-pub mod Initiate
 pub mod Presentation
 pub mod Results
 pub mod Session
 pub mod SessionReading
 pub mod SessionViews
 pub mod Sized
-pub mod Sizes
 pub mod SpelledHearing
-pub mod SpelledInitiate
 pub mod SpelledRefusals
 pub mod SpelledSession
 pub mod SpelledValues

@@ -1,6 +1,6 @@
 -- How long answers and PDUs are.
 use Rattle.std.specs.Prelude.{◌≤◌, length}
-use Rattle.bay_assoc.specs.Sizes.{IsPduSize}
+use Rattle.bay_initiate.specs.Sizes.{IsPduSize}
 use Rattle.bay_assoc.specs.declared.hearing.Heard.{Heard}
 use Rattle.bay_assoc.specs.declared.hearing.Heard.TheVariants.{Answer, Released}
 use Rattle.bay_assoc.specs.declared.hearing.Phase.{Phase}

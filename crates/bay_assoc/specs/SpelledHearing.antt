@@ -1,9 +1,9 @@
 -- What is heard of a TSDU, by how it is spelled: a relation by cases from a phase and a TSDU to
 -- what is heard and the phase after it.
 use Rattle.std.specs.Prelude.{ℕ, pos, ◌≡◌, List, [], ◌∷◌, Option, Some, None}
-use Rattle.bay_assoc.specs.declared.initiate.Proposal.{Proposal}
-use Rattle.bay_assoc.specs.declared.initiate.Agreed.{Agreed}
-use Rattle.bay_assoc.specs.SpelledInitiate.{IsInitiate}
+use Rattle.bay_initiate.specs.declared.initiate.Proposal.{Proposal}
+use Rattle.bay_initiate.specs.declared.initiate.Agreed.{Agreed}
+use Rattle.bay_initiate.specs.SpelledInitiate.{IsInitiate}
 use Rattle.bay_assoc.specs.declared.hearing.AssociationTerms.{AssociationTerms}
 use Rattle.bay_assoc.specs.declared.hearing.Phase.{Phase}
 use Rattle.bay_assoc.specs.declared.hearing.Phase.TheVariants.{Idle, Open, Over}

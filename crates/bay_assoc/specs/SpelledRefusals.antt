@@ -1,7 +1,7 @@
 -- Why a TSDU is refused, by how it is spelled: of the outermost layer whose spelling is wrong.
 use Rattle.std.specs.Prelude.{◌≡◌, ◌≢◌, pos, List, ℕ, Some, None}
-use Rattle.bay_assoc.specs.declared.initiate.Proposal.{Proposal}
-use Rattle.bay_assoc.specs.SpelledInitiate.{IsInitiate}
+use Rattle.bay_initiate.specs.declared.initiate.Proposal.{Proposal}
+use Rattle.bay_initiate.specs.SpelledInitiate.{IsInitiate}
 use Rattle.bay_assoc.specs.declared.fault.AssocFault.{AssocFault}
 use Rattle.bay_assoc.specs.declared.fault.AssocFault.TheVariants as fault
 use Rattle.bay_assoc.specs.declared.hearing.Accepted.{Accepted}

@@ -1,6 +1,6 @@
 // An association as its user sees it.
 ghost use Rattle.std.specs.Prelude.{◌≡◌, ◌<◌, ◌^◌, ◌++◌, ◌↔◌, Ok, length, IfOk, IfSome, IsErrOf, IsSome, IsTrue};
-ghost use Rattle.bay_assoc.specs.Sizes.{IsPduSize};
+ghost use Rattle.bay_initiate.specs.Sizes.{IsPduSize};
 ghost use Rattle.bay_assoc.specs.Hearing.{mms, hearing};
 ghost use Rattle.bay_assoc.specs.Hears.{association_terms, Hears, StandsLast, IsOpenFor};
 ghost use Rattle.bay_assoc.specs.Session.{spdu_in};

@@ -2,7 +2,7 @@
 ghost use Rattle.std.specs.Prelude.{◌≡◌, ◌≤◌, ◌∷◌, [], Some, length, option_map, IfOk, IfSome, IsErrOf, IsSome};
 ghost use Rattle.bay_base.specs.Exact.{Gives};
 ghost use Rattle.bay_base.specs.Results.{IsRead};
-ghost use Rattle.bay_assoc.specs.Sizes.{IsPduSize};
+ghost use Rattle.bay_initiate.specs.Sizes.{IsPduSize};
 ghost use Rattle.bay_assoc.specs.Hearing.{answer_text, hearing};
 ghost use Rattle.bay_assoc.specs.Hearing as spec;
 ghost use Rattle.bay_assoc.specs.Presentation.{mode_in};
@@ -13,11 +13,11 @@ ghost use Rattle.bay_assoc.specs.Views.{carried_view, connect_view, spdu_view, h
 
 use crate::acse::{associate_in, release_in};
 use crate::fault::AssocFault;
-use crate::initiate::{Agreed, Proposal, agreed_size, read_initiate, write_agreed};
 use crate::presentation::{Carried, Context, request_in, user_in};
 use crate::request::Connect;
 use crate::session::{Spdu, spdu_in};
 use crate::text;
+use bay_initiate::initiate::{Agreed, Proposal, agreed_size, read_initiate, write_agreed};
 use std::alloc::{AllocError, Global};
 
 /// The identifiers of the accepted presentation contexts.

@@ -2,9 +2,9 @@
 -- at most 65,000 octets.
 use Rattle.std.proofs.Common.{◌≡◌, ◌≤◌, ℕ, ℤ, pos, negsuc, Bool, true, false, cond, nat_lt, min, List, [], ◌∷◌, Option, Some, None, Result, Ok, Err, IsSome, refl, arith}
 use Rattle.bay_base.specs.Options.{◌>>=◌}
-use Rattle.bay_assoc.specs.declared.initiate.Proposal.{Proposal}
-use Rattle.bay_assoc.specs.declared.initiate.Agreed.{Agreed}
-use Rattle.bay_assoc.specs.Initiate.{initiate_in}
+use Rattle.bay_initiate.specs.declared.initiate.Proposal.{Proposal}
+use Rattle.bay_initiate.specs.declared.initiate.Agreed.{Agreed}
+use Rattle.bay_initiate.specs.Initiate.{initiate_in}
 use Rattle.bay_base.specs.Results.{◌>>=◌ as ◌>>◌}
 use Rattle.bay_transport.specs.Doings.{Doing, Answers, Delivers, Ends, Fails, Stream, doings, after}
 use Rattle.bay_transport.specs.Feeding.{size_agreed}
@@ -21,7 +21,7 @@ use Rattle.bay_assoc.specs.Hearing.{Hearing, answer, mms, released, aborted, acc
 use Rattle.bay_assoc.specs.Presentation.{Carried, user_in, request_in}
 use Rattle.bay_assoc.specs.Results.{or_fault}
 use Rattle.bay_assoc.specs.Session.{Spdu, connect, accept, finish, disconnect, abort, transfer, spdu_in}
-use Rattle.bay_assoc.specs.Sizes.{IsPduSize, agreed_size}
+use Rattle.bay_initiate.specs.Sizes.{IsPduSize, agreed_size}
 use Rattle.bay_assoc.specs.Sized.{IsSized}
 use Rattle.bay_connection.specs.Talk.{Indication, Talk, TalkStep, answers, tells, releases, ends, fails, comes_to, indications, left_by, on_heard, on_hearing, talk_after}
 

@@ -15,7 +15,7 @@ use Rattle.bay_ber.proofs.BackLemmas.{bind-some, bytes-before, content-bytes, Al
 use Rattle.bay_base.specs.Results.{◌>>=◌ as ◌>>◌}
 use Rattle.bay_mms.specs.Requests.{Asking, Message, initiate, conclude, confirmed}
 use Rattle.bay_mms.specs.Grammar.{nothing, service_as, id_of, id_as, with_id, or_bad, confirmed_of, message_as, front_of, id_in, answer_to}
-use Rattle.bay_assoc.specs.Initiate.{proposal_in}
+use Rattle.bay_initiate.specs.Initiate.{proposal_in}
 use Rattle.bay_mms.specs.Asks.{IsConfirmed, Asks, AsksUnknown, AsksMany, HasId, IsIdOf, AsksNothing}
 use Rattle.bay_mms.specs.declared.fault.Refusal.{Refusal}
 use Rattle.bay_mms.specs.declared.fault.Refusal.TheVariants.{Bad, OutOfMemory}
@@ -23,7 +23,7 @@ use Rattle.bay_mms.specs.declared.fault.MmsFault.{MmsFault}
 use Rattle.bay_mms.specs.declared.fault.MmsFault.TheVariants as fault
 use Rattle.bay_mms.proofs.AccessLemmas.{spelled-under}
 use Rattle.bay_mms.proofs.ConfirmedLemmas.{id-read, known, confirmed-read}
-use Rattle.bay_assoc.proofs.InitiateLemmas.{proposal-in-read, initiate-with}
+use Rattle.bay_initiate.proofs.InitiateLemmas.{proposal-in-read, initiate-with}
 use Rattle.bay_mms.proofs.ServiceBackLemmas.{Serves, service-back}
 use Rattle.bay_mms.proofs.ServiceLemmas.{service-read, unserved-read, overfull-read}
 

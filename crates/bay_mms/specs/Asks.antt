@@ -6,7 +6,7 @@ use Rattle.bay_ber.specs.Reading.{Begins}
 use Rattle.bay_ber.specs.Values.{Part, value, SpellAll}
 use Rattle.bay_ber.specs.Tags.{context, constructed, int_tag}
 use Rattle.bay_mms.specs.Requests.{Message, initiate, conclude, confirmed}
-use Rattle.bay_assoc.specs.SpelledInitiate.{IsInitiate}
+use Rattle.bay_initiate.specs.SpelledInitiate.{IsInitiate}
 use Rattle.bay_mms.specs.SpelledServices.{IsService, IsUnserved, IsOverfull}
 
 -- The octets are one value under A0, whose content is an invoke id of 32 bits and a service, and

@@ -16,7 +16,7 @@ use Rattle.bay_mms.specs.Views.{data_before}
 use Rattle.bay_base.specs.Results.{◌>>=◌ as ◌>>◌}
 use Rattle.bay_mms.specs.Spelled.{or_misspelled}
 use Rattle.bay_mms.specs.Requests.{Naming, vmd, domain, association, Place, whole_vmd, in_domain, of_association, VariableSpecification, Access, variables, named_list, Asking, identify, names, attributes, read, write, Message, initiate, conclude, confirmed}
-use Rattle.bay_assoc.specs.declared.initiate.Proposal.{Proposal}
+use Rattle.bay_initiate.specs.declared.initiate.Proposal.{Proposal}
 use Rattle.bay_mms.specs.declared.fault.Refusal.{Refusal}
 use Rattle.bay_mms.specs.declared.fault.Refusal.TheVariants.{Bad, Unknown, Many, OutOfMemory}
 use Rattle.bay_mms.specs.declared.fault.MmsFault.{MmsFault}

@@ -1,7 +1,7 @@
 -- What a client asks (ISO 9506-2): data without where they lie in memory.
 use Rattle.std.specs.Prelude.{ℕ, ℤ, Bool, Option, List}
 use Rattle.bay_mms.specs.Data.{Datum}
-use Rattle.bay_assoc.specs.declared.initiate.Proposal.{Proposal}
+use Rattle.bay_initiate.specs.declared.initiate.Proposal.{Proposal}
 
 -- the name of an object (ObjectName): of the device's own, of a domain, or of the association
 pub data Naming : Type 0 where

@@ -11,7 +11,7 @@ ghost use Rattle.bay_base.specs.Exact.{Gives};
 ghost use Rattle.bay_mms.specs.Answers.{IsAnswer};
 ghost use Rattle.bay_mms.specs.Asks.{Asks, AsksUnknown, AsksMany, AsksNothing};
 ghost use Rattle.bay_mms.specs.Grammar.{answer_to};
-ghost use Rattle.bay_assoc.specs.Initiate.{initiate_in};
+ghost use Rattle.bay_initiate.specs.Initiate.{initiate_in};
 ghost use Rattle.bay_ber.specs.Values.{value};
 ghost use Rattle.bay_mms.specs.Controls.{Control, Operate, IsOperate, operate_datum, cancel_datum, operate_as, cancel_as, is_in_range, operate_in};
 ghost use Rattle.bay_mms.specs.Laws.{IsPlain, IsOneValue, datum_tag, datum_content, response_tag};
@@ -20,9 +20,9 @@ ghost use Rattle.bay_mms.specs.Requests.{Message};
 ghost use Rattle.bay_mms.specs.RequestViews.{message};
 ghost use Rattle.bay_mms.specs.declared.fault.MmsFault.{MmsFault};
 ghost use Rattle.bay_mms.specs.declared.request.Request.{Request};
-ghost use Rattle.bay_assoc.specs.SpelledInitiate.{IsInitiate};
+ghost use Rattle.bay_initiate.specs.SpelledInitiate.{IsInitiate};
 ghost use Rattle.bay_mms.specs.declared.fault.MmsFault.TheVariants as MmsFault;
-ghost use Rattle.bay_assoc.specs.declared.initiate.Proposal.{Proposal};
+ghost use Rattle.bay_initiate.specs.declared.initiate.Proposal.{Proposal};
 ghost use Rattle.bay_mms.specs.declared.response.Response.{Response};
 
 /// What is written is read back as one value of BER (X.690 8.1): data under their tags, which have

@@ -12,11 +12,11 @@ ghost use Rattle.bay_mms.specs.RequestViews.{asking, message};
 use crate::data::Data;
 use crate::fault::{MmsFault, Refusal};
 use crate::service::service_as;
-use bay_assoc::initiate::{Proposal, proposal_in};
 use bay_ber::content::int_of;
 use bay_ber::tag::Tag;
 use bay_ber::tlv::read_tlv;
 use bay_ber::values::{Value, few_values, one_or_two, whole_value};
+use bay_initiate::initiate::{Proposal, proposal_in};
 use std::alloc::Global;
 
 /// The name of an object (ISO 9506-2, ObjectName), in arbitrary octets.

@@ -13,11 +13,11 @@ ghost use Rattle.bay_mms.specs.Writing.{text_within};
 use crate::fault::EncodeFault;
 use crate::put::finish;
 use crate::value::put_type;
-use bay_assoc::initiate::{Agreed, put_agreed, put_number};
 use bay_base::text::Text;
 use bay_ber::outgoing::Outgoing;
 use bay_ber::tag::Tag;
 use bay_ber::writer::Writer;
+use bay_initiate::initiate::{Agreed, put_agreed, put_number};
 use bay_tree::tree::{Handle, Tree};
 use std::alloc::{AllocError, Global};
 

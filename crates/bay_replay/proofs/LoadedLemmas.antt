@@ -13,7 +13,7 @@ use Rattle.il_check.proofs.TypedLemmas.{typed-of}
 use Rattle.il_compile.specs.Correct.{DoesTheText}
 use Rattle.il_compile.proofs.CompiledLemmas.{does-the-text}
 use Rattle.il_image.specs.Images.{Image}
-use Rattle.il_compile.proofs.Fits.{verified}
+use Rattle.il_compile_laws.proofs.Fits.{verified}
 use Rattle.il_verify.specs.Verdicts.{IsVerified}
 use Rattle.bay_device.specs.Device.{State}
 use Rattle.bay_device.specs.Load.{IsCompiled, IsLoaded, initial_device}

@@ -20,7 +20,7 @@ use Rattle.bay_control.specs.declared.request.View.{View}
 use Rattle.bay_mms.specs.Data.{Datum, structure, text, integer, unsigned, no_data, datum}
 use Rattle.bay_mms.specs.Controls.{Control, Operate, Origin, origin_datum, operate_datum}
 use Rattle.bay_mms.specs.Reports.{report_text, failure_name, item_name}
-use Rattle.bay_assoc.specs.Sizes.{longest_pdu}
+use Rattle.bay_initiate.specs.Sizes.{longest_pdu}
 use Rattle.bay_services.specs.Bay.{Bay}
 use Rattle.bay_services.specs.Replies.{fitting}
 use Rattle.bay_services.specs.declared.answer.Decision.{Decision}

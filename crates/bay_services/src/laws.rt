@@ -4,7 +4,7 @@ ghost use Rattle.std.specs.Str.{bytes_eq};
 ghost use Rattle.bay_control.specs.Decisions.{State, selected_switch};
 ghost use Rattle.bay_control.specs.Happenings.{Leads};
 ghost use Rattle.bay_mms.specs.Grammar.{answer_to};
-ghost use Rattle.bay_assoc.specs.Sizes.{longest_pdu};
+ghost use Rattle.bay_initiate.specs.Sizes.{longest_pdu};
 ghost use Rattle.bay_nodes.specs.Names.{control_names};
 ghost use Rattle.bay_services.specs.Accepted.{AreNamedAlike, accepted_in, first_response, may_be_reported};
 ghost use Rattle.bay_services.specs.Answers.{pdu_answer};

@@ -6,7 +6,7 @@ ghost use Rattle.bay_mms.specs.RequestViews.{place};
 ghost use Rattle.bay_mms.specs.Requests.{in_domain};
 ghost use Rattle.bay_mms.specs.Responses.{error_text, page_text};
 ghost use Rattle.bay_mms.specs.declared.response.ErrorClass.TheVariants.{NoSuchObject};
-ghost use Rattle.bay_assoc.specs.Sizes.{IsPduSize};
+ghost use Rattle.bay_initiate.specs.Sizes.{IsPduSize};
 ghost use Rattle.bay_mms.specs.Writing.{text_within};
 ghost use Rattle.bay_services.specs.Names.{domain_names, listing, no_names, variable_names};
 ghost use Rattle.bay_services.specs.Views.{bay_of};

@@ -3,7 +3,7 @@ ghost use Rattle.std.specs.Prelude.{◌≡◌, ◌≢◌, ◌≤◌, ◌∷◌, 
 ghost use Rattle.bay_base.specs.Exact.{Gives};
 ghost use Rattle.bay_mms.specs.RequestViews.{asking, naming};
 ghost use Rattle.bay_mms.specs.Responses.{concluded_text, error_text, read_text};
-ghost use Rattle.bay_assoc.specs.Sizes.{IsPduSize, longest_pdu};
+ghost use Rattle.bay_initiate.specs.Sizes.{IsPduSize, longest_pdu};
 ghost use Rattle.bay_mms.specs.Views.{data_in};
 ghost use Rattle.bay_mms.specs.Writing.{text_within};
 ghost use Rattle.bay_services.specs.Answers.{Answered, answer_of, pdu_answer, attributes_at, identify_answer, read_asked, service_answer, write_asked};

@@ -3,7 +3,6 @@ pub mod Calls
 pub mod CompiledLemmas
 pub mod Entries
 pub mod EntryLemmas
-pub mod Fits
 pub mod Follows
 pub mod JumpLemmas
 pub mod Memories

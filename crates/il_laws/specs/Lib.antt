@@ -1,7 +1,6 @@
--- Laws over the whole language, from a text to a verified image. `Verified`: the image of a program
--- fits the points that the program was checked with, and verifies. `ByNames`: the meaning of a
--- program goes by names: reading and writing an external, a variable or a timer is reading and
--- changing a map from names, at its own name.
+-- Laws over the whole language. `ByNames`: the meaning of a program goes by names: reading and
+-- writing an external, a variable or a timer is reading and changing a map from names, at its own
+-- name.
 --
 -- No code cites the rest, which says the language once more, in its own words (IEC 61131-3:2003,
 -- tables 10, 24, 26, 28, 38 and 52). `Table`: on which types an operator works, and what type it
@@ -25,4 +24,3 @@ pub mod Integers
 pub mod RightText
 pub mod Table
 pub mod TypedText
-pub mod Verified

@@ -31,14 +31,6 @@ ghost use Rattle.il_laws.specs.Integers.{IsApplied, IsConverted, IsInverted, IsO
 ghost use Rattle.il_laws.specs.RightText.{IsRightText};
 ghost use Rattle.il_laws.specs.Table.{result_type};
 ghost use Rattle.il_laws.specs.TypedText.{HasTypes};
-ghost use Rattle.il_laws.specs.Verified.{Verifies};
-
-/// Compiled code verifies: the image of a program that was checked against points fits these
-/// points, a table of kinds agrees with its code, and it writes no read-only point.
-pub fn compiled_code_verifies()
-    ensures { (points : List Point) (program : text.PlainProgram) (c : Checked)
-        → checked_of points program ≡ Ok c → Verifies points c }
-{}
 
 /// A program's meaning goes by names. Take a memory in which each external, variable and timer has
 /// what a map from names holds under its name. What an instruction reads under a name is then what

@@ -6,7 +6,7 @@ use Rattle.il_check.specs.ProgramViews.{checked_view}
 use Rattle.il_check.proofs.TypedLemmas.{typed-of}
 use Rattle.il_compile.specs.Correct.{DoesTheText}
 use Rattle.il_verify.specs.Verdicts.{IsVerified}
-use Rattle.il_compile.proofs.Fits.{verified}
+use Rattle.il_compile_laws.proofs.Fits.{verified}
 use Rattle.bay_device.specs.Load.{initial_device}
 use Rattle.bay_device.specs.Meaning.{Runs}
 use Rattle.bay_device.proofs.LoadLemmas.{image-is, only-memory}

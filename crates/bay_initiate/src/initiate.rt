@@ -7,10 +7,10 @@ ghost use Rattle.bay_ber.specs.Sheets.{sheet_with};
 ghost use Rattle.bay_ber.specs.Tags.{context};
 ghost use Rattle.bay_ber.specs.Values.{part_of};
 ghost use Rattle.bay_ber.specs.Writing.{element, integer_octets};
-ghost use Rattle.bay_assoc.specs.Agreed.{agreed_text, detail_text, limits_text, nesting_text, parameters_text, services_text};
-ghost use Rattle.bay_assoc.specs.Initiate as spec;
-ghost use Rattle.bay_assoc.specs.Sizes.{IsPduSize};
-ghost use Rattle.bay_assoc.specs.Sizes as sizes;
+ghost use Rattle.bay_initiate.specs.Agreed.{agreed_text, detail_text, limits_text, nesting_text, parameters_text, services_text};
+ghost use Rattle.bay_initiate.specs.Initiate as spec;
+ghost use Rattle.bay_initiate.specs.Sizes.{IsPduSize};
+ghost use Rattle.bay_initiate.specs.Sizes as sizes;
 
 use bay_ber::content::{Bits, bits_of};
 use bay_ber::known::known_values;

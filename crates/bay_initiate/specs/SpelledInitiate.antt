@@ -5,7 +5,7 @@ use Rattle.bay_ber.specs.declared.tag.Tag.{Tag}
 use Rattle.bay_ber.specs.Content.{IsInteger, IsBits}
 use Rattle.bay_ber.specs.Values.{Part, field, value, SpellAll, is_known}
 use Rattle.bay_ber.specs.Tags.{context, constructed}
-use Rattle.bay_assoc.specs.declared.initiate.Proposal.{Proposal}
+use Rattle.bay_initiate.specs.declared.initiate.Proposal.{Proposal}
 
 -- A content that may be left out is an integer where it came.
 abbrev pub IsNumber : Option (List ℕ) → Option ℤ → Type 0

@@ -6,7 +6,7 @@ use Rattle.bay_ber.specs.declared.tag.Tag.{Tag}
 use Rattle.bay_ber.specs.Content.{BitString, bits_in}
 use Rattle.bay_ber.specs.Tags.{same_tag, context, constructed}
 use Rattle.bay_ber.specs.Values.{Part, value_in, few_in, known_in, under, integer_under}
-use Rattle.bay_assoc.specs.declared.initiate.Proposal.{Proposal}
+use Rattle.bay_initiate.specs.declared.initiate.Proposal.{Proposal}
 
 -- one or more
 abbrev pub some_of : ℤ → Option ℤ

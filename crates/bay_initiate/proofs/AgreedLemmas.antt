@@ -6,9 +6,9 @@ use Rattle.bay_ber.specs.Writing.{element, integer_octets, bit_string_octets}
 use Rattle.bay_ber.specs.Sheets.{within}
 use Rattle.bay_ber.proofs.SheetLemmas.{fits}
 use Rattle.bay_ber.proofs.SizeLemmas.{length-element, length-integer, length-bit_octets}
-use Rattle.bay_assoc.specs.declared.initiate.Agreed.{Agreed}
+use Rattle.bay_initiate.specs.declared.initiate.Agreed.{Agreed}
 use Rattle.bay_ber.specs.Tags.{context, constructed}
-use Rattle.bay_assoc.specs.Agreed.{nesting_text, limits_text, parameters_text, services_text, detail_text, agreed_text}
+use Rattle.bay_initiate.specs.Agreed.{nesting_text, limits_text, parameters_text, services_text, detail_text, agreed_text}
 
 bits-short : (tag : Tag) (octets : List ℕ) (count most : ℕ) → count ≤ 8 * length octets
     → count ≤ 100 → count ≤ 8 * most

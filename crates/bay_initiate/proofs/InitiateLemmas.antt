@@ -10,9 +10,9 @@ use Rattle.bay_ber.specs.Values.{Part, value, SpellAll, value_in, at_most_five, 
 use Rattle.bay_ber.proofs.ReadLemmas.{IsBytes}
 use Rattle.bay_ber.proofs.ContentLemmas.{integer-again}
 use Rattle.bay_ber.proofs.BackLemmas.{bind-some, AllBytes, unguarded, under-is, under-bytes, number-back, bits-back, bits-again, one-under, few-back, known-back, one-read, few-read, known-read, by-tag}
-use Rattle.bay_assoc.specs.declared.initiate.Proposal.{Proposal}
-use Rattle.bay_assoc.specs.Initiate.{some_of, outstanding_as, three_bits, parameters_of, parameters_as, services_as, detail_of, detail_in, proposed_under, proposal_of, initiate_of, proposal_in, initiate_in}
-use Rattle.bay_assoc.specs.SpelledInitiate.{IsNumber, IsPositive, IsDetail, IsInitiate}
+use Rattle.bay_initiate.specs.declared.initiate.Proposal.{Proposal}
+use Rattle.bay_initiate.specs.Initiate.{some_of, outstanding_as, three_bits, parameters_of, parameters_as, services_as, detail_of, detail_in, proposed_under, proposal_of, initiate_of, proposal_in, initiate_in}
+use Rattle.bay_initiate.specs.SpelledInitiate.{IsNumber, IsPositive, IsDetail, IsInitiate}
 
 -- ---- what is spelled is read
 

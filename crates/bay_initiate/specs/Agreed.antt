@@ -2,7 +2,7 @@
 use Rattle.std.specs.Prelude.{ℕ, ℤ, pos, ◌*◌, ◌/◌, Option, Some, None, List, [], ◌∷◌, ◌++◌}
 use Rattle.bay_ber.specs.Tags.{context, constructed}
 use Rattle.bay_ber.specs.Writing.{element, integer_octets, bit_string_octets}
-use Rattle.bay_assoc.specs.declared.initiate.Agreed.{Agreed}
+use Rattle.bay_initiate.specs.declared.initiate.Agreed.{Agreed}
 
 -- how deep data nest, where that was proposed
 abbrev pub nesting_text : Option ℤ → List ℕ

@@ -1,0 +1,2 @@
+pub mod AgreedLemmas
+pub mod InitiateLemmas
