@@ -1,14 +1,14 @@
 // What is to be done.
 
 /// A program in Instruction List, or a compiled one.
-#[derive(Clone, Copy, Debug, PartialEq, Eq)]
+#[derive(Drop)]
 pub enum ProgramFile<T> {
     Logic(T),
     Image(T),
 }
 
 /// What a command line asks for.
-#[derive(Clone, Copy, Debug, PartialEq, Eq)]
+#[derive(Drop)]
 pub struct Asked<T> {
     pub task: Task<T>,
     /// Whether the log is written.
@@ -16,7 +16,7 @@ pub struct Asked<T> {
 }
 
 /// A task, with the names of its files and its numbers.
-#[derive(Clone, Copy, Debug, PartialEq, Eq)]
+#[derive(Drop)]
 pub enum Task<T> {
     /// Loads a bay with a program and reports the result.
     Check {
