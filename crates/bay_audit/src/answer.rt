@@ -83,7 +83,7 @@ pub enum Verdict {
 }
 
 /// What is known of a rule, if that tells whether it is obeyed.
-#[derive(Clone, Copy, Debug, PartialEq, Eq)]
+#[derive(Clone, Copy)]
 pub enum Decision {
     /// It is obeyed.
     Obeyed,

@@ -9,7 +9,7 @@ use std::alloc::{AllocError, Global};
 use std::marker::Model;
 
 /// A test of what the process reports.
-#[derive(Clone, Copy, Debug, PartialEq, Eq)]
+#[derive(Clone, Copy)]
 pub enum Test {
     /// The switch at this index, counted from 0, has this position.
     Position {
@@ -29,7 +29,7 @@ pub enum Test {
 }
 
 /// A test with its answer.
-#[derive(Clone, Copy, Debug, PartialEq, Eq)]
+#[derive(Clone, Copy)]
 pub struct TestAnswer {
     pub test: Test,
     pub value: bool,

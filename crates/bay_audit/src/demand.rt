@@ -4,7 +4,7 @@ use bay_nodes::switch::Operation;
 use bay_rules::rule::{ConditionItem, RuleKind};
 
 /// What a scan may come to.
-#[derive(Clone, Copy, Debug, PartialEq, Eq)]
+#[derive(Clone, Copy)]
 pub enum Goal {
     /// The switch at this index of the bay is released for this operation.
     Release { switch: usize, operation: Operation },

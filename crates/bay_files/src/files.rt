@@ -24,7 +24,7 @@ const TRIES: u32 = 100;
 const LINKS: u32 = 40;
 
 /// Why writing a file failed.
-#[derive(Clone, Copy, Debug, PartialEq, Eq, Error)]
+#[derive(Clone, Copy, Debug, Error)]
 pub enum FileFault {
     /// What has the name is no regular file, no file can be created, or a write failed.
     #[error("the file can't be written")]
@@ -85,7 +85,7 @@ pub struct BothFiles {
 }
 
 /// A file that could not be read, and why.
-#[derive(Debug, Drop)]
+#[derive(Drop)]
 pub struct Unread<'a> {
     pub name: &'a str,
     pub fault: ReadFault,

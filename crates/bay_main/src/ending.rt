@@ -7,7 +7,7 @@ use bay_io::outbox::WriteFault;
 use bay_report::output::Status;
 
 /// How a command ended.
-#[derive(Debug, Drop)]
+#[derive(Drop)]
 pub enum Ended {
     /// With this exit status.
     Status(u8),

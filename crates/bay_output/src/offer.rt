@@ -7,7 +7,7 @@ use bay_io::calls::Sink;
 use std::io;
 
 /// How far octets were taken.
-#[derive(Debug, Drop)]
+#[derive(Drop)]
 pub struct Offered {
     /// How many were taken, from the first on.
     pub taken: usize,

@@ -5,7 +5,7 @@ ghost use Rattle.bay_port.specs.Code.{code_of};
 use bay_lines::shown::Shown;
 
 /// Why the connection of the process was closed.
-#[derive(Debug, Drop)]
+#[derive(Drop)]
 pub enum Parting {
     /// The process sends no more octets.
     Ended,
@@ -32,7 +32,7 @@ impl Parting {
 }
 
 /// What happened to the connection.
-#[derive(Debug, Drop)]
+#[derive(Drop)]
 pub enum News {
     /// It was accepted.
     Opened,

@@ -32,7 +32,7 @@ const ROOM: usize = 4352;
 pub const PROCESS: u16 = 1;
 
 /// The state of the process.
-#[derive(Clone, Copy, Debug, PartialEq, Eq)]
+#[derive(Clone, Copy, PartialEq, Eq)]
 pub enum Presence {
     /// It is not connected, and may come.
     Away,
@@ -44,7 +44,7 @@ pub enum Presence {
 
 /// What a turn is given of the process: an event, if there is one, and the line that tells of it, as
 /// a log shows it.
-#[derive(Debug, Drop)]
+#[derive(Drop)]
 pub struct GivenEvent {
     pub event: Option<ProcessEvent>,
     pub shown: Shown,

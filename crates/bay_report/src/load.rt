@@ -18,7 +18,7 @@ use il_text::fault::TextFault;
 use std::alloc::Global;
 
 /// The form of the octets that are loaded with a bay file.
-#[derive(Clone, Copy, Debug, PartialEq, Eq)]
+#[derive(Clone, Copy)]
 pub enum Form {
     /// A program in Instruction List.
     Logic,

@@ -14,7 +14,7 @@ use bay_io::writer::WatchedWriter;
 pub const NO_MEMORY: &[u8] = b"fault memory\n";
 
 /// An exit status of the program.
-#[derive(Clone, Copy, Debug, PartialEq, Eq)]
+#[derive(Clone, Copy)]
 pub enum Status {
     /// No fault.
     Clean,

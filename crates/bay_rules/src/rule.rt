@@ -5,7 +5,7 @@ use bay_nodes::switch::Operation;
 use bay_tree::leaf::Dbpos;
 
 /// Whether a rule forbids a release or demands it.
-#[derive(Clone, Copy, Debug, PartialEq, Eq)]
+#[derive(Clone, Copy, PartialEq, Eq)]
 pub enum RuleKind {
     /// While the condition holds, the switch is not released.
     Never,
@@ -14,7 +14,7 @@ pub enum RuleKind {
 }
 
 /// How a measured value stands to a number.
-#[derive(Clone, Copy, Debug, PartialEq, Eq)]
+#[derive(Clone, Copy)]
 pub enum Relation {
     Less,
     AtMost,
@@ -27,7 +27,7 @@ pub enum Relation {
 /// An item of a condition. A condition is a list of items in postfix order: each fact puts its
 /// truth on a stack, `Not` takes one from it, `And` and `Or` take two, and each of them puts its
 /// own there. One is left at the end.
-#[derive(Clone, Copy, Debug, PartialEq, Eq)]
+#[derive(Clone, Copy)]
 pub enum ConditionItem {
     /// Always TRUE.
     True,
@@ -53,7 +53,7 @@ pub enum ConditionItem {
 }
 
 /// The time of a rule: `until C for T` where it forbids, `after C for T` where it demands.
-#[derive(Debug, Drop)]
+#[derive(Drop)]
 pub struct Timing {
     /// The condition that holds without a break, in postfix order.
     pub condition: Listing<ConditionItem>,
@@ -62,7 +62,7 @@ pub struct Timing {
 }
 
 /// A rule for one direction of a switch.
-#[derive(Debug, Drop)]
+#[derive(Drop)]
 pub struct Rule {
     /// The line of the text, counted from 1.
     pub line: usize,

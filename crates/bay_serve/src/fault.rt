@@ -5,7 +5,7 @@ ghost use Rattle.bay_serve.specs.Code.{serve_code_of};
 use thiserror::Error;
 
 /// Why a turn was not done. Nothing has changed.
-#[derive(Clone, Copy, Debug, PartialEq, Eq, Error)]
+#[derive(Clone, Copy, Debug, Error)]
 pub enum ServeFault {
     /// The line does not report a contact, an input or a measurement.
     #[error("the line is no contact, input or measure")]

@@ -12,7 +12,7 @@ use bay_trace::trace::{NamedEvent, read_process_line};
 use bay_tree::leaf::Dbpos;
 
 /// What happens to the process. Switches, inputs and meters are counted from 0.
-#[derive(Clone, Copy, Debug)]
+#[derive(Clone, Copy)]
 pub enum ProcessEvent {
     /// The contacts of a switch report a position.
     Contact {

@@ -37,7 +37,7 @@ impl Closing {
 }
 
 /// What a turn reports.
-#[derive(Debug, Drop)]
+#[derive(Drop)]
 pub struct Turn {
     /// The association that was opened, and the address of its client.
     pub opened: Option<(u16, SocketAddrV4)>,

@@ -20,7 +20,7 @@ const PAUSE: u64 = 10;
 const TOO_MANY_FILES: i32 = 24;
 
 /// Why a port can't be opened.
-#[derive(Clone, Copy, Debug, PartialEq, Eq, Error)]
+#[derive(Clone, Copy, Debug, Error)]
 pub enum BindFault {
     /// Another program listens on it.
     #[error("another program uses it")]

@@ -22,7 +22,7 @@ use bay_serve::server::Server;
 use bay_serve::turn::serve_event;
 
 /// The result of trying a turn.
-#[derive(Clone, Copy, Debug, PartialEq, Eq)]
+#[derive(Clone, Copy)]
 pub enum Tried {
     /// The turn was done. `was_idle` says whether it left nothing to do at once.
     Done { was_idle: bool },
