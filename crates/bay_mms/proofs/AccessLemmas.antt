@@ -1,14 +1,13 @@
 -- Names and variables: what octets spell they are read as, and the other way.
-use Rattle.std.proofs.Common.{◌≡◌, ℕ, Bool, true, false, cond, ltb, List, [], ◌∷◌, length, map, Option, Some, None, Result, Ok, Err, refl, sym, ap, subst, ◌∙◌, ◌⊎◌, inl, inr}
+use Rattle.std.proofs.Common.{◌≡◌, ℕ, Bool, true, false, cond, ltb, List, [], ◌∷◌, length, map, Option, Some, None, Result, Ok, Err, refl, sym, ap, subst, ◌∙◌, inl, inr}
 use Rattle.std.proofs.lemmas.Option.{same_Some}
 use Rattle.std.proofs.lemmas.Bool.{lt-ltb, le-ltb, ltb-true, ltb-false, or_parts}
-use Rattle.bay_ber.specs.declared.tag.Tag.{Tag}
 use Rattle.bay_base.specs.Options.{◌>>=◌}
 use Rattle.bay_ber.specs.Tags.{same_tag, context, constructed, sequence, visible_tag}
 use Rattle.bay_ber.specs.Values.{Part, value, SpellAll, value_in, one_or_two_in, each_in, under}
 use Rattle.bay_ber.proofs.ReadLemmas.{IsBytes}
 use Rattle.bay_ber.proofs.ListingLemmas.{values-again}
-use Rattle.bay_ber.proofs.BackLemmas.{bind-some, tag-is, under-is, under-bytes, listed, one-back, two-back, each-back, one-read, two-read}
+use Rattle.bay_ber.proofs.BackLemmas.{bind-some, by-tag, under-is, under-bytes, listed, one-back, two-back, each-back, one-read, two-read}
 use Rattle.bay_base.specs.Results.{◌>>=◌ as ◌>>◌}
 use Rattle.bay_mms.specs.Spelled.{or_misspelled}
 use Rattle.bay_mms.specs.Requests.{Naming, vmd, domain, association, VariableSpecification, Access, variables, named_list}

@@ -1,6 +1,7 @@
 -- The canonical texts of responses (ISO 9506-2).
-use Rattle.std.specs.Prelude.{ℕ, ℤ, pos, ◌*◌, ◌/◌, Bool, false, Option, Some, None, List, [], ◌∷◌, ◌++◌}
-use Rattle.bay_ber.specs.Writing.{element, integer_octets, truth_octets, bit_string_octets}
+use Rattle.std.specs.Prelude.{ℕ, pos, Bool, false, Option, Some, None, List, [], ◌∷◌, ◌++◌}
+use Rattle.bay_ber.specs.Writing.{element, integer_octets, truth_octets}
+use Rattle.bay_initiate.specs.Agreed.{agreed_text}
 use Rattle.bay_tree.specs.Rows.{IsHandle}
 use Rattle.bay_mms.specs.Code.{access_code_of}
 use Rattle.bay_mms.specs.declared.fault.DataAccessError.{DataAccessError}
