@@ -35,13 +35,13 @@ fn counts_text(alloc: Global, counts: &Counts) -> Result<String, AllocError> {
     Ok(text)
 }
 
-// Returns where that counts to which a frame leads first, as it is printed.
+// Returns where that counts which a frame leads to, as it is printed.
 fn place_of(told: &str) -> Result<usize> {
-    Ok(match told.split_once(" 1 ") {
-        None => WAITS,
-        Some(("closed", number)) => CLOSED.saturating_add(number.parse::<usize>()?),
-        Some(_) => ANSWERS,
-    })
+    match told.split_once(" 1 ") {
+        Some(("closed", number)) => Ok(CLOSED.saturating_add(number.parse::<usize>()?)),
+        Some(_) => Ok(ANSWERS),
+        None => Ok(WAITS),
+    }
 }
 
 // Checks the lines behind the scan before a frame: the frame is answered, waited for, or ends the
@@ -49,11 +49,13 @@ fn place_of(told: &str) -> Result<usize> {
 // stands what is told, and its last digit says what was done: 1 is the frame, 2 is what is asked, 3
 // is the close. Returns where it counts.
 fn check_frame(lines: &str, answer: &str) -> Result<usize> {
-    let (mut first, mut closed, mut refused, mut served) = ("", false, false, 0u32);
+    let (mut first, mut closed, mut refused, mut served) = (None, false, false, 0u32);
     for line in lines.lines().skip(1) {
         match line.split_once(" ") {
             Some((moment, told)) if moment.ends_with("1") => {
-                first = if first.is_empty() { told } else { first };
+                if first.is_none() {
+                    first = Some(place_of(told)?);
+                }
                 closed = closed || told.starts_with("closed 1 ");
             }
             Some((moment, told)) if moment.ends_with("2") => {
@@ -69,7 +71,7 @@ fn check_frame(lines: &str, answer: &str) -> Result<usize> {
         }
     }
     check(closed == refused && served == 1)?;
-    place_of(first)
+    Ok(first.unwrap_or(WAITS))
 }
 
 /// The octets that open association 1 and association 2, and what association 2 asks and is
