@@ -5,7 +5,7 @@ use Rattle.std.proofs.lemmas.List.{map_more}
 use Rattle.std.specs.List.{filter_map, cons_option}
 use Rattle.std.specs.Option.{option_to_list}
 use Rattle.std.specs.BTreeMap.{get_by_text}
-use Rattle.bay_base.specs.ProgramNames.{upper}
+use Rattle.bay_base.specs.Names.{upper}
 use Rattle.bay_base.specs.declared.point.Point.{Point}
 use Rattle.il_text.specs.Listing as text
 use Rattle.il_text.specs.Views.{declared_of}

@@ -4,7 +4,7 @@ use Rattle.std.proofs.lemmas.List.{length-append}
 use Rattle.std.specs.BTreeMap.{get_by_text}
 use Rattle.std.specs.Str.{bytes_eq}
 use Rattle.std.proofs.lemmas.Slice.Eq.{bytes_eq-Decides}
-use Rattle.bay_base.specs.ProgramNames.{upper}
+use Rattle.bay_base.specs.Names.{upper}
 use Rattle.il_text.specs.Listing as text
 use Rattle.il_text.specs.Views.{entry_of}
 use Rattle.il_text.specs.declared.program.Item.{Item}

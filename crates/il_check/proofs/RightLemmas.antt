@@ -5,7 +5,7 @@ use Rattle.std.specs.Prelude.{◌↔◌, IsSome, Result, Ok, Err}
 use Rattle.std.specs.List.{list_any}
 use Rattle.std.specs.Str.{bytes_eq}
 use Rattle.bay_base.specs.Exact.{unless_refused}
-use Rattle.bay_base.specs.ProgramNames.{same_name, upper}
+use Rattle.bay_base.specs.Names.{same_name, upper}
 use Rattle.bay_base.specs.declared.point.Point.{Point}
 use Rattle.il_text.specs.Listing as text
 use Rattle.il_check.specs.Checking.{checked_of, checked_program, faults_of, initial_standing}

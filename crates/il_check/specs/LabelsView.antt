@@ -1,7 +1,7 @@
 -- Inner: the labels of a program in the code.
 use Rattle.std.specs.Prelude.{◌≡◌, ℕ, List, [], ◌∷◌, ◌++◌, map, Option}
 use Rattle.std.specs.BTreeMap.{get_by_text}
-use Rattle.bay_base.specs.ProgramNames.{upper}
+use Rattle.bay_base.specs.Names.{upper}
 use Rattle.il_text.specs.Listing as text
 use Rattle.il_check.specs.Declaring.{looked_up}
 use Rattle.il_check.specs.NamesView.{with_value}

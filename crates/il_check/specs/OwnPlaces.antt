@@ -1,6 +1,6 @@
 -- A name means what is declared by that name, at its own place.
 use Rattle.std.specs.Prelude.{◌≡◌, ℕ, true, List, slice_get, Some}
-use Rattle.bay_base.specs.ProgramNames.{upper}
+use Rattle.bay_base.specs.Names.{upper}
 use Rattle.il_text.specs.Listing as text
 use Rattle.il_image.specs.Values.{type_of}
 use Rattle.il_check.specs.Declaring.{labels_from}

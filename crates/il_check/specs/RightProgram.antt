@@ -1,7 +1,7 @@
 -- Which programs are right, with the points of a bay (IEC 61131-3:2003, 2.4.3 and 3.2).
 use Rattle.std.specs.Prelude.{◌≡◌, true, false, IsSome, List, ◌∷◌, ◌++◌}
 use Rattle.std.specs.List.{list_any}
-use Rattle.bay_base.specs.ProgramNames.{same_name}
+use Rattle.bay_base.specs.Names.{same_name}
 use Rattle.bay_base.specs.declared.point.Point.{Point}
 use Rattle.il_text.specs.Listing as text
 use Rattle.il_check.specs.Declaring.{counts_of, is_external, is_full, is_typed, names_in, point_of}

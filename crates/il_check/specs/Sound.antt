@@ -1,7 +1,7 @@
 -- What holds of each checked program: it is what the checks make of some program that has no fault,
 -- its names differ, and it is well typed.
 use Rattle.std.specs.Prelude.{◌≡◌, ℕ, ◌<◌, false, List, [], ◌++◌, length, map, slice_index_or, Ok}
-use Rattle.bay_base.specs.ProgramNames.{same_name}
+use Rattle.bay_base.specs.Names.{same_name}
 use Rattle.bay_base.specs.declared.point.Point.{Point}
 use Rattle.il_text.specs.Listing as text
 use Rattle.il_check.specs.Checking.{checked_of}

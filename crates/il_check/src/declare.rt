@@ -3,7 +3,7 @@ ghost use Rattle.std.specs.Prelude.{◌≡◌, ℕ, List, [], ◌∷◌, ◌++�
 ghost use Rattle.std.specs.BTreeMap.{get_by_text};
 ghost use Rattle.std.specs.List.{list_all};
 ghost use Rattle.std.specs.Option.{option_to_list};
-ghost use Rattle.bay_base.specs.ProgramNames as names;
+ghost use Rattle.bay_base.specs.Names as names;
 ghost use Rattle.il_text.specs.Views.{declared_of};
 ghost use Rattle.il_check.specs.Faults.{first_fault_of, least_fault};
 ghost use Rattle.il_check.specs.NamesView.{with_value};

@@ -1,6 +1,6 @@
 // The labels of a program.
 ghost use Rattle.std.specs.Prelude.{[], ◌∷◌, length, map, vec_len, ◌<◌, IfErr, IfOk, OnOk};
-ghost use Rattle.bay_base.specs.ProgramNames as names;
+ghost use Rattle.bay_base.specs.Names as names;
 ghost use Rattle.il_text.specs.Views.{entry_of};
 ghost use Rattle.il_check.specs.Declaring.{labels_from};
 ghost use Rattle.il_check.specs.LabelsView.{label_in, StandsAs, AddsLabels};

@@ -1,7 +1,7 @@
 // The names of a program, and what they mean (IEC 61131-3:2003, 2.1.2 and 2.4.3).
 ghost use Rattle.std.specs.Prelude.{◌≡◌, ℕ, List, is_some, IfOk, OnOk, string_bytes};
 ghost use Rattle.std.specs.BTreeMap.{get_by_text};
-ghost use Rattle.bay_base.specs.ProgramNames as base;
+ghost use Rattle.bay_base.specs.Names as base;
 ghost use Rattle.il_check.specs.NamesView.{names_of, with_value};
 
 use crate::given::Meaning;

@@ -1,6 +1,6 @@
 // Instructions with what their names mean.
 ghost use Rattle.std.specs.Prelude.{◌≡◌, IfOk, OnOk, string_bytes, option_map};
-ghost use Rattle.bay_base.specs.ProgramNames as base;
+ghost use Rattle.bay_base.specs.Names as base;
 ghost use Rattle.il_text.specs.Views.{place_of, source_of, argument_of, arguments_of, action_of};
 ghost use Rattle.il_text.specs.Listing as text;
 ghost use Rattle.il_check.specs.Given as spec;
