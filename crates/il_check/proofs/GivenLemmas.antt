@@ -185,7 +185,7 @@ literal-nonzero (literal.Time n) e =
     known-nonzero (value_of elementary.Time (pos n)) (pos n)
     (λ v is. (value_is elementary.Time (pos n) v is).number) e
 
-source-nonzero : (names : ProgramNames) (s : text.Source) → is_nonzero s ≡ true
+source-nonzero : (names : ProgramNames) (s : text.OperandData) → is_nonzero s ≡ true
     → IsNonzero (source_given names s)
 source-nonzero names (text.constant l) e = literal-nonzero l e
 source-nonzero names (text.variable place) e = absurd (cc)
@@ -224,7 +224,7 @@ place-is c names meant (text.named name) = variable-is c (names.meaning name) (m
 place-is c names meant (text.output timer what) =
     output-is c (names.meaning timer) what (meant timer)
 
-source-is : (c : Checked) (names : ProgramNames) → AreNamed c names → (s : text.Source)
+source-is : (c : Checked) (names : ProgramNames) → AreNamed c names → (s : text.OperandData)
     → IsGiven c (source_given names s)
 source-is c names meant (text.constant l) = literal-is c l
 source-is c names meant (text.variable place) = place-is c names meant place
@@ -236,7 +236,7 @@ called-is c (Some (meaning.Variable s kind writable)) meant = tt
 called-is c (Some (meaning.Timer n)) meant = meant (meaning.Timer n) refl
 
 arguments-are : (c : Checked) (names : ProgramNames) → AreNamed c names
-    → (args : List (Input × text.Source)) → AreGiven c (arguments_given names args)
+    → (args : List (Input × text.OperandData)) → AreGiven c (arguments_given names args)
 arguments-are c names meant [] = tt
 arguments-are c names meant (a ∷ []) = source-is c names meant a.1
 arguments-are c names meant (a ∷ b ∷ more) =

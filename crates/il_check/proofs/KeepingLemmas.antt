@@ -150,7 +150,7 @@ module _ (c : Checked) (names : ProgramNames) (items : List text.Entry)
       (cond_some _ (operand.Output n what) x e).1 (named-timer timer n is, refl)
   output-kept timer what m kind x is e = absurd (cc)
 
-  source-kept : (source : text.Source) (kind : ElementaryType) (x : TypedOperand)
+  source-kept : (source : text.OperandData) (kind : ElementaryType) (x : TypedOperand)
       → operand_in kind (source_given names source) ≡ Some x → IsOperandOf c source x
   source-kept (text.constant l) kind x e = literal-kept l kind x e
   source-kept (text.variable (text.named name)) kind x e =
@@ -178,7 +178,7 @@ module _ (c : Checked) (names : ProgramNames) (items : List text.Entry)
 
   -- ---- operations
 
-  load-kept : (negated : Bool) (source : text.Source) (kind : ElementaryType)
+  load-kept : (negated : Bool) (source : text.OperandData) (kind : ElementaryType)
       (x : Option TypedOperand) (o : SimpleOperation)
       → operand_in kind (source_given names source) ≡ x → load_operation negated x ≡ Some o
       → IsOperationOf c (text.load negated source) o
@@ -187,7 +187,7 @@ module _ (c : Checked) (names : ProgramNames) (items : List text.Entry)
       subst (IsOperationOf c (text.load negated source)) (same_Some (op.Load negated x) o e)
       (refl, source-kept source kind x is)
 
-  load-typed : (negated : Bool) (source : text.Source) (k : Option ElementaryType)
+  load-typed : (negated : Bool) (source : text.OperandData) (k : Option ElementaryType)
       (o : SimpleOperation) → load_in negated (source_given names source) k ≡ Some o
       → IsOperationOf c (text.load negated source) o
   load-typed negated source None o e = absurd (cc)
@@ -202,7 +202,7 @@ module _ (c : Checked) (names : ProgramNames) (items : List text.Entry)
       subst (IsOperationOf c (text.store how place)) (same_Some (op.Store how s) o e)
       (refl, target-kept place s is)
 
-  combine-kept : (operator : Operator) (negated : Bool) (source : text.Source)
+  combine-kept : (operator : Operator) (negated : Bool) (source : text.OperandData)
       (kind : ElementaryType) (x : Option TypedOperand) (o : SimpleOperation)
       → operand_in kind (source_given names source) ≡ x
       → combine_operation operator kind negated x ≡ Some o
@@ -335,7 +335,7 @@ module _ (c : Checked) (names : ProgramNames) (items : List text.Entry)
 
   -- ---- jumps, returns and calls
 
-  argument-case : (a : Input × text.Source) (o : Option TypedOperand) (x : TypedArgument)
+  argument-case : (a : Input × text.OperandData) (o : Option TypedOperand) (x : TypedArgument)
       → operand_in (input_type a.0) (source_given names a.1) ≡ o
       → option_map (λ y. record { input = a.0; operand = y }) o ≡ Some x → IsArgumentOf c a x
   argument-case a None x is e = absurd (cc)
@@ -343,19 +343,19 @@ module _ (c : Checked) (names : ProgramNames) (items : List text.Entry)
       subst (IsArgumentOf c a) (same_Some (record { input = a.0; operand = y }) x e)
       (refl, source-kept a.1 (input_type a.0) y is)
 
-  argument-kept : (a : Input × text.Source) (x : TypedArgument)
+  argument-kept : (a : Input × text.OperandData) (x : TypedArgument)
       → typed_argument (argument_given names a) ≡ Some x → IsArgumentOf c a x
   argument-kept a x e =
       argument-case a (operand_in (input_type a.0) (source_given names a.1)) x refl e
 
-  one-kept-of : (a : Input × text.Source) (o : Option TypedArgument) (xs : TypedArguments)
+  one-kept-of : (a : Input × text.OperandData) (o : Option TypedArgument) (xs : TypedArguments)
       → typed_argument (argument_given names a) ≡ o → one_argument o ≡ Some xs
       → AreArgumentsOf c (a ∷ []) xs
   one-kept-of a None xs is e = absurd (cc)
   one-kept-of a (Some x) xs is e =
       subst (AreArgumentsOf c (a ∷ [])) (same_Some (typed.One x) xs e) (argument-kept a x is)
 
-  two-kept-of : (a b : Input × text.Source) (more : List (Input × text.Source))
+  two-kept-of : (a b : Input × text.OperandData) (more : List (Input × text.OperandData))
       (o p : Option TypedArgument) (xs : TypedArguments)
       → typed_argument (argument_given names a) ≡ o → typed_argument (argument_given names b) ≡ p
       → two_arguments o p ≡ Some xs → AreArgumentsOf c (a ∷ b ∷ more) xs
@@ -364,7 +364,7 @@ module _ (c : Checked) (names : ProgramNames) (items : List text.Entry)
       (argument-kept a x is, argument-kept b y also)
   two-kept-of a b more o p xs is also e = absurd (cc)
 
-  arguments-kept : (args : List (Input × text.Source)) (xs : TypedArguments)
+  arguments-kept : (args : List (Input × text.OperandData)) (xs : TypedArguments)
       → arguments_in (arguments_given names args) ≡ Some xs → AreArgumentsOf c args xs
   arguments-kept [] xs e = subst (AreArgumentsOf c []) (same_Some typed.None xs e) tt
   arguments-kept (a ∷ []) xs e =
@@ -402,7 +402,7 @@ module _ (c : Checked) (names : ProgramNames) (items : List text.Entry)
         keeps = (refl, labels-named items 0 n n (upper name) (own.labels name n is));
       }
 
-  call-case : (line : ℕ) (timer : List ℕ) (args : List (Input × text.Source))
+  call-case : (line : ℕ) (timer : List ℕ) (args : List (Input × text.OperandData))
       (m : Option Meaning) (t : Option ElementaryType) (passed : ℕ) (e : Option Entry)
       → names.meaning timer ≡ m
       → IsRight passed (Call (called_of m) (arguments_given names args)) t

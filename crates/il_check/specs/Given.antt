@@ -86,7 +86,7 @@ place_given names (text.named name) = variable_given (names.meaning name)
 place_given names (text.output timer gives) = output_given (names.meaning timer) gives
 
 -- an operand
-abbrev pub source_given : ProgramNames → text.Source → Given
+abbrev pub source_given : ProgramNames → text.OperandData → Given
 source_given names (text.constant value) = literal_given value
 source_given names (text.variable place) = place_given names place
 
@@ -105,7 +105,7 @@ is_nonzero_literal (literal.Lint z) = not (is_zero z)
 is_nonzero_literal (literal.Time n) = not (n == 0)
 
 -- the operand is a literal other than 0
-abbrev pub is_nonzero : text.Source → Bool
+abbrev pub is_nonzero : text.OperandData → Bool
 is_nonzero (text.constant value) = is_nonzero_literal value
 is_nonzero (text.variable place) = false
 
@@ -116,11 +116,11 @@ called_of (Some (meaning.Variable slot kind writable)) = called.Misused
 called_of (Some (meaning.Timer timer)) = called.Timer timer
 
 -- what a call gives to one input
-abbrev pub argument_given : ProgramNames → Input × text.Source → GivenArgument
+abbrev pub argument_given : ProgramNames → Input × text.OperandData → GivenArgument
 argument_given names a = record { input = a.0; given = source_given names a.1 }
 
 -- a call has two arguments at most
-abbrev pub arguments_given : ProgramNames → List (Input × text.Source) → GivenArguments
+abbrev pub arguments_given : ProgramNames → List (Input × text.OperandData) → GivenArguments
 arguments_given names [] = arguments.None
 arguments_given names (a ∷ []) = arguments.One (argument_given names a)
 arguments_given names (a ∷ b ∷ more) =

@@ -110,7 +110,7 @@ AreDeclared points (d ∷ ds) es vs ts =
 -- ---- instructions
 
 -- The operand is the literal's value, or what the text names.
-abbrev pub IsOperandOf : Checked → text.Source → TypedOperand → Type 0
+abbrev pub IsOperandOf : Checked → text.OperandData → TypedOperand → Type 0
 IsOperandOf c (text.constant l) (operand.Literal v) = IsValueOf l v
 IsOperandOf c (text.variable (text.named name)) (operand.Slot s) = slot_name c s ≡ Some (upper name)
 IsOperandOf c (text.variable (text.output timer gives)) (operand.Output n what) =
@@ -133,11 +133,11 @@ IsOperationOf c (text.convert conversion) (op.Convert k) = k ≡ conversion
 IsOperationOf c a o = ⊥
 
 -- The argument gives the same operand to the same input.
-abbrev pub IsArgumentOf : Checked → Input × text.Source → TypedArgument → Type 0
+abbrev pub IsArgumentOf : Checked → Input × text.OperandData → TypedArgument → Type 0
 IsArgumentOf c a x = (x.input ≡ a.0) × IsOperandOf c a.1 x.operand
 
 -- So does each argument of a call, which has two at most.
-abbrev pub AreArgumentsOf : Checked → List (Input × text.Source) → TypedArguments → Type 0
+abbrev pub AreArgumentsOf : Checked → List (Input × text.OperandData) → TypedArguments → Type 0
 AreArgumentsOf c [] arguments.None = Unit {0}
 AreArgumentsOf c (a ∷ []) (arguments.One x) = IsArgumentOf c a x
 AreArgumentsOf c (a ∷ b ∷ more) (arguments.Two x y) = IsArgumentOf c a x × IsArgumentOf c b y

@@ -127,7 +127,7 @@ place-fits : (names : ProgramNames) (place : text.Place) (kind : ElementaryType)
 place-fits names (text.named name) kind = variable-fits (names.meaning name) kind
 place-fits names (text.output timer what) kind = output-fits what (names.meaning timer) kind
 
-fits-is : (names : ProgramNames) (source : text.Source) (kind : ElementaryType)
+fits-is : (names : ProgramNames) (source : text.OperandData) (kind : ElementaryType)
     → (fits kind (source_given names source) ≡ true) ↔ CanHave names source kind
 fits-is names (text.constant (literal.Truth b)) kind = known-fits elementary.Bool kind _
 fits-is names (text.constant (literal.Number z)) kind = number-fits kind z _ refl
@@ -156,7 +156,7 @@ output-loads what (Some (meaning.Timer n)) = ap Some (sym (output-same what))
 along : {A : Type 0} (x y z : A) → x ≡ y → (x ≡ z) ↔ (y ≡ z)
 along x y z e = (λ f. sym e ∙ f, λ f. e ∙ f)
 
-load-is : (names : ProgramNames) (source : text.Source) (kind : ElementaryType)
+load-is : (names : ProgramNames) (source : text.OperandData) (kind : ElementaryType)
     → (load_type (source_given names source) ≡ Some kind) ↔ IsLoaded names source kind
 load-is names (text.constant (literal.Truth b)) kind = some-same elementary.Bool kind
 load-is names (text.constant (literal.Number z)) kind = number-loads kind z _ refl
@@ -245,12 +245,12 @@ not-zero (literal.Dint z) = not-same (is_zero z) _ (zero-is z)
 not-zero (literal.Lint z) = not-same (is_zero z) _ (zero-is z)
 not-zero (literal.Time n) = not-same (n == 0) _ (eqb-true n 0, eq-eqb n 0)
 
-divisor-is : (source : text.Source) → (not (is_nonzero source) ≡ false) ↔ IsDivisor source
+divisor-is : (source : text.OperandData) → (not (is_nonzero source) ≡ false) ↔ IsDivisor source
 divisor-is (text.constant l) =
     let h = not-zero l in (λ e. h.0 (not-false _ e), λ d. ap not (h.1 d))
 divisor-is (text.variable place) = (λ e. absurd (cc), λ h. absurd h)
 
-may-divide : (operator : Operator) (source : text.Source)
+may-divide : (operator : Operator) (source : text.OperandData)
     → (divides operator && not (is_nonzero source) ≡ false) ↔ MayDivide operator source
 may-divide Div source = divisor-is source
 may-divide Mod source = divisor-is source
@@ -339,7 +339,7 @@ timer-there None h = absurd h
 timer-there (Some (meaning.Variable s k w)) h = absurd h
 timer-there (Some (meaning.Timer n)) h = refl
 
-given-is : (names : ProgramNames) (a : Input × text.Source)
+given-is : (names : ProgramNames) (a : Input × text.OperandData)
     → (fits (input_type a.0) (source_given names a.1) ≡ true) ↔ CanHave names a.1 (input_kind a.0)
 given-is names a =
     let f = fits-is names a.1 (input_type a.0) in (
@@ -347,7 +347,7 @@ given-is names a =
       λ h. f.1 (subst (CanHave names a.1) (sym (input-same a.0)) h),
     )
 
-are-given : (names : ProgramNames) (args : List (Input × text.Source))
+are-given : (names : ProgramNames) (args : List (Input × text.OperandData))
     → (arguments_fit (arguments_given names args) ≡ true) ↔ AreGiven names args
 are-given names [] = (λ e. tt, λ h. refl)
 are-given names (a ∷ []) = given-is names a
@@ -363,7 +363,7 @@ none-of : (a b : Truth) → a ≡ false → b ≡ false → a || b ≡ false
 none-of true b e f = absurd (cc)
 none-of false b e f = f
 
-given-there : (names : ProgramNames) (args : List (Input × text.Source)) → AreGiven names args
+given-there : (names : ProgramNames) (args : List (Input × text.OperandData)) → AreGiven names args
     → misses_argument (arguments_given names args) ≡ false
 given-there names [] h = refl
 given-there names (a ∷ []) h =

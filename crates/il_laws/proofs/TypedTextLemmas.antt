@@ -63,7 +63,7 @@ number-typed elementary.Time z v e = absurd (cc)
 -- ---- loads of numbers without a type, in what is left of each entry
 
 -- A number without a type has the first type that it fits.
-abbrev OwnOperand : text.Source → TypedOperand → Type 0
+abbrev OwnOperand : text.OperandData → TypedOperand → Type 0
 OwnOperand (text.constant (literal.Number z)) (operand.Literal v) = IsFirstFit z (type_of v)
 OwnOperand source x = Unit {0}
 
@@ -271,7 +271,7 @@ module _ (c : Checked) where
   operand-typed (operand.Slot s) kind h = h
   operand-typed (operand.Output n what) kind h = ap Some (output-same what ∙ h.1)
 
-  may-have : (source : text.Source) (x : TypedOperand) (kind : ElementaryType)
+  may-have : (source : text.OperandData) (x : TypedOperand) (kind : ElementaryType)
       → IsOperandOf c source x → operand_type c x ≡ Some kind → MayHave source kind
   may-have (text.variable place) x kind h e = tt
   may-have (text.constant (literal.Truth b)) (operand.Literal v) kind h e =
@@ -283,7 +283,7 @@ module _ (c : Checked) where
   may-have (text.constant (literal.Time n)) (operand.Literal v) kind h e = let t = h.0 in cc
   may-have source x kind h e = absurd h
 
-  loaded-as : (source : text.Source) (x : TypedOperand) (kind : ElementaryType)
+  loaded-as : (source : text.OperandData) (x : TypedOperand) (kind : ElementaryType)
       → IsOperandOf c source x → operand_type c x ≡ Some kind → OwnOperand source x
       → IsLoadedAs source kind
   loaded-as (text.constant (literal.Number z)) (operand.Literal v) kind h e own =
@@ -375,7 +375,7 @@ module _ (c : Checked) where
 
   -- ---- jumps, returns and calls
 
-  argument-has : (a : Input × text.Source) (x : TypedArgument) → IsArgumentOf c a x
+  argument-has : (a : Input × text.OperandData) (x : TypedArgument) → IsArgumentOf c a x
       → IsArgument c x → ArgumentHasType c a x
   argument-has a x h k =
       let typed : operand_type c x.operand ≡ Some (input_kind a.0) =
@@ -383,7 +383,7 @@ module _ (c : Checked) where
       ∙ ap Some (input-same x.input ∙ ap input_kind h.0) in
       (typed, may-have a.1 x.operand (input_kind a.0) h.1 typed)
 
-  arguments-have : (args : List (Input × text.Source)) (xs : TypedArguments)
+  arguments-have : (args : List (Input × text.OperandData)) (xs : TypedArguments)
       → AreArgumentsOf c args xs → AreArguments c xs → ArgumentsHaveTypes c args xs
   arguments-have [] arguments.None h k = tt
   arguments-have (a ∷ []) (arguments.One x) h k = argument-has a x h k

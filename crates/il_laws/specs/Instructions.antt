@@ -43,13 +43,13 @@ place_kind names (text.named name) = variable_kind (names.meaning name)
 place_kind names (text.output timer what) = timer_output what (names.meaning timer)
 
 -- The operand can have the type.
-abbrev pub CanHave : ProgramNames → text.Source → ElementaryType → Type 0
+abbrev pub CanHave : ProgramNames → text.OperandData → ElementaryType → Type 0
 CanHave names (text.constant l) kind = IsLiteralOf l kind
 CanHave names (text.variable place) kind = place_kind names place ≡ Some kind
 
 -- A load gives the operand this type: a number without a type gets the first of INT, DINT and LINT
 -- that it fits.
-abbrev pub IsLoaded : ProgramNames → text.Source → ElementaryType → Type 0
+abbrev pub IsLoaded : ProgramNames → text.OperandData → ElementaryType → Type 0
 IsLoaded names (text.constant (literal.Number z)) kind = IsFirstFit z kind
 IsLoaded names source kind = CanHave names source kind
 
@@ -75,12 +75,12 @@ IsNotZero (literal.Lint z) = z ≡ pos 0 → ⊥
 IsNotZero (literal.Time n) = n ≡ 0 → ⊥
 
 -- The operand is a literal other than 0.
-abbrev pub IsDivisor : text.Source → Type 0
+abbrev pub IsDivisor : text.OperandData → Type 0
 IsDivisor (text.constant l) = IsNotZero l
 IsDivisor (text.variable place) = ⊥
 
 -- DIV and MOD divide by a literal other than 0.
-abbrev pub MayDivide : Operator → text.Source → Type 0
+abbrev pub MayDivide : Operator → text.OperandData → Type 0
 MayDivide Div source = IsDivisor source
 MayDivide Mod source = IsDivisor source
 MayDivide operator source = Unit {0}
@@ -97,7 +97,7 @@ IsTimer (Some (meaning.Timer timer)) = Unit {0}
 IsTimer other = ⊥
 
 -- Each argument, of which a call has two at most, can have the type of its input.
-abbrev pub AreGiven : ProgramNames → List (Input × text.Source) → Type 0
+abbrev pub AreGiven : ProgramNames → List (Input × text.OperandData) → Type 0
 AreGiven names [] = Unit {0}
 AreGiven names (a ∷ []) = CanHave names a.1 (input_kind a.0)
 AreGiven names (a ∷ b ∷ more) =

@@ -31,7 +31,7 @@ operand_type c (operand.Output timer what) = Some (output_kind what)
 
 -- A literal that names a type has this type. Nothing is said of a number without a type, nor of a
 -- variable.
-abbrev pub MayHave : text.Source → ElementaryType → Type 0
+abbrev pub MayHave : text.OperandData → ElementaryType → Type 0
 MayHave (text.constant (literal.Truth b)) kind = kind ≡ elementary.Bool
 MayHave (text.constant (literal.Number z)) kind = Unit {0}
 MayHave (text.constant (literal.Int z)) kind = kind ≡ elementary.Int
@@ -41,12 +41,12 @@ MayHave (text.constant (literal.Time n)) kind = kind ≡ elementary.Time
 MayHave (text.variable place) kind = Unit {0}
 
 -- A number without a type that is loaded has the first of INT, DINT and LINT that it fits.
-abbrev pub IsLoadedAs : text.Source → ElementaryType → Type 0
+abbrev pub IsLoadedAs : text.OperandData → ElementaryType → Type 0
 IsLoadedAs (text.constant (literal.Number z)) kind = IsFirstFit z kind
 IsLoadedAs source kind = MayHave source kind
 
 -- The operand of the text is this one of the checked program, and has the type.
-abbrev pub HasType : Checked → text.Source → TypedOperand → ElementaryType → Type 0
+abbrev pub HasType : Checked → text.OperandData → TypedOperand → ElementaryType → Type 0
 HasType c source x kind = (operand_type c x ≡ Some kind) × MayHave source kind
 
 -- ---- operations and parentheses, on a result of the first type, which leave one of the second;
@@ -91,11 +91,11 @@ abbrev mutual
 -- ---- jumps, returns and calls
 
 -- An argument has the type of its input.
-abbrev pub ArgumentHasType : Checked → Input × text.Source → TypedArgument → Type 0
+abbrev pub ArgumentHasType : Checked → Input × text.OperandData → TypedArgument → Type 0
 ArgumentHasType c a x = HasType c a.1 x.operand (input_kind a.0)
 
 -- So has each argument of a call, which has two at most.
-abbrev pub ArgumentsHaveTypes : Checked → List (Input × text.Source) → TypedArguments → Type 0
+abbrev pub ArgumentsHaveTypes : Checked → List (Input × text.OperandData) → TypedArguments → Type 0
 ArgumentsHaveTypes c [] arguments.None = Unit {0}
 ArgumentsHaveTypes c (a ∷ []) (arguments.One x) = ArgumentHasType c a x
 ArgumentsHaveTypes c (a ∷ b ∷ more) (arguments.Two x y) =
