@@ -2,11 +2,18 @@
 use Rattle.std.proofs.Common.{◌≡◌, ℕ, ◌+◌, ◌-◌, ◌*◌, ◌^◌, ◌<◌, ◌≤◌, min, Bool, true, false, ◌&&◌, nat_lt, nat_le, nat_eq, if◌then◌else◌, List, [], ◌∷◌, length, Option, Some, None, option_map, refl, sym, ap, ◌∙◌, arith}
 use Rattle.std.proofs.lemmas.Bool.Decides.{nat_tests}
 use Rattle.std.proofs.lemmas.Nat.{mul-le}
+use Rattle.std.specs.Char.{is_ascii_digit}
+use Rattle.std.specs.List.{list_all}
 use Rattle.std.specs.Str.{all_ascii_digits}
 use Rattle.std.specs.Str.Parse.{digits_value}
 use Rattle.bay_base.specs.Options.{◌>>=◌}
 use Rattle.bay_base.specs.Decimals.{digits_in, negative_of, positive_of, read_number}
 use Rattle.bay_rules.specs.Numbers.{time_of, unit_of, timer_time}
+
+-- all of them are digits
+pub digits-all : (bs : List ℕ) → list_all is_ascii_digit bs ≡ all_ascii_digits bs
+digits-all [] = refl
+digits-all (b ∷ bs) = ap (λ rest. is_ascii_digit b && rest) (digits-all bs)
 
 -- digits that write no number below 2 ^ 64
 pub great-digits : (word : List ℕ) → read_number word ≡ None → all_ascii_digits word ≡ true

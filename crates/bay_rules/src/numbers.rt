@@ -1,5 +1,7 @@
 // Numbers and times as a line writes them.
 ghost use Rattle.std.specs.Prelude.{◌≡◌, ℕ, ◌+◌, ◌^◌, ◌<◌, ◌≤◌, min, length, None, option_map, IfSome, MatchOption};
+ghost use Rattle.std.specs.Char.{is_ascii_digit};
+ghost use Rattle.std.specs.List.{list_all};
 ghost use Rattle.bay_base.specs.Decimals.{digits_in};
 ghost use Rattle.bay_rules.specs.Numbers.{number_in, unit_of, time_of, timer_time, time_in};
 ghost use Rattle.bay_rules.specs.Pieces.{pieces};
@@ -19,14 +21,23 @@ fn enough(number: u64) -> u64
     if number < ENOUGH { number } else { ENOUGH }
 }
 
+// Returns whether each octet is a decimal digit.
+fn are_digits(word: &[u8]) -> bool
+    ensures { result ≡ list_all is_ascii_digit word.now }
+{
+    word.iter().all(|octet| octet.is_ascii_digit())
+}
+
 // Reads one or more decimal digits.
 fn digits(word: &[u8]) -> Option<u64>
     ensures { result ≡ option_map (min (2 ^ 32)) (digits_in word.now) }
 {
+    if word.is_empty() || !are_digits(word) {
+        return None;
+    }
     match decimal(word) {
         Some(number) => Some(enough(number)),
-        None if !word.is_empty() && word.iter().all(|octet| octet.is_ascii_digit()) => Some(ENOUGH),
-        None => None,
+        None => Some(ENOUGH),
     }
 }
 
