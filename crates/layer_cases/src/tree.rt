@@ -31,20 +31,19 @@ pub fn position_of(word: &str) -> Dbpos {
 
 // Returns a leaf by its kind and its value. A row of another kind is a structure.
 fn leaf_of(alloc: Global, kind: &str, value: &str) -> Result<Option<Leaf>> {
-    let number = value.parse::<i64>().unwrap_or(0);
     Ok(Some(match kind {
         "truth" => Leaf::Truth(value == "true"),
         "dbpos" => Leaf::Dbpos(position_of(value)),
         "good" => Leaf::Quality(Quality::Good),
         "invalid" => Leaf::Quality(Quality::Invalid),
-        "int8" => Leaf::Int8(number as i8),
-        "int32" => Leaf::Int32(number as i32),
-        "unsigned8" => Leaf::Unsigned8(number as u8),
-        "unsigned32" => Leaf::Unsigned32(number as u32),
+        "int8" => Leaf::Int8(value.parse::<i8>()?),
+        "int32" => Leaf::Int32(value.parse::<i32>()?),
+        "unsigned8" => Leaf::Unsigned8(value.parse::<u8>()?),
+        "unsigned32" => Leaf::Unsigned32(value.parse::<u32>()?),
         "octets" => Leaf::Octets(Listing::new(octets_of(alloc, value)?)),
         "reference" => Leaf::Reference(Text::from_str(alloc, value)?),
         "text" => Leaf::Text(Text::from_str(alloc, value)?),
-        "utc" => Leaf::Utc(number as u64),
+        "utc" => Leaf::Utc(value.parse::<u64>()?),
         _ => return Ok(None),
     }))
 }
