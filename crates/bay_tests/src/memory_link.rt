@@ -1,27 +1,21 @@
-// Clients in memory, of which one call fails, and which take so many octets at a write.
+// Clients in memory, of which one call fails, and of which so many octets are read and taken.
 ghost use Rattle.std.specs.Prelude.{◌≡◌};
 
 use bay_serve::link::{Arrival, Link, LinkFault};
 use std::cell::RefCell;
 use std::net::{Ipv4Addr, SocketAddrV4};
 
-// What a client has yet to send: the rest of a piece, and the pieces behind it.
-#[derive(Clone, Copy)]
-struct Rest<'a> {
-    octets: &'a [u8],
-    pieces: &'a [&'a [u8]],
-}
-
-/// Clients that connect one after the other, each from 127.0.0.1:40000. Each sends its pieces, one
-/// at a read or as much of it as is read, and then nothing or its end. What all of them are sent is
-/// kept.
+/// Clients that connect one after the other, each from 127.0.0.1:40000. Each sends the same octets,
+/// and then nothing or its end. What all of them are sent is kept.
 #[derive(Drop)]
 pub struct MemoryLink<'a> {
-    clients: &'a [&'a [&'a [u8]]],
+    clients: usize,
     connected: usize,
-    places: [Rest<'a>; 8],
+    sent: Vec<u8>,
+    given: [usize; 8],
     taken: &'a RefCell<Vec<u8>>,
     pub ends: bool,
+    pub per_read: usize,
     pub per_write: usize,
     pub calls: u64,
     pub fails_at: u64,
@@ -30,22 +24,16 @@ pub struct MemoryLink<'a> {
 }
 
 impl<'a> MemoryLink<'a> {
-    /// Creates a link of these clients, of which no call fails and each takes all.
-    pub fn new(
-        clients: &'a [&'a [&'a [u8]]],
-        ends: bool,
-        taken: &'a RefCell<Vec<u8>>,
-    ) -> MemoryLink<'a> {
-        let nothing = Rest {
-            octets: &[],
-            pieces: &[],
-        };
+    /// Creates a link of so many clients that send these octets, of which no call fails.
+    pub fn new(clients: usize, sent: Vec<u8>, taken: &'a RefCell<Vec<u8>>) -> MemoryLink<'a> {
         MemoryLink {
             clients,
             connected: 0,
-            places: [nothing; 8],
+            sent,
+            given: [0; 8],
             taken,
-            ends,
+            ends: true,
+            per_read: usize::MAX,
             per_write: usize::MAX,
             calls: 0,
             fails_at: 0,
@@ -71,15 +59,12 @@ impl Link for MemoryLink<'_> {
             self.failures = self.failures.saturating_add(1);
             return Err(LinkFault);
         }
-        let Some(pieces) = self.clients.get(self.connected) else {
-            return Ok(None);
-        };
-        self.places[association as usize - 1] = Rest {
-            octets: &[],
-            pieces: *pieces,
-        };
-        self.connected = self.connected.saturating_add(1);
-        Ok(Some(SocketAddrV4::new(Ipv4Addr::LOCALHOST, 40_000)))
+        if self.connected < self.clients {
+            self.connected = self.connected.saturating_add(1);
+            self.given[association as usize - 1] = 0;
+            return Ok(Some(SocketAddrV4::new(Ipv4Addr::LOCALHOST, 40_000)));
+        }
+        Ok(None)
     }
 
     fn read(&mut self, association: u16, room: &mut [u8]) -> Result<Arrival, LinkFault> {
@@ -87,23 +72,19 @@ impl Link for MemoryLink<'_> {
             self.failures = self.failures.saturating_add(1);
             return Err(LinkFault);
         }
-        let rest = &mut self.places[association as usize - 1];
-        if rest.octets.is_empty()
-            && let Some((piece, pieces)) = rest.pieces.split_first()
-        {
-            rest.octets = *piece;
-            rest.pieces = pieces;
-        }
-        let count = room.len().min(rest.octets.len());
-        room[..count].copy_from_slice(&rest.octets[..count]);
-        rest.octets = &rest.octets[count..];
+        let given = self.given[association as usize - 1];
+        let rest = self.sent.as_slice().get(given..).unwrap_or(&[]);
+        let most = room.len().min(self.per_read);
+        let count = most.min(rest.len());
+        room[..count].copy_from_slice(&rest[..count]);
+        self.given[association as usize - 1] = given.saturating_add(count);
         if count > 0 {
-            Ok(Arrival::Bytes(count))
-        } else if self.ends {
-            Ok(Arrival::End)
-        } else {
-            Ok(Arrival::Nothing)
+            return Ok(Arrival::Bytes(count));
         }
+        if self.ends {
+            return Ok(Arrival::End);
+        }
+        Ok(Arrival::Nothing)
     }
 
     fn write(&mut self, _association: u16, octets: &[u8]) -> Result<usize, LinkFault> {

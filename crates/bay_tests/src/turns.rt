@@ -88,10 +88,8 @@ fn clients_are_answered_and_closed(rt: HostRuntime) -> Result<(), Fail> {
     let whole = octets_of(rt.alloc(), &[CONFIRM, CONNECTED, IDENTITY])?;
     for row in ASKING.iter() {
         let asked = session(rt.alloc(), row.asked)?;
-        let pieces = [asked.as_slice()];
-        let clients = [pieces.as_slice(); 9];
         let taken = RefCell::new(Vec::new(rt.alloc()));
-        let mut link = MemoryLink::new(clients.get(..row.clients).unwrap_or(&[]), true, &taken);
+        let mut link = MemoryLink::new(row.clients, asked, &taken);
         link.per_write = row.per_write;
         let closed = closings(rt.alloc(), &mut link, row.turns)?;
         assert!(rt; closed.as_slice() == row.closed && link.closed == closed.len() as u64);
@@ -108,10 +106,9 @@ fn clients_are_answered_and_closed(rt: HostRuntime) -> Result<(), Fail> {
 fn failed_call(rt: &impl Abort, alloc: Global, fails_at: u64) -> Result<u64, Fail> {
     let asked = session(alloc, 1)?;
     let whole = octets_of(alloc, &[CONFIRM, CONNECTED, IDENTITY])?;
-    let pieces = [asked.as_slice()];
-    let clients = [pieces.as_slice()];
     let taken = RefCell::new(Vec::new(alloc));
-    let mut link = MemoryLink::new(&clients, false, &taken);
+    let mut link = MemoryLink::new(1, asked, &taken);
+    link.ends = false;
     link.per_write = 50;
     link.fails_at = fails_at;
     let closed = closings(alloc, &mut link, 3)?;
