@@ -8,7 +8,7 @@ use Rattle.bay_replay.proofs.replay.replay_watched.Goals as goal
 pub returns-in-Ok-clause-printed : goal.returns-in-Ok-clause-printed
 returns-in-Ok-clause-printed g c =
     let failed = c.read_all.new.reader.has_failed in
-    let input = g.R.Source.remaining c.args.reader.now.inner in
+    let input = g.R.OctetSource.remaining c.args.reader.now.inner in
     PrintsLogs-weaker (IsReplay input failed) c.replay_scenario.result
     (read-replay input c.in-Ok.input.items failed c.in-Ok.ensures.failed c.in-Ok.ensures.ok
     (omega (arith, c.in-Ok.ensures.within, c.in-Ok.input.ok)))
@@ -32,7 +32,7 @@ pub returns-in-Err-clause-printed : goal.returns-in-Err-clause-printed
 returns-in-Err-clause-printed g c =
     let fault = c.in-Err.fault in
     let failed = c.read_all.new.reader.has_failed in
-    let input = g.R.Source.remaining c.args.reader.now.inner in
+    let input = g.R.OctetSource.remaining c.args.reader.now.inner in
     PrintsLogs-weaker (IsReplay input failed) c.tell_unread.result
     (unread-replay input fault failed c.in-Err.ensures.failed
     (λ e. c.in-Err.ensures.too_long (ap Err e)) (λ e. c.in-Err.ensures.memory (ap Err e)))
