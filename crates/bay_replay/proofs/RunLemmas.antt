@@ -47,7 +47,7 @@ one-run first past begin idle steps =
 
 module _ (bay logic : List ℕ) (first : State)
     (loaded : IsLoaded (file_of bay) (IsCompiled (text_of logic)) first) where
-  idle : IsIdle first
+  pub idle : IsIdle first
   idle = loaded-idle (file_of bay) (IsCompiled (text_of logic))
       (let r : Result State LoadFault = Ok first in r) loaded
 
