@@ -120,7 +120,7 @@ def ends(checks) -> None:
     """What the program prints, logs and ends with: a file that is not there, a refused load, a port
     that is taken, and an output that is full."""
     load = ['--bay', checks.file('bay.toml', bay()), '--logic']
-    none, wrong = (checks.folder / 'none.il',
+    none, wrong = (checks.folder / 'absent.il',
                    checks.file('wrong.il', 'PROGRAM P\nLD A\nEND_PROGRAM\n'))
     right = [*load, checks.file('logic.il', LOGIC)]
     report = printed([checks.bayctl, 'check', *right])[1]
