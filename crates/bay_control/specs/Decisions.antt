@@ -6,7 +6,7 @@ use Rattle.bay_nodes.specs.declared.switch.Switch.{Switch}
 use Rattle.bay_tree.specs.declared.leaf.Dbpos.{Dbpos}
 use Rattle.bay_control.specs.Requests.{asked_choice, control_of, is_controlled, is_enhanced, is_normal, is_reached, is_released, is_sbo, same_choice}
 use Rattle.bay_control.specs.declared.cause.AddCause.{AddCause}
-use Rattle.bay_control.specs.declared.cause.AddCause.TheVariants.{NotSupported, SelectFailed, PositionReached, BlockedByMode, BlockedByInterlocking, CommandAlreadyInExecution, OneOfNControl, ObjectNotSelected}
+use Rattle.bay_control.specs.declared.cause.AddCause.TheVariants.{NotSupported, SelectFailed, PositionReached, BlockedByMode, BlockedByProcess, BlockedByInterlocking, CommandAlreadyInExecution, OneOfNControl, ObjectNotSelected}
 use Rattle.bay_control.specs.declared.control.SwitchControl.{SwitchControl}
 use Rattle.bay_control.specs.declared.controls.Controls.{Controls}
 use Rattle.bay_control.specs.declared.request.Ask.{Ask}
@@ -161,6 +161,7 @@ rows_of_operate a k ask view s =
     ∷ row (is_executing k s.execution) CommandAlreadyInExecution
     ∷ row (other_is_executing k s.execution) OneOfNControl
     ∷ row (is_reached ask.operation view.pos) PositionReached
+    ∷ row view.lost BlockedByProcess
     ∷ row (not view.fresh) BlockedByInterlocking
     ∷ row (not (is_released ask.operation view)) BlockedByInterlocking
     ∷ []

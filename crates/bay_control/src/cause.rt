@@ -20,6 +20,9 @@ pub enum AddCause {
     /// The request is a test.
     #[error("the request is a trial, which moves nothing")]
     BlockedByMode,
+    /// Nothing was heard of the process since it was lost.
+    #[error("the process is lost")]
+    BlockedByProcess,
     /// The interlocking does not release the operation, or is out of date.
     #[error("the interlocking does not release the operation")]
     BlockedByInterlocking,
@@ -47,6 +50,7 @@ impl AddCause {
             AddCause::SelectFailed => 3,
             AddCause::PositionReached => 5,
             AddCause::BlockedByMode => 8,
+            AddCause::BlockedByProcess => 9,
             AddCause::BlockedByInterlocking => 10,
             AddCause::CommandAlreadyInExecution => 12,
             AddCause::OneOfNControl => 14,

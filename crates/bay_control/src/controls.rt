@@ -250,6 +250,9 @@ impl Controls {
         if is_reached(ask.operation, view.pos) {
             return Err(AddCause::PositionReached);
         }
+        if view.lost {
+            return Err(AddCause::BlockedByProcess);
+        }
         if !view.fresh || !view.is_released(ask.operation) {
             return Err(AddCause::BlockedByInterlocking);
         }
@@ -263,8 +266,8 @@ impl Controls {
     /// The first of these refuses: the switch has no control, 1; it must be selected first, and the
     /// association has not selected it, or has selected it with enhanced security for something
     /// else, 18; a test, 8; the switch is operating, 12; another switch is operating, 14; the
-    /// position is reached, 5; the scan is not fresh, or the interlocking does not release the
-    /// operation, 10.
+    /// position is reached, 5; the process is lost, 9; the scan is not fresh, or the interlocking
+    /// does not release the operation, 10.
     pub fn operate(
         &mut self,
         table: &ControlTable,

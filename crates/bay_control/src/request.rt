@@ -107,6 +107,8 @@ pub struct Ask {
 pub struct View {
     /// The position.
     pub pos: Dbpos,
+    /// Whether the process is lost: nothing was heard of it since it was.
+    pub lost: bool,
     /// Whether the last scan is fresh: no input has changed since, and it is not too old.
     pub fresh: bool,
     /// Whether the interlocking releases opening (IEC 61850-7-4, CILO: EnaOpn).
