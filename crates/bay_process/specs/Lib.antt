@@ -3,8 +3,9 @@
 --
 -- `Values` is the main file. A contact that changes value or quality sets them and their time, at
 -- the switch and at its control, and counts an operation if it reached an end position. A measured
--- value that changes is written likewise; it is good from the first one on. After a scan each
--- EnaOpn and EnaCls takes what its point has, with the time if its value or quality changed.
+-- value that changes is written likewise; it is good from the first one on, but for a doubt, which
+-- makes it invalid and leaves its value. After a scan each EnaOpn and EnaCls takes what its point
+-- has, with the time if its value or quality changed.
 --
 -- `Names`: the names of one field of a meter, beside those of bay_nodes. `Sources`: an image's
 -- point stands for the bay's point of the same name, type and writability. `Layout`: the names and

@@ -128,6 +128,18 @@ rows_after_measure names value now rows =
     if tells_measure names value rows then rows
     else with_status names (leaf.Int32 value) Good now rows
 
+-- the rows tell already that this measured value is in doubt
+abbrev pub tells_doubt : StatusNames → List Row → Bool
+tells_doubt names rows = is_quality Invalid (leaf_of names.quality rows)
+
+-- the rows after a doubt of a measured value, which stays: one that leaves the quality as it is
+-- changes nothing
+abbrev pub rows_after_doubt : StatusNames → ℕ → List Row → List Row
+rows_after_doubt names now rows =
+    if tells_doubt names rows then rows
+    else with_leaf_of names.time (leaf.Utc now)
+    (with_leaf_of names.quality (leaf.Quality Invalid) rows)
+
 -- the number of a position: 0 intermediate, 1 off, 2 on, 3 bad
 abbrev pub number_of_position : Option Leaf → ℤ
 number_of_position (Some (leaf.Dbpos Off)) = pos 1

@@ -2,11 +2,11 @@
 ghost use Rattle.std.specs.Prelude.{◌≡◌, not};
 ghost use Rattle.bay_tree.specs.declared.leaf.LeafType.TheVariants as leaf_type;
 ghost use Rattle.bay_tree.specs.Rows.{leaf_of};
-ghost use Rattle.bay_process.specs.Values.{tells_measure, rows_after_measure};
+ghost use Rattle.bay_process.specs.Values.{tells_doubt, tells_measure, rows_after_doubt, rows_after_measure};
 ghost use Rattle.bay_process.specs.Values as spec;
 ghost use Rattle.bay_process.specs.Layout.{layout_of, name_in, status_in, field_rows, HasLeafType, AreStatusRows};
 
-use crate::rows::{StatusRows, count_at, is_quality, put_status};
+use crate::rows::{StatusRows, count_at, is_quality, put, put_status};
 use bay_base::text::Text;
 use bay_config::bay::MeterField;
 use bay_tree::leaf::{Leaf, Quality};
@@ -71,5 +71,20 @@ pub fn take_measure(tree: &mut Tree, rows: StatusRows, value: i32, now: u64) -> 
         return false;
     }
     put_status(tree, rows, Leaf::Int32(value), Quality::Good, now);
+    true
+}
+
+/// Takes a doubt of a measured value, which stays. Returns whether its quality changed.
+pub fn take_doubt(tree: &mut Tree, rows: StatusRows, now: u64) -> bool
+    requires { AreStatusRows (layout_of tree.old) leaf_type.Int32 rows }
+    ensures changed { result ≡ not (tells_doubt (status_in (layout_of tree.old) rows) tree.old) }
+    ensures rows { tree.new ≡ rows_after_doubt (status_in (layout_of tree.old) rows) now tree.old }
+    ensures layout { layout_of tree.new ≡ layout_of tree.old }
+{
+    if is_quality(tree, rows.quality, Quality::Invalid) {
+        return false;
+    }
+    put(tree, rows.quality, Leaf::Quality(Quality::Invalid));
+    put(tree, rows.time, Leaf::Utc(now));
     true
 }

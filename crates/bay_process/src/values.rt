@@ -1,5 +1,5 @@
 // Values that are never more or fewer than there were at first.
-ghost use Rattle.std.specs.Prelude.{◌≡◌, ◌<◌, length, position, slice_get, slice_set, Some};
+ghost use Rattle.std.specs.Prelude.{◌≡◌, ◌<◌, false, length, map, position, slice_get, slice_set, Some};
 ghost use Rattle.bay_process.specs.Values as spec;
 ghost use Rattle.bay_process.specs.Told.{told_at};
 
@@ -55,6 +55,15 @@ impl Truths {
         ensures { self.new ≡ slice_set self.old place value }
     {
         self.values[place] = value;
+    }
+
+    /// Sets each value to FALSE.
+    pub fn clear(&mut self)
+        ensures { self.new ≡ map (λ _. false) self.old }
+    {
+        for place in 0..self.values.len() {
+            self.values[place] = false;
+        }
     }
 }
 
