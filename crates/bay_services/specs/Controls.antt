@@ -40,6 +40,7 @@ dbpos_of other = Intermediate
 abbrev pub view_of : Client → ℕ → Bay → View
 view_of c k b = record {
   pos = dbpos_of (position_leaf b.switches b.rows k (slice_get b.switches k));
+  lost = c.lost;
   fresh = c.fresh;
   ena_opn = is_truth true (leaf_of (opening_of k).value b.rows);
   ena_cls = is_truth true (leaf_of (closing_of k).value b.rows);

@@ -1,5 +1,5 @@
 -- When a switch may be operated, and what of a bay no client changes (IEC 61850-7-4, CILO).
-use Rattle.std.specs.Prelude.{ℕ, ◌≡◌, ◌≤◌, true, List, Some, None}
+use Rattle.std.specs.Prelude.{ℕ, ◌≡◌, ◌≤◌, true, false, List, Some, None}
 use Rattle.bay_tree.specs.Rows.{leaf_of}
 use Rattle.bay_nodes.specs.Names.{closing_of, opening_of}
 use Rattle.bay_nodes.specs.declared.switch.Operation.{Operation}
@@ -18,9 +18,10 @@ abbrev pub releasing : ℕ → Operation → List ℕ
 releasing k Open = (opening_of k).value
 releasing k Close = (closing_of k).value
 
--- A switch is operated while the last scan is fresh, its interlocking value is TRUE in the tree,
--- and no switch of the bay is operating.
+-- A switch is operated while the process is not lost, the last scan is fresh, its interlocking value
+-- is TRUE in the tree, and no switch of the bay is operating.
 pub record IsReleased (c : Client) (b : Bay) (command : Command) : Type 0 where
+  pub heard : c.lost ≡ false
   pub fresh : c.fresh ≡ true
   pub enabled : is_truth true (leaf_of (releasing command.switch command.operation) b.rows) ≡ true
   pub idle : (controls_at c.now b.controls).execution ≡ None

@@ -9,6 +9,8 @@ pub struct Client {
     pub size: u32,
     /// The time, in milliseconds since 1970.
     pub now: u64,
+    /// Whether the process is lost: nothing was heard of it since it was.
+    pub lost: bool,
     /// Whether the last scan is fresh: nothing that it read has changed since, and it is not too
     /// old.
     pub fresh: bool,

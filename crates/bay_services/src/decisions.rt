@@ -57,6 +57,7 @@ impl ServedBay {
         let rows = &self.switches.as_slice()[switch].rows;
         View {
             pos: position_at(&self.tree, rows.position.value),
+            lost: client.lost,
             fresh: client.fresh,
             ena_opn: is_truth(&self.tree, rows.ena_opn.value, true),
             ena_cls: is_truth(&self.tree, rows.ena_cls.value, true),

@@ -38,9 +38,9 @@ pub fn a_read_shows_the_selection()
 {}
 
 /// The commands of an answer are exactly those of the operates that it accepts, one for each and in
-/// their order. Each comes while the last scan is fresh, the interlocking releases it and no switch
-/// is operating. There is at most one if each switch takes some time. No client changes a value of
-/// the tree, and no client changes an execution that still lasts.
+/// their order. Each comes while the process is not lost, the last scan is fresh, the interlocking
+/// releases it and no switch is operating. There is at most one if each switch takes some time. No
+/// client changes a value of the tree, and no client changes an execution that still lasts.
 pub fn commands_are_released()
     ensures operated { (c : Client) (pdu : List ℕ) (b : Bay)
         → (pdu_answer c pdu b).commands ≡ operates_in (entries_in c pdu b) }
