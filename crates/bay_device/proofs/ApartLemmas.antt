@@ -21,7 +21,7 @@ use Rattle.bay_process.specs.Scans.{outputs_put}
 use Rattle.bay_process.specs.Told.{AreEnabling, AreInterlocked}
 use Rattle.bay_process.specs.declared.rows.SwitchRows.{SwitchRows}
 use Rattle.bay_process.specs.declared.switch.BoundSwitch.{BoundSwitch}
-use Rattle.bay_process.specs.Values.{with_count, is_operation, operation_counted, position_quality, rows_after_change, rows_after_contact, rows_after_measure, tells, tells_measure, with_enabled, with_output, with_status}
+use Rattle.bay_process.specs.Values.{with_count, is_operation, operation_counted, position_quality, rows_after_change, rows_after_contact, rows_after_doubt, rows_after_measure, tells, tells_doubt, tells_measure, with_enabled, with_output, with_status}
 use Rattle.bay_services.specs.Bay.{ShowNone}
 use Rattle.bay_services.proofs.ShownLemmas.{shown-kept}
 
@@ -195,6 +195,15 @@ module _ (count : ℕ) where
       shows-if (tells_measure (field_names field (meter_names k)) value rows) rows _ shows
       (shows-status (field_names field (meter_names k)) (leaf.Int32 value) Good now rows
       (field-apart k field) shows)
+
+  pub shows-doubt : (k : ℕ) (field : MeterField) (now : ℕ) (rows : List Row) → Shows rows
+      → Shows (rows_after_doubt (field_names field (meter_names k)) now rows)
+  shows-doubt k field now rows shows =
+      let names = field_names field (meter_names k) in
+      let apart = field-apart k field in
+      shows-if (tells_doubt names rows) rows _ shows
+      (shown-kept count _ names.time _ apart.time_apart
+      (shown-kept count rows names.quality _ apart.quality_apart shows))
 
   shows-enabled : (names : StatusNames) (value : Bool) (now : ℕ) (rows : List Row) → AreApart names
       → Shows rows → Shows (with_enabled names value now rows)

@@ -14,20 +14,21 @@ use Rattle.bay_services.proofs.ReleaseLemmas.{Sole, all-of, answer-sent, at-most
 use Rattle.bay_device.specs.Commands.{AreCommanded, CommandedAt, IsReleasedAt, IsSingle}
 use Rattle.bay_device.specs.Device.{State, device_at, bay_of, ended_at, is_recent}
 use Rattle.bay_device.specs.Hearing.{Done, AllHeard, client_at, after_indications, on_heard, after_pdu, sent_on, with_sent}
-use Rattle.bay_device.specs.Outcomes.{Outcome, close_outcome, connection_at, contact_outcome, event_outcome, input_outcome, last_moment, measure_outcome, nothing_done, octets_outcome, open_outcome, place_of, quiet_step, recv_outcome}
+use Rattle.bay_device.specs.Outcomes.{Outcome, close_outcome, connection_at, contact_outcome, doubt_outcome, event_outcome, input_outcome, last_moment, measure_outcome, nothing_done, octets_outcome, open_outcome, place_of, quiet_step, recv_outcome}
 use Rattle.bay_device.specs.Steps.{Steps}
 use Rattle.bay_device.specs.declared.event.Event.{Event}
-use Rattle.bay_device.specs.declared.event.Event.TheVariants.{Open, Recv, Close, Contact, Input, Measure, Scan}
+use Rattle.bay_device.specs.declared.event.Event.TheVariants.{Open, Recv, Close, Contact, Input, Measure, BadMeasure, Lost, Scan}
 use Rattle.bay_device.specs.declared.event.Sent.{Sent}
 use Rattle.bay_device.specs.declared.event.Step.{Step}
 use Rattle.bay_device.specs.declared.fault.StepFault.{StepFault}
 
--- what a device notes of its scans, and its inputs, which no client changes
+-- what a device notes of its scans and of the process, and its inputs, which no client changes
 pub record Notes : Type 0 where
   pub last_scan : Option ℕ
   pub is_stale : Bool
   pub age : ℕ
   pub inputs : List Bool
+  pub is_lost : Bool
 
 abbrev pub notes_of : State → Notes
 notes_of s = record {
@@ -35,6 +36,7 @@ notes_of s = record {
   is_stale = s.is_stale;
   age = s.scan_max_age_ms;
   inputs = s.input_values;
+  is_lost = s.is_lost;
 }
 
 -- what is made of octets: nothing is operated that was not released before them
@@ -60,6 +62,7 @@ released-before : (now a : ℕ) (terms : Terms) (s : State) (d : Done) (command 
     → Makes now s d → services.IsReleased (client_at now a terms d.state) (bay_of d.state) command
     → IsReleasedAt now s command
 released-before now a terms s d command makes is = record {
+  heard = sym (ap (λ (n : Notes). n.is_lost) makes.notes) ∙ is.heard;
   fresh = sym (ap (λ (n : Notes). is_recent now n.age n.last_scan && not n.is_stale) makes.notes)
       ∙ is.fresh;
   enabled = rw makes.leaves.rows at is.enabled;
@@ -198,6 +201,11 @@ measure-commanded : (now k : ℕ) (field : MeterField) (value : _) (s : State) (
 measure-commanded now k field value s None = tt
 measure-commanded now k field value s (Some id) = none-commanded now s (ended_at now s) None
 
+doubt-commanded : (now k : ℕ) (field : MeterField) (s : State) (o : Option (List ℕ))
+    → Commanded now s (doubt_outcome now k field s o).answer
+doubt-commanded now k field s None = tt
+doubt-commanded now k field s (Some id) = none-commanded now s (ended_at now s) None
+
 event-commanded : (choice : Option ℕ) (now : ℕ) (event : Event) (s : State)
     → Commanded now s (event_outcome choice now event s).answer
 event-commanded choice now (Open a) s =
@@ -211,6 +219,9 @@ event-commanded choice now (Input k value) s =
     input-commanded now k value s (slice_get s.input_values k)
 event-commanded choice now (Measure k field value) s =
     measure-commanded now k field value s (slice_get s.meters k)
+event-commanded choice now (BadMeasure k field) s =
+    doubt-commanded now k field s (slice_get s.meters k)
+event-commanded choice now Lost s = none-commanded now s (ended_at now s) None
 event-commanded choice now Scan s = none-commanded now s (ended_at now s) _
 
 commanded-if : (b : Bool) (now : ℕ) (s : State) (x y : Outcome) → Commanded now s x.answer
@@ -274,6 +285,11 @@ measure-single : (now k : ℕ) (field : MeterField) (value : _) (s : State) (o :
 measure-single now k field value s None = tt
 measure-single now k field value s (Some id) = none-single
 
+doubt-single : (now k : ℕ) (field : MeterField) (s : State) (o : Option (List ℕ))
+    → IsSingle (doubt_outcome now k field s o).answer
+doubt-single now k field s None = tt
+doubt-single now k field s (Some id) = none-single
+
 event-single : (choice : Option ℕ) (now : ℕ) (event : Event) (s : State)
     → AreTimed s.controls.controls → IsSingle (event_outcome choice now event s).answer
 event-single choice now (Open a) s timed =
@@ -287,6 +303,9 @@ event-single choice now (Input k value) s timed =
     input-single now k value s (slice_get s.input_values k)
 event-single choice now (Measure k field value) s timed =
     measure-single now k field value s (slice_get s.meters k)
+event-single choice now (BadMeasure k field) s timed =
+    doubt-single now k field s (slice_get s.meters k)
+event-single choice now Lost s timed = none-single
 event-single choice now Scan s timed = none-single
 
 single-if : (b : Bool) (x y : Outcome) → IsSingle x.answer → IsSingle y.answer

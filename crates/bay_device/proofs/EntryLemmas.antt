@@ -17,14 +17,15 @@ use Rattle.bay_services.specs.Entries.{entries_in}
 use Rattle.bay_device.specs.Device.{State, device_at, bay_of, contact_taken}
 use Rattle.bay_device.specs.Entries.{Leading, entries_at, entries_close, entries_closed, entries_heard, entries_octets, entries_of_event, entries_on, entries_open, entries_recv, opens, entries_of_act}
 use Rattle.bay_device.specs.Hearing.{Done, AllHeard, client_at, after_indications, on_heard, after_pdu}
-use Rattle.bay_device.specs.Outcomes.{Outcome, close_outcome, without_connection, connection_at, contact_outcome, event_outcome, first_talk, input_outcome, last_moment, measure_outcome, nothing_done, octets_outcome, open_outcome, outcome, place_of, refusal_of, recv_after, recv_outcome, with_connection, without_owner}
+use Rattle.bay_device.specs.Outcomes.{Outcome, close_outcome, without_connection, connection_at, contact_outcome, doubt_outcome, event_outcome, first_talk, input_outcome, last_moment, lost_outcome, measure_outcome, nothing_done, octets_outcome, open_outcome, outcome, place_of, refusal_of, recv_after, recv_outcome, with_connection, without_owner}
 use Rattle.bay_device.specs.Steps.{Steps}
 use Rattle.bay_device.specs.declared.event.Event.{Event}
-use Rattle.bay_device.specs.declared.event.Event.TheVariants.{Open, Recv, Close, Contact, Input, Measure, Scan}
+use Rattle.bay_device.specs.declared.event.Event.TheVariants.{Open, Recv, Close, Contact, Input, Measure, BadMeasure, Lost, Scan}
 use Rattle.bay_device.specs.declared.event.Step.{Step}
 use Rattle.bay_device.specs.declared.event.Why.{Why}
 use Rattle.bay_device.specs.declared.fault.StepFault.{StepFault}
 use Rattle.bay_device.specs.declared.fault.StepFault.TheVariants.{TimeWentBack}
+use Rattle.bay_device.proofs.LostLemmas.{Fixed, Operating, lost-fixed, lost-operating}
 
 -- ---- which associations are open
 
@@ -384,6 +385,16 @@ module _ (now : ℕ) (s : State) (sized : length s.connections ≡ 8) where
   led-measure k field value None = nothing s
   led-measure k field value (Some id) = led-beside _ refl refl
 
+  led-doubt : (k : ℕ) (field : MeterField) (o : Option (List ℕ))
+      → Led [] s (doubt_outcome now k field s o).after
+  led-doubt k field None = nothing s
+  led-doubt k field (Some id) = led-beside _ refl refl
+
+  led-lost : Led [] s (lost_outcome now s).after
+  led-lost =
+      led-beside _ (ap (λ (o : Operating). o.controls) (lost-operating now (device_at now s)))
+      (ap (λ (f : Fixed). f.connections) (lost-fixed now (device_at now s)))
+
   led-event : (choice : Option ℕ) (event : Event)
       → Led (entries_of_event choice now event s) s (event_outcome choice now event s).after
   led-event choice (Open a) = led-open a (place_of a) (connection_at (place_of a) s) refl refl
@@ -393,6 +404,8 @@ module _ (now : ℕ) (s : State) (sized : length s.connections ≡ 8) where
   led-event choice (Contact k position) = led-contacted k position (slice_get s.switches k)
   led-event choice (Input k value) = led-input k value (slice_get s.input_values k)
   led-event choice (Measure k field value) = led-measure k field value (slice_get s.meters k)
+  led-event choice (BadMeasure k field) = led-doubt k field (slice_get s.meters k)
+  led-event choice Lost = led-lost
   led-event choice Scan = led-beside _ refl refl
 
   led-if : (b : Bool) (xs ys : List Entry) (x y : Outcome) → Led xs s x.after → Led ys s y.after

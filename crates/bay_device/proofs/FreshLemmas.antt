@@ -1,8 +1,9 @@
 -- Behind each command is a fresh scan, by what the process told after each event since.
-use Rattle.std.proofs.Common.{◌≡◌, ◌≢◌, ◌≤◌, ◌+◌, ◌-◌, ℕ, ℤ, Bool, true, false, not, cond, nat_lt, List, [], ◌∷◌, ◌++◌, All, map, slice_get, slice_set, unwrap_or, Option, None, Some, Result, Ok, Err, IfOk, IsOk, refl, ap, ap₂, sym, ◌∙◌, subst, arith}
+use Rattle.std.proofs.Common.{◌≡◌, ◌≢◌, ◌≤◌, ◌+◌, ◌-◌, ℕ, ℤ, Bool, true, false, not, cond, nat_lt, List, [], ◌∷◌, ◌++◌, All, map, slice_get, slice_set, unwrap_or, Option, None, Some, Result, Ok, Err, IfOk, IsOk, refl, ap, ap₂, sym, ◌∙◌, subst, arith, is_ok, is_some, length}
 use Rattle.std.specs.Bool.{beq}
-use Rattle.std.specs.List.{AllByRecursion}
+use Rattle.std.specs.List.{AllByRecursion, position, position_or_len}
 use Rattle.std.proofs.lemmas.Bool.{and_parts, leb-true, or_parts, not-false, not-true}
+use Rattle.std.proofs.lemmas.Bool.Decides.{nat_tests}
 use Rattle.bay_base.specs.declared.point.MeterField.{MeterField}
 use Rattle.bay_base.specs.declared.point.Source.{Source}
 use Rattle.bay_base.specs.declared.point.Source.TheVariants as source
@@ -13,24 +14,26 @@ use Rattle.bay_nodes.specs.Names.{switch_names, meter_names}
 use Rattle.bay_nodes.specs.Node.{node_number}
 use Rattle.bay_nodes.specs.declared.switch.Switch.{Switch}
 use Rattle.bay_process.specs.Names.{field_names}
-use Rattle.bay_process.specs.Values.{measure_leaf, number_of_leaf, position_leaf, position_value, rows_after_change, tells, tells_measure, with_status}
+use Rattle.bay_process.specs.Values.{measure_leaf, number_of_leaf, position_leaf, position_value, rows_after_change, tells, tells_doubt, tells_measure, with_status}
 use Rattle.bay_services.specs.declared.answer.Command.{Command}
 use Rattle.bay_services.proofs.ReleaseLemmas.{all-of}
-use Rattle.bay_tree.specs.Rows.{leaf_of}
+use Rattle.bay_tree.specs.Rows.{leaf_of, with_leaf_of}
 use Rattle.bay_tree.specs.declared.leaf.Dbpos.{Dbpos}
+use Rattle.bay_tree.specs.declared.leaf.Dbpos.TheVariants.{Bad}
 use Rattle.bay_tree.specs.declared.leaf.Leaf.TheVariants as leaf
-use Rattle.bay_tree.specs.declared.leaf.Quality.TheVariants.{Good}
+use Rattle.bay_tree.specs.declared.leaf.Quality.TheVariants.{Good, Invalid}
 use Rattle.bay_device.specs.Commands.{AreCommanded, IsReleasedAt}
-use Rattle.bay_device.specs.Device.{State, device_at, inputs_of, is_fresh, is_recent, point_value, after_scan}
-use Rattle.bay_device.specs.Fresh.{Came, FreshAt, HasScan, IsFresh, IsSameProcess, Past}
-use Rattle.bay_device.specs.Outcomes.{Outcome, contact_outcome, event_outcome, input_outcome, last_moment, measure_outcome, outcome, refusal_of}
-use Rattle.bay_device.specs.Steps.{Steps}
+use Rattle.bay_device.specs.Device.{State, contact_taken, device_at, doubt_taken, inputs_lost, inputs_of, lost_taken, is_fresh, is_recent, point_value, after_scan}
+use Rattle.bay_device.specs.Fresh.{Came, FreshAt, HasScan, IsFresh, IsSameProcess, Past, heard_after, is_heard}
+use Rattle.bay_device.specs.Outcomes.{Outcome, contact_outcome, doubt_outcome, event_outcome, input_outcome, last_moment, measure_outcome, outcome, refusal_of}
+use Rattle.bay_device.specs.Steps.{OfAssociation, Steps}
 use Rattle.bay_device.specs.declared.event.Event.{Event}
-use Rattle.bay_device.specs.declared.event.Event.TheVariants.{Open, Recv, Close, Contact, Input, Measure, Scan}
+use Rattle.bay_device.specs.declared.event.Event.TheVariants.{Open, Recv, Close, Contact, Input, Measure, BadMeasure, Lost, Scan}
 use Rattle.bay_device.specs.declared.event.Step.{Step}
 use Rattle.bay_device.specs.declared.fault.StepFault.{StepFault}
 use Rattle.bay_device.specs.declared.fault.StepFault.TheVariants.{MomentTooLarge, TimeWentBack}
 use Rattle.bay_device.proofs.CommandLemmas.{step-commanded}
+use Rattle.bay_device.proofs.LostLemmas.{loss-passes}
 use Rattle.bay_device.proofs.SameLemmas.{Parts, Same, same-event}
 
 -- ---- what the process tells
@@ -46,11 +49,11 @@ process-same s t rows inputs = record {
 -- ---- what is no scan
 
 -- No scan was done, and where the last one is not stale all values are the same.
-record Still (s t : State) : Type 0 where
-  scans : t.last_scan ≡ s.last_scan
-  stale : t.is_stale ≡ false → s.is_stale ≡ false
-  rows : t.is_stale ≡ false → t.rows ≡ s.rows
-  inputs : t.is_stale ≡ false → t.input_values ≡ s.input_values
+pub record Still (s t : State) : Type 0 where
+  pub scans : t.last_scan ≡ s.last_scan
+  pub stale : t.is_stale ≡ false → s.is_stale ≡ false
+  pub rows : t.is_stale ≡ false → t.rows ≡ s.rows
+  pub inputs : t.is_stale ≡ false → t.input_values ≡ s.input_values
 
 still-same : (s t : State) → Same s t → Still s t
 still-same s t same = record {
@@ -117,6 +120,74 @@ module _ (now : ℕ) (s : State) where
         inputs = λ h. refl;
       }
 
+  still-doubt : (k : ℕ) (field : MeterField) (o : Option (List ℕ))
+      → Still s (doubt_outcome now k field s o).after
+  still-doubt k field None = still-none
+  still-doubt k field (Some id) =
+      let names = field_names field (meter_names k) in
+      let told : Bool = tells_doubt names s.rows in
+      record {
+        scans = refl;
+        stale = λ h. (or_parts s.is_stale (not told) h).0;
+        rows = λ h.
+            ap (λ (b : Bool). cond b s.rows
+            (with_leaf_of names.time (leaf.Utc now)
+            (with_leaf_of names.quality (leaf.Quality Invalid) s.rows)))
+            (not-false told (or_parts s.is_stale (not told) h).1);
+        inputs = λ h. refl;
+      }
+
+-- ---- a process that is lost
+
+still-then : (s t u : State) → Still s t → Still t u → Still s u
+still-then s t u p q = record {
+  scans = q.scans ∙ p.scans;
+  stale = λ h. p.stale (q.stale h);
+  rows = λ h. q.rows h ∙ p.rows (q.stale h);
+  inputs = λ h. q.inputs h ∙ p.inputs (q.stale h);
+}
+
+-- inputs of which none is TRUE are FALSE
+found-none : (b : Bool) (n : ℕ) → is_some (cond b (Some n) None) ≡ false → b ≡ false
+found-none false n h = refl
+found-none true n h = absurd cc
+
+all-false : (values : List Bool)
+    → nat_lt (position_or_len (λ value. value) values) (length values) ≡ false
+    → map (λ _. false) values ≡ values
+all-false [] h = refl
+all-false (true ∷ values) h = absurd (grind (arith, nat_tests))
+all-false (false ∷ values) h =
+    let rest : nat_lt (position_or_len (λ value. value) values) (length values) ≡ false =
+    grind (arith, nat_tests) in
+    ap (λ (vs : List Bool). false ∷ vs) (all-false values rest)
+
+still-inputs : (s : State) → Still s (inputs_lost s)
+still-inputs s =
+    let some : Bool = is_some (position (λ value. value) s.input_values) in
+    record {
+      scans = refl;
+      stale = λ h. (or_parts s.is_stale some h).0;
+      rows = λ h. refl;
+      inputs = λ h.
+          all-false s.input_values (found-none _ _ (or_parts s.is_stale some h).1);
+    }
+
+pub still-lost : (now : ℕ) (s : State) → Still s (lost_taken now s)
+still-lost now s =
+    loss-passes (Still s) now
+    (λ k switch t p.
+    let w = still-contact now t k Bad (Some switch) in
+    still-then s t (contact_taken now k switch Bad t) p
+    (record { scans = w.scans; stale = w.stale; rows = w.rows; inputs = w.inputs }))
+    (λ k field t p.
+    let w = still-doubt now t k field (Some []) in
+    still-then s t (doubt_taken now k field t) p
+    (record { scans = w.scans; stale = w.stale; rows = w.rows; inputs = w.inputs }))
+    (λ t p. still-then s t (inputs_lost t) p (still-inputs t))
+    (λ t p. record { scans = p.scans; stale = p.stale; rows = p.rows; inputs = p.inputs }) s
+    (still-none now s)
+
 -- ---- the scan that stands behind
 
 -- A scan was done at a moment; after each event since, the process tells the same, and the device
@@ -133,16 +204,23 @@ pub record Since (m : ℕ) (past : List Past) (s : State) : Type 0 where
   pub rows : s.rows ≡ scan.after.rows
   pub inputs : s.input_values ≡ scan.after.input_values
 
--- the last scan is so, where it is not stale
+-- the last scan is so, where it is not stale, and the device notes whether the process is lost
 pub record Tracks (past : List Past) (s : State) : Type 0 where
   pub since_scan : (m : ℕ) → s.last_scan ≡ Some m → s.is_stale ≡ false → Since m past s
+  pub heard : is_heard past ≡ not s.is_lost
 
 pub tracks-first : (first : State) → Came [] first → Tracks [] first
 tracks-first first came = record {
   since_scan = λ m scans fresh.
       let none : first.last_scan ≡ None = ap (λ (t : State). t.last_scan) came.2 in
       absurd (let no : None ≡ (let o : Option ℕ = Some m in o) = sym none ∙ scans in cc);
+  heard = sym (ap (λ (t : State). not t.is_lost) came.2);
 }
+
+-- the same either way
+either : (b h x : Bool) → h ≡ x → cond b h h ≡ x
+either true h x is = is
+either false h x is = is
 
 module _ (past : List Past) (s : State) (tracks : Tracks past s) (now : ℕ) where
   -- behind an event with this outcome
@@ -151,8 +229,14 @@ module _ (past : List Past) (s : State) (tracks : Tracks past s) (now : ℕ) whe
       Tracks (record { now = now; event = event; answer = o.answer; after = o.after } ∷ past)
       o.after
 
-  led-still : (event : Event) (o : Outcome) → Still s o.after → Led event o
-  led-still event o still = record {
+  -- what is noted of the process
+  abbrev Hears : Event → Outcome → Type 0
+  Hears event o =
+      cond (is_ok o.answer) (heard_after event (is_heard past)) (is_heard past)
+      ≡ not o.after.is_lost
+
+  led-still : (event : Event) (o : Outcome) → Still s o.after → Hears event o → Led event o
+  led-still event o still heard = record {
     since_scan = λ m scans fresh.
         let w : Since m past s =
         tracks.since_scan m (sym still.scans ∙ scans) (still.stale fresh) in
@@ -173,6 +257,7 @@ module _ (past : List Past) (s : State) (tracks : Tracks past s) (now : ℕ) whe
           rows = rows;
           inputs = inputs;
         };
+    heard = heard;
   }
 
   led-scan : Led Scan (event_outcome None now Scan s)
@@ -198,31 +283,70 @@ module _ (past : List Past) (s : State) (tracks : Tracks past s) (now : ℕ) whe
           rows = refl;
           inputs = refl;
         };
+    heard = tracks.heard;
   }
+
+  led-same : (choice : Option ℕ) (event : Event) → OfAssociation event
+      → heard_after event (is_heard past) ≡ is_heard past
+      → Led event (event_outcome choice now event s)
+  led-same choice event of stays =
+      let o : Outcome = event_outcome choice now event s in
+      let same : Same s o.after = same-event now s choice event of in
+      led-still event o (still-same s o.after same)
+      (ap (λ h. cond (is_ok o.answer) h (is_heard past)) stays
+      ∙ either (is_ok o.answer) (is_heard past) (not o.after.is_lost)
+      (tracks.heard ∙ sym (ap (λ (p : Parts). not p.lost) same)))
+
+  hears-contact : (k : ℕ) (position : Dbpos) (o : Option Switch)
+      → Hears (Contact k position) (contact_outcome now k position s o)
+  hears-contact k position None = tracks.heard
+  hears-contact k position (Some switch) = refl
+
+  hears-input : (k : ℕ) (value : Bool) (o : Option Bool)
+      → Hears (Input k value) (input_outcome now k value s o)
+  hears-input k value None = tracks.heard
+  hears-input k value (Some before) = refl
+
+  hears-measure : (k : ℕ) (field : MeterField) (value : ℤ) (o : Option (List ℕ))
+      → Hears (Measure k field value) (measure_outcome now k field value s o)
+  hears-measure k field value None = tracks.heard
+  hears-measure k field value (Some id) = refl
+
+  hears-doubt : (k : ℕ) (field : MeterField) (o : Option (List ℕ))
+      → Hears (BadMeasure k field) (doubt_outcome now k field s o)
+  hears-doubt k field None = tracks.heard
+  hears-doubt k field (Some id) = refl
 
   led-event : (choice : Option ℕ) (event : Event)
       → Led event (event_outcome choice now event s)
-  led-event choice (Open a) =
-      led-still (Open a) _ (still-same s _ (same-event now s choice (Open a) tt))
-  led-event choice (Recv a octets) =
-      led-still (Recv a octets) _ (still-same s _ (same-event now s choice (Recv a octets) tt))
-  led-event choice (Close a) =
-      led-still (Close a) _ (still-same s _ (same-event now s choice (Close a) tt))
+  led-event choice (Open a) = led-same choice (Open a) tt refl
+  led-event choice (Recv a octets) = led-same choice (Recv a octets) tt refl
+  led-event choice (Close a) = led-same choice (Close a) tt refl
   led-event choice (Contact k position) =
       led-still (Contact k position) _
       (still-contact now s k position (slice_get s.switches k))
+      (hears-contact k position (slice_get s.switches k))
   led-event choice (Input k value) =
       led-still (Input k value) _ (still-input now s k value (slice_get s.input_values k) refl)
+      (hears-input k value (slice_get s.input_values k))
   led-event choice (Measure k field value) =
       led-still (Measure k field value) _
       (still-measure now s k field value (slice_get s.meters k))
+      (hears-measure k field value (slice_get s.meters k))
+  led-event choice (BadMeasure k field) =
+      led-still (BadMeasure k field) _ (still-doubt now s k field (slice_get s.meters k))
+      (hears-doubt k field (slice_get s.meters k))
+  led-event choice Lost =
+      let w = still-lost now (device_at now s) in
+      led-still Lost _
+      (record { scans = w.scans; stale = w.stale; rows = w.rows; inputs = w.inputs }) refl
   led-event choice Scan = led-scan
 
   led-if : (late early : Bool) (event : Event) (o : Outcome) → Led event o
       → Led event
       (cond late (refusal_of MomentTooLarge s) (cond early (refusal_of TimeWentBack s) o))
-  led-if true early event o led = led-still event _ (still-none now s)
-  led-if false true event o led = led-still event _ (still-none now s)
+  led-if true early event o led = led-still event _ (still-none now s) tracks.heard
+  led-if false true event o led = led-still event _ (still-none now s) tracks.heard
   led-if false false event o led = led
 
   pub tracks-event : (choice : Option ℕ) (event : Event)
@@ -233,10 +357,11 @@ module _ (past : List Past) (s : State) (tracks : Tracks past s) (now : ℕ) whe
 
 -- ---- commands
 
-first-fresh : (now : ℕ) (s : State) (commands : List Command)
-    → All (IsReleasedAt now s) commands → commands ≢ [] → is_fresh now s ≡ true
-first-fresh now s [] all some = absurd (some refl)
-first-fresh now s (x ∷ commands) all some = (all 0 x (omega arith)).fresh
+first-released : (now : ℕ) (s : State) (commands : List Command)
+    → All (IsReleasedAt now s) commands → commands ≢ []
+    → (x : Command) × IsReleasedAt now s x
+first-released now s [] all some = absurd (some refl)
+first-released now s (x ∷ commands) all some = (x, all 0 x (omega arith))
 
 recent-at : (now age : ℕ) (o : Option ℕ) → is_recent now age o ≡ true
     → (m : ℕ) × (o ≡ Some m) × (now ≤ m + age)
@@ -264,8 +389,8 @@ fresh-at now s fresh =
     }
 
 abbrev pub has-since : (now age m : ℕ) (past : List Past) (s : State) → Since m past s
-    → now ≤ m + age → HasScan now age past
-has-since now age m past s w near = record {
+    → now ≤ m + age → is_heard past ≡ true → HasScan now age past
+has-since now age m past s w near heard = record {
   since = w.since;
   scan = w.scan;
   earlier = w.earlier;
@@ -274,18 +399,22 @@ has-since now age m past s w near = record {
   done = w.done;
   recent = omega (arith, w.at, near);
   unchanged = all-of (λ (p : Past). IsSameProcess w.scan.after p.after) w.since w.unchanged;
+  heard = heard;
 }
 
 has-scan : (now : ℕ) (past : List Past) (s : State) → Tracks past s → is_fresh now s ≡ true
-    → HasScan now s.scan_max_age_ms past
-has-scan now past s tracks fresh =
+    → s.is_lost ≡ false → HasScan now s.scan_max_age_ms past
+has-scan now past s tracks fresh heard =
     let r = fresh-at now s fresh in
     has-since now s.scan_max_age_ms r.at past s (tracks.since_scan r.at r.is r.fresh) r.within
+    (tracks.heard ∙ ap not heard)
 
 fresh-if : (now : ℕ) (past : List Past) (s : State) (answer : Result Step StepFault)
     → Tracks past s → IfOk answer (AreCommanded now s) → IsFresh now s.scan_max_age_ms past answer
 fresh-if now past s (Ok step) tracks commanded =
-    λ some. has-scan now past s tracks (first-fresh now s step.commands commanded.released some)
+    λ some.
+    let first = first-released now s step.commands commanded.released some in
+    has-scan now past s tracks first.1.fresh first.1.heard
 fresh-if now past s (Err fault) tracks commanded = tt
 
 -- ---- since load

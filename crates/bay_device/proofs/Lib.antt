@@ -6,6 +6,7 @@ pub mod EntryLemmas
 pub mod FreshLemmas
 pub mod IdleLemmas
 pub mod LoadLemmas
+pub mod LostLemmas
 pub mod MeaningLemmas
 pub mod MessageLemmas
 pub mod NameLemmas

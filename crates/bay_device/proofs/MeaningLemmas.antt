@@ -32,7 +32,7 @@ use Rattle.bay_process.proofs.SourceLemmas.{IsTyped, bay-typed, points-fit, read
 use Rattle.il_compile.specs.Meaning.{Memory}
 use Rattle.il_scan.specs.Scans.{Held, first_input, first_slots, outputs_of, read_only, type_of_point, with_inputs}
 use Rattle.bay_device.specs.Device.{State, Ran, device_at, ending_at, inputs_of, point_value, ran_at, ran_of, after_scan}
-use Rattle.bay_device.specs.Outcomes.{Outcome, contact_outcome, event_outcome, input_outcome, last_moment, measure_outcome, outcome, refusal_of}
+use Rattle.bay_device.specs.Outcomes.{Outcome, contact_outcome, doubt_outcome, event_outcome, input_outcome, last_moment, lost_outcome, measure_outcome, outcome, refusal_of}
 use Rattle.bay_device.specs.Steps.{OfAssociation, Steps}
 use Rattle.bay_device.specs.declared.event.Step.{Step}
 use Rattle.bay_device.specs.declared.fault.StepFault.{StepFault}
@@ -41,7 +41,8 @@ use Rattle.bay_process.specs.Values.{with_outputs}
 use Rattle.bay_device.specs.Meaning.{Means, MeansAt, Runs, memory_before, memory_of}
 use Rattle.bay_process.specs.Sources.{type_of_source}
 use Rattle.bay_device.specs.declared.event.Event.{Event}
-use Rattle.bay_device.specs.declared.event.Event.TheVariants.{Open, Recv, Close, Contact, Input, Measure, Scan}
+use Rattle.bay_device.specs.declared.event.Event.TheVariants.{Open, Recv, Close, Contact, Input, Measure, BadMeasure, Lost, Scan}
+use Rattle.bay_device.proofs.LostLemmas.{Fixed, lost-fixed}
 use Rattle.bay_device.proofs.SameLemmas.{Parts, Same, same-event}
 
 -- ---- inputs have the types of what they stand for
@@ -269,6 +270,16 @@ module _ (c : Checked) (s : State) (r : Runs c s) (now : ℕ) where
   runs-measure k field value None = r
   runs-measure k field value (Some id) = runs-as c s _ r refl refl
 
+  runs-doubt : (k : ℕ) (field : MeterField) (o : Option (List ℕ))
+      → Runs c (doubt_outcome now k field s o).after
+  runs-doubt k field None = r
+  runs-doubt k field (Some id) = runs-as c s _ r refl refl
+
+  runs-lost : Runs c (lost_outcome now s).after
+  runs-lost =
+      let fixed = lost-fixed now (device_at now s) in
+      runs-as c s _ r (ap (λ (f : Fixed). f.machine) fixed) (ap (λ (f : Fixed). f.reads) fixed)
+
   runs-event : (choice : Option ℕ) (event : Event) → Runs c (event_outcome choice now event s).after
   runs-event choice (Open a) = runs-same choice (Open a) tt
   runs-event choice (Recv a octets) = runs-same choice (Recv a octets) tt
@@ -276,6 +287,8 @@ module _ (c : Checked) (s : State) (r : Runs c s) (now : ℕ) where
   runs-event choice (Contact k position) = runs-contact k position (slice_get s.switches k)
   runs-event choice (Input k value) = runs-input k value (slice_get s.input_values k)
   runs-event choice (Measure k field value) = runs-measure k field value (slice_get s.meters k)
+  runs-event choice (BadMeasure k field) = runs-doubt k field (slice_get s.meters k)
+  runs-event choice Lost = runs-lost
   runs-event choice Scan = runs-on c (device_at now s) runs-advanced now
 
   runs-if : (b : Bool) (x y : Outcome) → Runs c x.after → Runs c y.after → Runs c (cond b x y).after

@@ -2,19 +2,25 @@
 use Rattle.std.proofs.Common.{◌≡◌, ◌+◌, ℕ, ℤ, Bool, true, false, cond, List, [], ◌∷◌, Option, Some, None, refl, ap₂, ◌∙◌}
 use Rattle.std.specs.Prelude.{pos, int_lt, ◌+ℤ◌}
 use Rattle.std.specs.Str.{bytes_eq}
-use Rattle.bay_nodes.specs.Names.{StatusNames, SwitchNames, switch_names}
+use Rattle.bay_nodes.specs.Names.{StatusNames, SwitchNames, meter_names, switch_names}
 use Rattle.bay_nodes.specs.declared.switch.Switch.{Switch}
 use Rattle.bay_base.specs.declared.point.Source.{Source}
 use Rattle.bay_base.specs.declared.point.SwitchPoint.TheVariants.{EnableOpen, EnableClose}
 use Rattle.il_image.specs.declared.value.Value.{Value}
 use Rattle.bay_tree.specs.Rows.{leaf_of, names_of, with_leaf_of}
 use Rattle.bay_tree.specs.declared.leaf.Dbpos.{Dbpos}
+use Rattle.bay_tree.specs.declared.leaf.Dbpos.TheVariants.{Bad}
 use Rattle.bay_tree.specs.declared.leaf.Leaf.{Leaf}
 use Rattle.bay_tree.specs.declared.leaf.Leaf.TheVariants as leaf
 use Rattle.bay_tree.specs.declared.leaf.Quality.{Quality}
-use Rattle.bay_tree.specs.declared.leaf.Quality.TheVariants.{Good}
+use Rattle.bay_tree.specs.declared.leaf.Quality.TheVariants.{Good, Invalid}
 use Rattle.bay_tree.specs.declared.row.Row.{Row}
-use Rattle.bay_process.specs.Values.{with_count, is_operation, operation_counted, output_of, position_quality, rows_after_change, rows_after_contact, rows_after_measure, tells, tells_measure, with_enabled, with_output, with_outputs, with_status}
+use Rattle.bay_process.specs.Names.{field_names}
+use Rattle.bay_process.specs.Values.{with_count, is_operation, operation_counted, output_of, position_quality, rows_after_change, rows_after_contact, rows_after_doubt, rows_after_measure, tells, tells_doubt, tells_measure, with_enabled, with_output, with_outputs, with_status}
+use Rattle.bay_services.specs.Accepted.{AreNamedAlike}
+use Rattle.bay_services.specs.Bay.{Bay}
+use Rattle.bay_device.specs.Device.{State, bay_of, lost_taken}
+use Rattle.bay_device.proofs.LostLemmas.{loss-passes}
 
 leaf-if : (b : Bool) (r : Row) (v : Leaf)
     → (cond b (let s : Row = record { name = r.name; leaf = Some v } in s) r).name ≡ r.name
@@ -87,6 +93,32 @@ measure-names names value now rows =
     names-if (tells_measure names value rows) (names_of rows) rows
     (with_status names (leaf.Int32 value) Good now rows) refl
     (status-names names (leaf.Int32 value) Good now rows)
+
+pub doubt-names : (names : StatusNames) (now : ℕ) (rows : List Row)
+    → names_of (rows_after_doubt names now rows) ≡ names_of rows
+doubt-names names now rows =
+    names-if (tells_doubt names rows) (names_of rows) rows _ refl
+    (leaf-names names.time (leaf.Utc now)
+    (with_leaf_of names.quality (leaf.Quality Invalid) rows)
+    ∙ leaf-names names.quality (leaf.Quality Invalid) rows)
+
+-- nor does the loss of the process
+pub alike-lost : (n : Bay) (now : ℕ) (s : State) → AreNamedAlike n (bay_of s)
+    → AreNamedAlike n (bay_of (lost_taken now s))
+alike-lost n now s alike =
+    loss-passes (λ t. AreNamedAlike n (bay_of t)) now
+    (λ k switch t p. record {
+      domain = p.domain;
+      switches = p.switches;
+      names = contact-names (switch_names t.switches k switch) Bad now t.rows ∙ p.names;
+    })
+    (λ k field t p. record {
+      domain = p.domain;
+      switches = p.switches;
+      names = doubt-names (field_names field (meter_names k)) now t.rows ∙ p.names;
+    })
+    (λ t p. record { domain = p.domain; switches = p.switches; names = p.names })
+    (λ t p. record { domain = p.domain; switches = p.switches; names = p.names }) s alike
 
 enabled-names : (names : StatusNames) (value : Bool) (now : ℕ) (rows : List Row)
     → names_of (with_enabled names value now rows) ≡ names_of rows

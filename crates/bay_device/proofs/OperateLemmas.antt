@@ -18,11 +18,11 @@ use Rattle.bay_device.specs.Device.{State, device_at, bay_of}
 use Rattle.bay_device.specs.Entries.{entries_at, entries_close, entries_closed, entries_heard, entries_octets, entries_of_event, entries_on, entries_open, entries_recv}
 use Rattle.bay_device.specs.Hearing.{Done, AllHeard, client_at, after_indications, on_heard, after_pdu, with_sent}
 use Rattle.bay_device.specs.Operates.{AreOperates, AreReplied, AreRepliedAt, IsReplied}
-use Rattle.bay_device.specs.Outcomes.{Outcome, close_outcome, connection_at, contact_outcome, event_outcome, input_outcome, last_moment, measure_outcome, nothing_done, octets_outcome, open_outcome, outcome, place_of, recv_outcome, refusal_of}
+use Rattle.bay_device.specs.Outcomes.{Outcome, close_outcome, connection_at, contact_outcome, doubt_outcome, event_outcome, input_outcome, last_moment, measure_outcome, nothing_done, octets_outcome, open_outcome, outcome, place_of, recv_outcome, refusal_of}
 use Rattle.bay_device.specs.Steps.{Steps}
 use Rattle.bay_device.specs.Told.{AreTalks, behind_one, of_answer, pdus_in, talk_at, told_closed, told_heard, told_recv, told_step}
 use Rattle.bay_device.specs.declared.event.Event.{Event}
-use Rattle.bay_device.specs.declared.event.Event.TheVariants.{Open, Recv, Close, Contact, Input, Measure, Scan}
+use Rattle.bay_device.specs.declared.event.Event.TheVariants.{Open, Recv, Close, Contact, Input, Measure, BadMeasure, Lost, Scan}
 use Rattle.bay_device.specs.declared.event.Step.{Step}
 use Rattle.bay_device.specs.declared.event.Why.{Why}
 use Rattle.bay_device.specs.declared.fault.StepFault.{StepFault}
@@ -128,6 +128,11 @@ measure-gives : (now k : ℕ) (field : MeterField) (value : ℤ) (s : State) (o 
 measure-gives now k field value s None = tt
 measure-gives now k field value s (Some id) = refl
 
+doubt-gives : (now k : ℕ) (field : MeterField) (s : State) (o : Option (List ℕ))
+    → Gives [] (doubt_outcome now k field s o).answer
+doubt-gives now k field s None = tt
+doubt-gives now k field s (Some id) = refl
+
 event-gives : (choice : Option ℕ) (now : ℕ) (event : Event) (s : State)
     → Gives (entries_of_event choice now event s) (event_outcome choice now event s).answer
 event-gives choice now (Open a) s =
@@ -141,6 +146,9 @@ event-gives choice now (Input k value) s =
     input-gives now k value s (slice_get s.input_values k)
 event-gives choice now (Measure k field value) s =
     measure-gives now k field value s (slice_get s.meters k)
+event-gives choice now (BadMeasure k field) s =
+    doubt-gives now k field s (slice_get s.meters k)
+event-gives choice now Lost s = refl
 event-gives choice now Scan s = refl
 
 gives-if : (b : Bool) (xs ys : List Entry) (x y : Outcome) → Gives xs x.answer → Gives ys y.answer
@@ -271,6 +279,8 @@ replied-step now (Close a) n talks step is = is
 replied-step now (Contact k position) n talks step is = is
 replied-step now (Input k value) n talks step is = is
 replied-step now (Measure k field value) n talks step is = is
+replied-step now (BadMeasure k field) n talks step is = is
+replied-step now Lost n talks step is = is
 replied-step now Scan n talks step is = is
 
 -- ---- steps

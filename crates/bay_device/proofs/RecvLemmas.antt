@@ -9,7 +9,7 @@ use Rattle.bay_device.specs.HearingViews.{ComesTo}
 use Rattle.bay_device.specs.Outcomes.{Outcome, closed_by, connection_at, event_outcome, last_moment, nothing_done, outcome, place_of, quiet_step, refusal_of, recv_after, recv_done, recv_outcome, with_connection, without_owner}
 use Rattle.bay_device.specs.Steps.{IsOutcome, HearsFrom, IsWithoutOctets, Receives, Steps}
 use Rattle.bay_device.specs.declared.event.Event.{Event}
-use Rattle.bay_device.specs.declared.event.Event.TheVariants.{Open, Recv, Close, Contact, Input, Measure, Scan}
+use Rattle.bay_device.specs.declared.event.Event.TheVariants.{Open, Recv, Close, Contact, Input, Measure, BadMeasure, Lost, Scan}
 use Rattle.bay_device.specs.declared.fault.StepFault.TheVariants.{MomentTooLarge, TimeWentBack}
 use Rattle.bay_device.specs.declared.event.Sent.{Sent}
 use Rattle.bay_device.specs.declared.event.Step.{Step}
@@ -138,6 +138,8 @@ one-event choice now (Close a) s h = refl
 one-event choice now (Contact k position) s h = refl
 one-event choice now (Input k value) s h = refl
 one-event choice now (Measure k field value) s h = refl
+one-event choice now (BadMeasure k field) s h = refl
+one-event choice now Lost s h = refl
 one-event choice now Scan s h = refl
 
 pub one-outcome : (now : ℕ) (event : Event) (s : State) (answer : Result Step StepFault)

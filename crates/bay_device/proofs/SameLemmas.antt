@@ -13,7 +13,7 @@ use Rattle.bay_device.specs.Hearing.{AllHeard, Done, after_indications, after_pd
 use Rattle.bay_device.specs.Outcomes.{Outcome, close_outcome, connection_at, event_outcome, first_talk, last_moment, nothing_done, octets_outcome, open_outcome, outcome, place_of, recv_after, recv_outcome, refusal_of, with_connection, without_owner}
 use Rattle.bay_device.specs.Steps.{OfAssociation}
 use Rattle.bay_device.specs.declared.event.Event.{Event}
-use Rattle.bay_device.specs.declared.event.Event.TheVariants.{Open, Recv, Close, Contact, Input, Measure, Scan}
+use Rattle.bay_device.specs.declared.event.Event.TheVariants.{Open, Recv, Close, Contact, Input, Measure, BadMeasure, Lost, Scan}
 use Rattle.bay_device.specs.declared.event.Why.{Why}
 use Rattle.bay_device.specs.declared.fault.StepFault.TheVariants.{MomentTooLarge, TimeWentBack}
 
@@ -27,6 +27,7 @@ pub record Parts : Type 0 where
   pub inputs : List Bool
   pub scans : Option ℕ
   pub stale : Bool
+  pub lost : Bool
   pub age : ℕ
 
 abbrev pub parts_of : State → Parts
@@ -40,6 +41,7 @@ parts_of s = record {
   inputs = s.input_values;
   scans = s.last_scan;
   stale = s.is_stale;
+  lost = s.is_lost;
   age = s.scan_max_age_ms;
 }
 
@@ -130,6 +132,8 @@ module _ (now : ℕ) (s : State) where
   same-event choice (Contact k position) of = absurd of
   same-event choice (Input k value) of = absurd of
   same-event choice (Measure k field value) of = absurd of
+  same-event choice (BadMeasure k field) of = absurd of
+  same-event choice Lost of = absurd of
   same-event choice Scan of = absurd of
 
   -- where a moment may refuse the event

@@ -30,20 +30,21 @@ use Rattle.bay_services.specs.Entries.{entries_in}
 use Rattle.bay_services.specs.declared.client.Client.{Client}
 use Rattle.bay_services.proofs.AcceptedLemmas.{alike-after, alike-still, none-read, none-written, response-tells}
 use Rattle.bay_services.proofs.ShortLemmas.{AreShort, answer-short}
-use Rattle.bay_device.specs.Device.{State, device_at, bay_of, ran_at}
+use Rattle.bay_device.specs.Device.{State, device_at, bay_of, lost_taken, ran_at}
 use Rattle.bay_device.specs.Entries.{IsIdle, Leading, opens, entries_at, entries_close, entries_closed, entries_heard, entries_octets, entries_of_event, entries_on, entries_open, entries_recv}
 use Rattle.bay_device.specs.Hearing.{Done, AllHeard, client_at, after_indications, on_heard, after_pdu, sent_on, size_of, with_sent}
-use Rattle.bay_device.specs.Outcomes.{Outcome, close_outcome, without_connection, closed_by, connection_at, contact_outcome, event_outcome, first_talk, input_outcome, last_moment, measure_outcome, nothing_done, octets_outcome, open_outcome, outcome, place_of, refusal_of, recv_after, recv_outcome, with_connection, without_owner}
+use Rattle.bay_device.specs.Outcomes.{Outcome, close_outcome, without_connection, closed_by, connection_at, contact_outcome, doubt_outcome, event_outcome, first_talk, input_outcome, last_moment, lost_outcome, measure_outcome, nothing_done, octets_outcome, open_outcome, outcome, place_of, refusal_of, recv_after, recv_outcome, with_connection, without_owner}
 use Rattle.bay_device.specs.Told.{AreTalks, Telling, of_answer, pdus_in, talk_at, talk_behind, talks_answer, talks_heard, talks_step, told_answer, told_closed, told_heard, told_recv, told_step, with_talk}
 use Rattle.bay_device.specs.declared.event.Event.{Event}
-use Rattle.bay_device.specs.declared.event.Event.TheVariants.{Open, Recv, Close, Contact, Input, Measure, Scan}
+use Rattle.bay_device.specs.declared.event.Event.TheVariants.{Open, Recv, Close, Contact, Input, Measure, BadMeasure, Lost, Scan}
 use Rattle.bay_device.specs.declared.event.Sent.{Sent}
 use Rattle.bay_device.specs.declared.event.Step.{Step}
 use Rattle.bay_device.specs.declared.event.Why.{Why}
 use Rattle.bay_device.specs.declared.fault.StepFault.{StepFault}
 use Rattle.bay_device.specs.declared.fault.StepFault.TheVariants.{MomentTooLarge, TimeWentBack}
 use Rattle.bay_device.proofs.EntryLemmas.{heard-connected}
-use Rattle.bay_device.proofs.NameLemmas.{contact-names, measure-names, outputs-names}
+use Rattle.bay_device.proofs.LostLemmas.{Fixed, lost-fixed}
+use Rattle.bay_device.proofs.NameLemmas.{alike-lost, doubt-names, contact-names, measure-names, outputs-names}
 use Rattle.bay_device.proofs.SentLemmas.{read-back}
 use Rattle.bay_device.proofs.TalkLemmas.{CanAnswer, CanAnswerAll, IsOpen, can-answer, sized-behind}
 
@@ -409,6 +410,34 @@ module _ (n : Bay) (now : ℕ) (s : State) (alike : AreNamedAlike n (bay_of s))
         sized = sized;
       }
 
+  doubt-told : (k : ℕ) (field : MeterField) (o : Option (List ℕ))
+      → IsTold n talks (told_step now (BadMeasure k field) n talks)
+      (talks_step (BadMeasure k field) talks) (doubt_outcome now k field s o) []
+  doubt-told k field None = record { told = refl; left = refl; alike = alike; sized = sized }
+  doubt-told k field (Some id) = record {
+    told = refl;
+    left = refl;
+    alike = record {
+      domain = alike-advanced.domain;
+      switches = alike-advanced.switches;
+      names = doubt-names (field_names field (meter_names k)) now s.rows ∙ alike-advanced.names;
+    };
+    sized = sized;
+  }
+
+  lost-told : IsTold n talks (told_step now Lost n talks) (talks_step Lost talks)
+      (lost_outcome now s) []
+  lost-told =
+      let t : State = device_at now s in
+      let left : (lost_taken now t).connections ≡ talks =
+      ap (λ (f : Fixed). f.connections) (lost-fixed now t) in
+      record {
+        told = refl;
+        left = left;
+        alike = alike-lost n now t alike-advanced;
+        sized = subst AreTalks (sym left) sized;
+      }
+
   scan-told : IsTold n talks (told_step now Scan n talks) (talks_step Scan talks)
       (event_outcome None now Scan s) []
   scan-told =
@@ -436,6 +465,8 @@ module _ (n : Bay) (now : ℕ) (s : State) (alike : AreNamedAlike n (bay_of s))
   event-told choice (Contact k position) = contact-told k position (slice_get s.switches k)
   event-told choice (Input k value) = input-told k value (slice_get s.input_values k)
   event-told choice (Measure k field value) = measure-told k field value (slice_get s.meters k)
+  event-told choice (BadMeasure k field) = doubt-told k field (slice_get s.meters k)
+  event-told choice Lost = lost-told
   event-told choice Scan = scan-told
 
   told-if : (b : Bool) (f : Step → List Entry) (g : Step → List (Option Talk)) (x y : Outcome)

@@ -1,5 +1,5 @@
 -- When a device issues a command.
-use Rattle.std.specs.Prelude.{ℕ, ◌≡◌, ◌≢◌, ◌≤◌, true, [], length, All, None, Result, IfOk}
+use Rattle.std.specs.Prelude.{ℕ, ◌≡◌, ◌≢◌, ◌≤◌, true, false, [], length, All, None, Result, IfOk}
 use Rattle.bay_tree.specs.Rows.{leaf_of}
 use Rattle.bay_process.specs.Values.{is_truth}
 use Rattle.bay_control.specs.Decisions as control
@@ -10,9 +10,11 @@ use Rattle.bay_device.specs.declared.event.Event.{Event}
 use Rattle.bay_device.specs.declared.event.Step.{Step}
 use Rattle.bay_device.specs.declared.fault.StepFault.{StepFault}
 
--- A switch is operated at a moment while the last scan is fresh, its interlocking value (EnaOpn for
--- Open, EnaCls for Close) is TRUE in the tree, and no switch of the bay is operating.
+-- A switch is operated at a moment while the process is not lost, the last scan is fresh, its
+-- interlocking value (EnaOpn for Open, EnaCls for Close) is TRUE in the tree, and no switch of the
+-- bay is operating.
 pub record IsReleasedAt (now : ℕ) (s : State) (command : Command) : Type 0 where
+  pub heard : s.is_lost ≡ false
   pub fresh : is_fresh now s ≡ true
   pub enabled : is_truth true (leaf_of (releasing command.switch command.operation) s.rows) ≡ true
   pub idle : (control.controls_at now s.controls).execution ≡ None

@@ -1,13 +1,15 @@
 -- What a device is: its bay, the program that interlocks it, and its clients; and what is done to
 -- it that no client asks for (IEC 61850-7-4: XCBR, XSWI, CSWI, CILO and MMXU; IEC 61850-7-3: status
 -- values and measured values).
-use Rattle.std.specs.Prelude.{ℕ, ℤ, ◌-◌, Bool, false, not, ◌&&◌, ◌||◌, nat_le, List, [], length, map, slice_get, slice_set, unwrap_or, Option, None, Some, if◌then◌else◌}
+use Rattle.std.specs.Prelude.{ℕ, ℤ, ◌+◌, ◌-◌, Bool, true, false, not, ◌&&◌, ◌||◌, nat_le, List, [], ◌∷◌, length, map, position, slice_get, slice_set, unwrap_or, Option, None, Some, is_some, if◌then◌else◌}
 use Rattle.std.specs.Bool.{beq}
 use Rattle.bay_tree.specs.declared.row.Row.{Row}
 use Rattle.bay_tree.specs.declared.leaf.Dbpos.{Dbpos}
+use Rattle.bay_tree.specs.declared.leaf.Dbpos.TheVariants.{Bad}
 use Rattle.bay_nodes.specs.declared.switch.Switch.{Switch}
 use Rattle.bay_nodes.specs.Names.{switch_names, meter_names}
 use Rattle.bay_base.specs.declared.point.MeterField.{MeterField}
+use Rattle.bay_base.specs.declared.point.MeterField.TheVariants.{TotW, TotVAr, Hz, PhaseA, PhaseB, PhaseC}
 use Rattle.bay_base.specs.declared.point.Source.{Source}
 use Rattle.bay_base.specs.declared.point.Source.TheVariants as source
 use Rattle.il_image.specs.Machine.{Ending, Halted, Trapped, Unfinished, run_from}
@@ -16,7 +18,7 @@ use Rattle.il_image.specs.declared.value.Value.{Value}
 use Rattle.il_image.specs.declared.value.Value.TheVariants.{Truth, Long}
 use Rattle.il_scan.specs.Scans.{Held, outputs_of, scan_start}
 use Rattle.bay_process.specs.Names.{field_names}
-use Rattle.bay_process.specs.Values.{measure_leaf, number_of_leaf, position_leaf, position_value, rows_after_contact, rows_after_measure, tells, tells_measure, with_outputs}
+use Rattle.bay_process.specs.Values.{measure_leaf, number_of_leaf, position_leaf, position_value, rows_after_contact, rows_after_doubt, rows_after_measure, tells, tells_doubt, tells_measure, with_outputs}
 use Rattle.bay_control.specs.Decisions as control
 use Rattle.bay_control.specs.Decisions.{after_contact, is_done, run_out}
 use Rattle.bay_connection.specs.Talk.{Talk}
@@ -28,9 +30,9 @@ use Rattle.bay_device.specs.declared.event.Sent.{Sent}
 -- inputs, the ids of its meters; what the points stand for that its program only reads, and those
 -- that it may write, each in the order of the program's points; the machine that runs the program:
 -- its image, its slots and its timers; the rows of its tree; the moment of the last accepted event;
--- the last scan: its moment, and whether what it read has changed since; its controls; what will
--- tell a client of the end of what is operating; and for each of its eight associations what the
--- octets of the client have left, if it is open
+-- the last scan: its moment, and whether what it read has changed since; whether the process is
+-- lost; its controls; what will tell a client of the end of what is operating; and for each of its
+-- eight associations what the octets of the client have left, if it is open
 pub record State : Type 0 where
   pub domain : List ℕ
   pub vendor : List ℕ
@@ -48,6 +50,7 @@ pub record State : Type 0 where
   pub moment : ℕ
   pub last_scan : Option ℕ
   pub is_stale : Bool
+  pub is_lost : Bool
   pub controls : control.State
   pub due : Option Due
   pub connections : List (Option Talk)
@@ -128,7 +131,8 @@ device_at now s =
 abbrev pub ended_at : ℕ → State → Option Sent
 ended_at now s = missed_if (over_at now s) s.due
 
--- ---- contacts, inputs and measures: one that changes value or quality makes the last scan stale
+-- ---- contacts, inputs and measures: one that changes value or quality makes the last scan stale,
+-- and a process of which anything is heard is not lost
 
 -- a contact of a switch; one that gives the position that is asked for ends the switch's execution
 abbrev pub contact_taken : ℕ → ℕ → Switch → Dbpos → State → State
@@ -137,6 +141,7 @@ contact_taken now k switch position s =
     record s {
       rows = rows_after_contact names position now s.rows;
       is_stale = s.is_stale || not (tells names.position position s.rows);
+      is_lost = false;
       controls = after_contact k position s.controls;
       due = if is_done k position s.controls.execution then None else s.due;
     }
@@ -152,6 +157,7 @@ input_taken k value before s =
     record s {
       input_values = slice_set s.input_values k value;
       is_stale = s.is_stale || not (beq value before);
+      is_lost = false;
     }
 
 -- a measured value of a meter
@@ -161,7 +167,52 @@ measure_taken now k field value s =
     record s {
       rows = rows_after_measure names value now s.rows;
       is_stale = s.is_stale || not (tells_measure names value s.rows);
+      is_lost = false;
     }
+
+-- a measured value of a meter is in doubt
+abbrev pub doubt_taken : ℕ → ℕ → MeterField → State → State
+doubt_taken now k field s =
+    let names = field_names field (meter_names k) in
+    record s {
+      rows = rows_after_doubt names now s.rows;
+      is_stale = s.is_stale || not (tells_doubt names s.rows);
+      is_lost = false;
+    }
+
+-- ---- the process is lost: nothing that it told is to be trusted
+
+-- the positions of the switches from place k on are bad
+abbrev pub positions_lost : ℕ → ℕ → List Switch → State → State
+positions_lost now k [] s = s
+positions_lost now k (switch ∷ switches) s =
+    positions_lost now (k + 1) switches (contact_taken now k switch Bad s)
+
+-- all inputs are FALSE, and where one was TRUE the last scan is stale
+abbrev pub inputs_lost : State → State
+inputs_lost s =
+    record s {
+      input_values = map (λ _. false) s.input_values;
+      is_stale = s.is_stale || is_some (position (λ value. value) s.input_values);
+    }
+
+-- all measured values of a meter are in doubt
+abbrev pub meter_lost : ℕ → ℕ → State → State
+meter_lost now k s =
+    doubt_taken now k PhaseC (doubt_taken now k PhaseB (doubt_taken now k PhaseA
+    (doubt_taken now k Hz (doubt_taken now k TotVAr (doubt_taken now k TotW s)))))
+
+-- those of the meters from place k on
+abbrev pub measures_lost : ℕ → ℕ → List (List ℕ) → State → State
+measures_lost now k [] s = s
+measures_lost now k (id ∷ ids) s = measures_lost now (k + 1) ids (meter_lost now k s)
+
+-- Each position is bad, each input FALSE and each measured value in doubt, and nothing was heard
+-- since.
+abbrev pub lost_taken : ℕ → State → State
+lost_taken now s =
+    record (measures_lost now 0 s.meters (inputs_lost (positions_lost now 0 s.switches s)))
+    { is_lost = true }
 
 -- ---- scans
 

@@ -11,7 +11,7 @@ use Rattle.bay_device.specs.Hearing.{Done, client_at, after_indications, after_p
 use Rattle.bay_device.specs.Outcomes.{associations, connection_at, last_moment, nothing_done, place_of}
 use Rattle.bay_device.specs.Steps.{Steps}
 use Rattle.bay_device.specs.declared.event.Event.{Event}
-use Rattle.bay_device.specs.declared.event.Event.TheVariants.{Open, Recv, Close, Contact, Input, Measure, Scan}
+use Rattle.bay_device.specs.declared.event.Event.TheVariants.{Open, Recv, Close, Contact, Input, Measure, BadMeasure, Lost, Scan}
 use Rattle.bay_device.specs.declared.event.Step.{Step}
 use Rattle.bay_device.specs.declared.event.Why.{Why}
 use Rattle.bay_device.specs.declared.fault.StepFault.{StepFault}
@@ -89,6 +89,8 @@ entries_of_event choice now (Close a) s = entries_close now a (connection_at (pl
 entries_of_event choice now (Contact k position) s = []
 entries_of_event choice now (Input k value) s = []
 entries_of_event choice now (Measure k field value) s = []
+entries_of_event choice now (BadMeasure k field) s = []
+entries_of_event choice now Lost s = []
 entries_of_event choice now Scan s = []
 
 -- Of an event at a moment, with the free choice of its outcome. A refused event asks for nothing.

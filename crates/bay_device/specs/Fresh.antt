@@ -1,7 +1,7 @@
 -- What stands behind a command: a scan that is not too old, since which no contact, no input and no
--- measure has changed. It is said of what the process tells after each event, and nothing here
--- looks at what a device notes of its scans.
-use Rattle.std.specs.Prelude.{ℕ, ◌≡◌, ◌≢◌, ◌+◌, ◌≤◌, All, List, [], ◌∷◌, ◌++◌, Result, IfOk, IsOk}
+-- measure has changed; and a process that is not lost. It is said of what the process tells after
+-- each event, and nothing here looks at what a device notes of its scans and of a loss.
+use Rattle.std.specs.Prelude.{ℕ, ◌≡◌, ◌≢◌, ◌+◌, ◌≤◌, Bool, true, false, if◌then◌else◌, is_ok, All, List, [], ◌∷◌, ◌++◌, Result, IfOk, IsOk}
 use Rattle.bay_config.specs.declared.bay.Bay.{Bay}
 use Rattle.bay_base.specs.declared.point.MeterField.{MeterField}
 use Rattle.bay_nodes.specs.Names.{StatusNames, meter_names, position_names}
@@ -15,7 +15,7 @@ use Rattle.bay_device.specs.Device.{State}
 use Rattle.bay_device.specs.Load.{initial_device}
 use Rattle.bay_device.specs.Steps.{Steps}
 use Rattle.bay_device.specs.declared.event.Event.{Event}
-use Rattle.bay_device.specs.declared.event.Event.TheVariants.{Scan}
+use Rattle.bay_device.specs.declared.event.Event.TheVariants.{Open, Recv, Close, Contact, Input, Measure, BadMeasure, Lost, Scan}
 use Rattle.bay_device.specs.declared.event.Step.{Step}
 use Rattle.bay_device.specs.declared.fault.StepFault.{StepFault}
 
@@ -51,10 +51,31 @@ Came [] s = (bay : Bay) × (image : Image) × (s ≡ initial_device bay image)
 Came (p ∷ past) s = (s ≡ p.after)
     × ((before : State) × Came past before × Steps p.now p.event before p.answer p.after)
 
+-- ---- a process that is lost
+
+-- whether anything was heard of the process since it was lost, behind an event that was accepted
+abbrev pub heard_after : Event → Bool → Bool
+heard_after (Open a) before = before
+heard_after (Recv a octets) before = before
+heard_after (Close a) before = before
+heard_after (Contact k position) before = true
+heard_after (Input k value) before = true
+heard_after (Measure k field value) before = true
+heard_after (BadMeasure k field) before = true
+heard_after Lost before = false
+heard_after Scan before = before
+
+-- Behind these events, the last of them first, the process is not lost: since the last loss of it,
+-- if there was one, a contact, an input, a measured value or a doubt of one was accepted.
+abbrev pub is_heard : List Past → Bool
+is_heard [] = true
+is_heard (p ∷ past) =
+    if is_ok p.answer then heard_after p.event (is_heard past) else is_heard past
+
 -- ---- commands
 
 -- Among these events is a scan that was done, at most so many milliseconds before a moment; after
--- each event since, the process tells what it told after the scan.
+-- each event since, the process tells what it told after the scan; and behind them it is not lost.
 pub record HasScan (now age : ℕ) (past : List Past) : Type 0 where
   pub since : List Past
   pub scan : Past
@@ -64,6 +85,7 @@ pub record HasScan (now age : ℕ) (past : List Past) : Type 0 where
   pub done : IsOk scan.answer
   pub recent : now ≤ scan.now + age
   pub unchanged : All (λ (p : Past). IsSameProcess scan.after p.after) since
+  pub heard : is_heard past ≡ true
 
 -- A step at a moment has a command only where there is such a scan.
 abbrev pub IsFresh : ℕ → ℕ → List Past → Result Step StepFault → Type 0

@@ -42,6 +42,7 @@ client_at now a terms s =
       association = a;
       size = size_of (association_terms terms.phase);
       now = now;
+      lost = s.is_lost;
       fresh = is_fresh now s;
     }
 

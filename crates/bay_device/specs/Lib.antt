@@ -19,7 +19,7 @@
 -- Of commands: `Commands`: each is issued after a fresh scan whose EnaCls or EnaOpn is TRUE, while
 -- no switch operates. `Operates`: it is an operate that a PDU asked for and a response accepted,
 -- where responses belong to PDUs by their order. `Fresh`: behind it stands a scan, not too old, since which nothing that the
--- process tells has changed. `Entries`: what was asked of controls and accepted, with the device;
+-- process tells has changed, and the process is not lost. `Entries`: what was asked of controls and accepted, with the device;
 -- `Told`: the same by events and answers alone, through the layers of transport, session and
 -- presentation. `Backing` of bay_control is said over these. `Report`: instructions, depth and
 -- budget of a program. `LookUps`, `Table`: places of names. `Code` numbers the faults. `StateView`,

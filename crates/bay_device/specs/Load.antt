@@ -49,6 +49,7 @@ initial_device bay image = record {
   moment = 0;
   last_scan = None;
   is_stale = false;
+  is_lost = false;
   controls = initial (controls_of bay.switches);
   due = None;
   connections = replicate associations None;

@@ -11,7 +11,7 @@ use Rattle.bay_services.specs.declared.answer.Command.{Command}
 use Rattle.bay_device.specs.Outcomes.{place_of}
 use Rattle.bay_device.specs.Told.{pdus_in, talk_at, talks_answer, told_step}
 use Rattle.bay_device.specs.declared.event.Event.{Event}
-use Rattle.bay_device.specs.declared.event.Event.TheVariants.{Open, Recv, Close, Contact, Input, Measure, Scan}
+use Rattle.bay_device.specs.declared.event.Event.TheVariants.{Open, Recv, Close, Contact, Input, Measure, BadMeasure, Lost, Scan}
 use Rattle.bay_device.specs.declared.event.Step.{Step}
 use Rattle.bay_device.specs.declared.fault.StepFault.{StepFault}
 
@@ -42,6 +42,8 @@ AreRepliedAt now (Close a) names talks step = step.commands ≡ []
 AreRepliedAt now (Contact k position) names talks step = step.commands ≡ []
 AreRepliedAt now (Input k value) names talks step = step.commands ≡ []
 AreRepliedAt now (Measure k field value) names talks step = step.commands ≡ []
+AreRepliedAt now (BadMeasure k field) names talks step = step.commands ≡ []
+AreRepliedAt now Lost names talks step = step.commands ≡ []
 AreRepliedAt now Scan names talks step = step.commands ≡ []
 
 -- The commands of a step are the operates that are accepted in what the event and the answer tell,

@@ -7,11 +7,11 @@ use Rattle.bay_transport.specs.Doings.{start}
 use Rattle.bay_assoc.specs.declared.hearing.Phase.TheVariants.{Idle}
 use Rattle.bay_control.specs.Decisions.{without_association}
 use Rattle.bay_connection.specs.Talk.{Talk, indications, left_by}
-use Rattle.bay_device.specs.Device.{State, device_at, contact_taken, ended_at, input_taken, measure_taken, ran_at, reached_at, after_scan}
+use Rattle.bay_device.specs.Device.{State, device_at, contact_taken, doubt_taken, ended_at, input_taken, lost_taken, measure_taken, ran_at, reached_at, after_scan}
 use Rattle.bay_device.specs.Hearing.{Done, AllHeard, after_indications}
 use Rattle.bay_device.specs.declared.due.Due.{Due}
 use Rattle.bay_device.specs.declared.event.Event.{Event}
-use Rattle.bay_device.specs.declared.event.Event.TheVariants.{Open, Recv, Close, Contact, Input, Measure, Scan}
+use Rattle.bay_device.specs.declared.event.Event.TheVariants.{Open, Recv, Close, Contact, Input, Measure, BadMeasure, Lost, Scan}
 use Rattle.bay_device.specs.declared.event.Sent.{Sent}
 use Rattle.bay_device.specs.declared.event.Step.{Step}
 use Rattle.bay_device.specs.declared.event.Why.{Why}
@@ -64,6 +64,15 @@ abbrev pub measure_outcome : ℕ → ℕ → MeterField → ℤ → State → Op
 measure_outcome now k field value s None = refusal_of NoSuchPoint s
 measure_outcome now k field value s (Some id) =
     quiet (ended_at now s) (measure_taken now k field value (device_at now s))
+
+abbrev pub doubt_outcome : ℕ → ℕ → MeterField → State → Option (List ℕ) → Outcome
+doubt_outcome now k field s None = refusal_of NoSuchPoint s
+doubt_outcome now k field s (Some id) =
+    quiet (ended_at now s) (doubt_taken now k field (device_at now s))
+
+-- the process is lost
+abbrev pub lost_outcome : ℕ → State → Outcome
+lost_outcome now s = quiet (ended_at now s) (lost_taken now (device_at now s))
 
 abbrev pub scan_outcome : ℕ → State → Outcome
 scan_outcome now s = record {
@@ -180,6 +189,9 @@ event_outcome choice now (Input k value) s =
     input_outcome now k value s (slice_get s.input_values k)
 event_outcome choice now (Measure k field value) s =
     measure_outcome now k field value s (slice_get s.meters k)
+event_outcome choice now (BadMeasure k field) s =
+    doubt_outcome now k field s (slice_get s.meters k)
+event_outcome choice now Lost s = lost_outcome now s
 event_outcome choice now Scan s = scan_outcome now s
 
 -- the last moment that a time stamp can tell

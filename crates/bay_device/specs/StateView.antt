@@ -25,6 +25,7 @@ state_view connections d = record {
   moment = d.moment;
   last_scan = d.last_scan;
   is_stale = d.is_stale;
+  is_lost = d.is_lost;
   controls = controls_left d.bay d.bay.controls;
   due = d.due;
   connections = connections;

@@ -5,7 +5,7 @@ use Rattle.bay_device.specs.Device.{State}
 use Rattle.bay_device.specs.Hearing.{after_indications}
 use Rattle.bay_device.specs.Outcomes.{Outcome, connection_at, nothing_done, outcome, place_of, quiet_step, recv_done, recv_outcome}
 use Rattle.bay_device.specs.declared.event.Event.{Event}
-use Rattle.bay_device.specs.declared.event.Event.TheVariants.{Open, Recv, Close, Contact, Input, Measure, Scan}
+use Rattle.bay_device.specs.declared.event.Event.TheVariants.{Open, Recv, Close, Contact, Input, Measure, BadMeasure, Lost, Scan}
 use Rattle.bay_device.specs.declared.event.Sent.{Sent}
 use Rattle.bay_device.specs.declared.event.Step.{Step}
 use Rattle.bay_device.specs.declared.fault.StepFault.{StepFault}
@@ -64,6 +64,8 @@ OfAssociation (Close a) = Unit {0}
 OfAssociation (Contact k position) = ⊥
 OfAssociation (Input k value) = ⊥
 OfAssociation (Measure k field value) = ⊥
+OfAssociation (BadMeasure k field) = ⊥
+OfAssociation Lost = ⊥
 OfAssociation Scan = ⊥
 
 -- an event that brings no octets takes no memory
@@ -74,6 +76,8 @@ IsWithoutOctets (Close a) = Unit {0}
 IsWithoutOctets (Contact k position) = Unit {0}
 IsWithoutOctets (Input k value) = Unit {0}
 IsWithoutOctets (Measure k field value) = Unit {0}
+IsWithoutOctets (BadMeasure k field) = Unit {0}
+IsWithoutOctets Lost = Unit {0}
 IsWithoutOctets Scan = Unit {0}
 
 -- A list of events is answered so, one after the other, and leaves this; and each of them does what

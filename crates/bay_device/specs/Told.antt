@@ -19,7 +19,7 @@ use Rattle.bay_device.specs.Device.{State, bay_of}
 use Rattle.bay_device.specs.Entries.{opens, entries_of_act}
 use Rattle.bay_device.specs.Outcomes.{first_talk, place_of}
 use Rattle.bay_device.specs.declared.event.Event.{Event}
-use Rattle.bay_device.specs.declared.event.Event.TheVariants.{Open, Recv, Close, Contact, Input, Measure, Scan}
+use Rattle.bay_device.specs.declared.event.Event.TheVariants.{Open, Recv, Close, Contact, Input, Measure, BadMeasure, Lost, Scan}
 use Rattle.bay_device.specs.declared.event.Sent.{Sent}
 use Rattle.bay_device.specs.declared.event.Step.{Step}
 use Rattle.bay_device.specs.declared.event.Why.{Why}
@@ -116,6 +116,8 @@ told_step now (Close a) names talks step = entries_of_act now (Closed a)
 told_step now (Contact k position) names talks step = []
 told_step now (Input k value) names talks step = []
 told_step now (Measure k field value) names talks step = []
+told_step now (BadMeasure k field) names talks step = []
+told_step now Lost names talks step = []
 told_step now Scan names talks step = []
 
 -- what the octets of an association leave of its talk, where there are any
@@ -140,6 +142,8 @@ talks_step (Close a) talks step = with_talk (place_of a) None talks
 talks_step (Contact k position) talks step = talks
 talks_step (Input k value) talks step = talks
 talks_step (Measure k field value) talks step = talks
+talks_step (BadMeasure k field) talks step = talks
+talks_step Lost talks step = talks
 talks_step Scan talks step = talks
 
 -- a refused event asks for nothing, and leaves each talk as it is

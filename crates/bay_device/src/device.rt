@@ -9,6 +9,7 @@ ghost use Rattle.il_check.specs.Program.{Checked};
 ghost use Rattle.il_image.specs.Images.{image_octets};
 ghost use Rattle.il_image.specs.declared.opcode.Version.TheVariants.{Two};
 ghost use Rattle.bay_device.specs.Commands.{CommandedAt, IsSingle};
+ghost use Rattle.bay_device.specs.Device as spec_device;
 ghost use Rattle.bay_device.specs.Device.{bay_of};
 ghost use Rattle.bay_device.specs.Entries.{Leading};
 ghost use Rattle.bay_device.specs.Fresh.{FreshAt};
@@ -22,7 +23,7 @@ ghost use Rattle.bay_device.specs.StateView.{state_view};
 ghost use Rattle.bay_device.specs.Steps.{EachStep, IsOutcome, Hears, IsWithoutOctets, Receives, Steps};
 ghost use Rattle.bay_device.specs.Told.{AreTalks, Telling, told_all};
 ghost use Rattle.bay_tree.specs.declared.leaf.Leaf.TheVariants as leaf;
-ghost use Rattle.bay_device.specs.declared.event.Event.TheVariants.{Open, Recv, Close, Contact, Input, Measure, Scan};
+ghost use Rattle.bay_device.specs.declared.event.Event.TheVariants.{Open, Recv, Close, Contact, Input, Measure, BadMeasure, Lost, Scan};
 
 use crate::connections::Connections;
 use crate::due::forget;
@@ -265,6 +266,23 @@ impl Device {
         Ok(self.quiet(ended))
     }
 
+    // A field of the meter at a place is not to be trusted.
+    fn bad_measure(&mut self, now: u64, meter: usize, field: MeterField) -> Result<Step, StepFault>
+        ensures { IsOutcome (event_outcome None now (BadMeasure meter field) self.old) result
+            self.new }
+    {
+        let ended = self.state.bad_measure(now, meter, field)?;
+        Ok(self.quiet(ended))
+    }
+
+    // The process is lost.
+    fn lose(&mut self, now: u64) -> Result<Step, StepFault>
+        ensures { IsOutcome (event_outcome None now Lost self.old) result self.new }
+    {
+        let ended = self.state.lose(now);
+        Ok(self.quiet(ended))
+    }
+
     // The program runs once.
     fn scan(&mut self, now: u64) -> Result<Step, StepFault>
         ensures gives { IsOutcome (event_outcome None now Scan self.old) result self.new }
@@ -312,6 +330,8 @@ impl Device {
                 field,
                 value,
             } => self.measure(now, meter, field, value),
+            Event::BadMeasure { meter, field } => self.bad_measure(now, meter, field),
+            Event::Lost => self.lose(now),
             Event::Scan => self.scan(now),
         }
     }
@@ -330,16 +350,16 @@ impl Device {
         // an event without octets has none, and takes no memory.
         ensures sure { IsWithoutOctets event.entry
             → IsOutcome (outcome None now event.entry self.old) result self.new }
-        // Each command is one that the interlocking releases, on a fresh scan, while no switch is
-        // operating, and something is sent with it.
+        // Each command is one that the interlocking releases, on a fresh scan, while the process is
+        // not lost and no switch is operating, and something is sent with it.
         ensures commanded { CommandedAt now event.entry self.old result self.new }
         // They are the operates that are accepted in what the octets of the event and of its
         // answer tell, in their order. What is sent answers what was heard in the same order.
         ensures operates { (names : Bay) → AreNamedAlike names (bay_of self.old)
             → AreTalks self.old.connections
             → IfOk result (AreOperates now event.entry names self.old.connections) }
-        // Behind them is a scan that is not too old, since which the process has not changed,
-        // among the events since load.
+        // Behind them is a scan that is not too old, since which the process has not changed, among
+        // the events since load, and behind these the process is not lost.
         ensures fresh { FreshAt now event.entry self.old result self.new }
         // There is one at most.
         ensures single { IsSingle result }
@@ -371,12 +391,12 @@ impl Device {
         ensures ok { IfOk result
             (λ answers. EachStep HaltsAt events.now self.old answers.items self.new) }
         ensures err { OnErr result (self.new ≡ self.old) }
-        // each command is one that the interlocking releases, on a fresh scan, while no switch is
-        // operating, and something is sent with it;
+        // each command is one that the interlocking releases, on a fresh scan, while the process is
+        // not lost and no switch is operating, and something is sent with it;
         ensures commanded { IfOk result
             (λ answers. EachStep CommandedAt events.now self.old answers.items self.new) }
         // behind it is a scan that is not too old, since which the process has not changed, among
-        // the events since load;
+        // the events since load, and behind these the process is not lost;
         ensures fresh { IfOk result
             (λ answers. EachStep FreshAt events.now self.old answers.items self.new) }
         // there is one at most for each event;
@@ -409,6 +429,35 @@ impl Device {
         ensures { result ≡ self.now.moment }
     {
         self.state.moment
+    }
+
+    /// Returns whether the process is lost: nothing was heard of it since it was.
+    pub fn is_lost(&self) -> bool
+        ensures { result ≡ self.now.is_lost }
+    {
+        self.state.is_lost
+    }
+
+    /// Returns the name of the domain, as it is spelled in the bay file.
+    pub fn domain(&self) -> &str
+        ensures { result.now ≡ self.now.domain }
+    {
+        self.state.bay.domain.as_str()
+    }
+
+    /// Returns the revision of the configuration, as it is spelled in the bay file.
+    pub fn revision(&self) -> &str
+        ensures { result.now ≡ self.now.revision }
+    {
+        self.state.bay.revision.as_str()
+    }
+
+    /// Returns the index of the switch whose execution is over at a time, if there is one.
+    pub fn over_at(&self, now: u64) -> Option<usize>
+        ensures { result ≡ spec_device.over_at now self.now }
+    {
+        let mut controls = self.state.bay.controls;
+        controls.advance(&self.state.bay.control_table, now)
     }
 
     /// Returns whether the association with this number is open.

@@ -48,6 +48,15 @@ pub enum Event<'a> {
         field: MeterField,
         value: i32,
     },
+    /// A field of the meter at this index, counted from 0, is not to be trusted; it keeps its
+    /// value.
+    BadMeasure {
+        meter: usize,
+        field: MeterField,
+    },
+    /// The process is lost: each position is bad, each input FALSE and no measured value to be
+    /// trusted, until more is heard of it.
+    Lost,
     /// The program runs once.
     Scan,
 }

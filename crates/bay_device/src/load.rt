@@ -169,6 +169,7 @@ fn state_of(
             moment: 0,
             last_scan: None,
             is_stale: false,
+            is_lost: false,
             due: None,
         },
     )?;

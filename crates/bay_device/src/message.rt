@@ -219,6 +219,7 @@ pub fn message(
         association,
         size: connection.pdu_size(),
         now,
+        lost: state.is_lost,
         fresh: state.is_fresh(now),
     };
     let sent = made.sent.len();

@@ -1,4 +1,4 @@
-// What contacts, measures and scans do to a bay that clients see: its tree goes on showing no
+// What contacts, measures, doubts and scans do to a bay that clients see: its tree goes on showing no
 // switch as selected.
 ghost use Rattle.std.specs.Prelude.{◌≡◌, ◌<◌, Some, length, not, slice_get};
 ghost use Rattle.bay_nodes.specs.Names.{meter_names, switch_names};
@@ -7,12 +7,12 @@ ghost use Rattle.bay_process.specs.Layout.{layout_of, switches_of, IsMeterBound}
 ghost use Rattle.bay_process.specs.Names.{field_names};
 ghost use Rattle.bay_process.specs.Scans.{outputs_put};
 ghost use Rattle.bay_process.specs.Told.{AreInterlocked, AreTold};
-ghost use Rattle.bay_process.specs.Values.{rows_after_contact, rows_after_measure, tells, tells_measure};
+ghost use Rattle.bay_process.specs.Values.{rows_after_contact, rows_after_doubt, rows_after_measure, tells, tells_doubt, tells_measure};
 ghost use Rattle.bay_services.specs.Views.{bay_view};
 
 use bay_config::bay::MeterField;
 use bay_process::contact::take_position;
-use bay_process::meter::{MeterRows, take_measure};
+use bay_process::meter::{MeterRows, take_doubt, take_measure};
 use bay_process::scan::write_outputs;
 use bay_process::values::ToldValues;
 use bay_services::bay::ServedBay;
@@ -59,6 +59,28 @@ pub fn measure(
     ensures layout { layout_of bay.new.tree ≡ layout_of bay.old.tree }
 {
     take_measure(&mut bay.tree, rows.field(field), value, now)
+}
+
+/// Takes a doubt of a measured value of the meter at an index, which has these rows; the contract
+/// alone reads the index. Returns whether its quality changed.
+pub fn doubt(
+    bay: &mut ServedBay,
+    now: u64,
+    _meter: usize,
+    rows: MeterRows,
+    field: MeterField,
+) -> bool
+    requires { IsMeterBound (layout_of bay.old.tree) _meter rows }
+    ensures changed { result
+        ≡ not (tells_doubt (field_names field (meter_names _meter)) bay.old.tree) }
+    ensures after { bay_view bay.new
+        ≡ record (bay_view bay.old) {
+          rows = rows_after_doubt (field_names field (meter_names _meter)) now bay.old.tree;
+        } }
+    ensures switches { bay.new.switches ≡ bay.old.switches }
+    ensures layout { layout_of bay.new.tree ≡ layout_of bay.old.tree }
+{
+    take_doubt(&mut bay.tree, rows.field(field), now)
 }
 
 /// Writes the values of their points to the interlocking values of all switches.

@@ -47,6 +47,8 @@ pub struct DeviceState {
     /// Whether a value or a quality of a contact, an input or a measured value has changed since
     /// the last scan.
     pub is_stale: bool,
+    /// Whether the process is lost: nothing was heard of it since it was.
+    pub is_lost: bool,
     /// What will report to a client the end of what is operating.
     pub due: Option<Due>,
     ghost bound: { AreBound (layout_of bay.tree) writes bay.switches },

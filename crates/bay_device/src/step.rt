@@ -14,7 +14,7 @@ ghost use Rattle.bay_device.specs.Outcomes.{event_outcome, without_owner};
 ghost use Rattle.bay_device.specs.Outcomes as spec_outcomes;
 ghost use Rattle.bay_device.specs.StateView.{state_view};
 ghost use Rattle.bay_device.specs.Steps.{IsQuiet};
-ghost use Rattle.bay_device.specs.declared.event.Event.TheVariants.{Contact, Input, Measure};
+ghost use Rattle.bay_device.specs.declared.event.Event.TheVariants.{BadMeasure, Contact, Input, Measure};
 
 use crate::due::{forget, missed, reached};
 use crate::event::Sent;
@@ -98,8 +98,8 @@ impl DeviceState {
         }
     }
 
-    // Takes the position of the switch at an index, and reports the execution that it ends.
-    fn take_contact(&mut self, now: u64, switch: usize, position: Dbpos) -> Option<Sent>
+    /// Takes the position of the switch at an index, and reports the execution that it ends.
+    pub fn take_contact(&mut self, now: u64, switch: usize, position: Dbpos) -> Option<Sent>
         requires { switch < length self.old.bay.switches }
         ensures sent { (connections : List (Option Talk))
             → result ≡ reached_at switch position (state_view connections self.old) }
@@ -110,6 +110,7 @@ impl DeviceState {
     {
         let changed = process::contact(&mut self.bay, now, switch, position);
         self.is_stale |= changed;
+        self.is_lost = false;
         if self.bay.controls.contact(switch, position) {
             reached(&mut self.due)
         } else {
@@ -149,6 +150,7 @@ impl DeviceState {
         let over = self.advance(now);
         self.input_values.set(input, value);
         self.is_stale |= value != before;
+        self.is_lost = false;
         Ok(over)
     }
 
@@ -171,6 +173,26 @@ impl DeviceState {
         let over = self.advance(now);
         let changed = process::measure(&mut self.bay, now, meter, rows, field, value);
         self.is_stale |= changed;
+        self.is_lost = false;
+        Ok(over)
+    }
+
+    /// Handles a doubt of a field of the meter at an index.
+    pub fn bad_measure(
+        &mut self,
+        now: u64,
+        meter: usize,
+        field: MeterField,
+    ) -> Result<Option<Sent>, StepFault>
+        ensures { (connections : List (Option Talk))
+            → IsQuiet result (state_view connections self.new)
+            (event_outcome None now (BadMeasure meter field) (state_view connections self.old)) }
+    {
+        if meter >= self.meters.as_slice().len() {
+            return Err(StepFault::NoSuchPoint);
+        }
+        let over = self.advance(now);
+        self.take_doubt(now, meter, field);
         Ok(over)
     }
 

@@ -26,7 +26,13 @@ returns-in-Ok-clause-ok c connections =
     ∙ c.in-Ok.ensures.ok connections
     ∙ ap (λ (n : ℕ). answered_with a terms
     (pdu_answer (let x : Client =
-    record { association = a; size = n; now = c.args.now; fresh = c.is_fresh.result } in x) pdu
+    record {
+      association = a;
+      size = n;
+      now = c.args.now;
+      lost = d.is_lost;
+      fresh = c.is_fresh.result;
+    } in x) pdu
     (bay_of s)) (done_of s c.args.made.now))
     (size-is (association_terms talk.phase) c.pdu_size.result c.requires c.pdu_size.ensures.size)
     ∙ ap (λ (f : Bool). answered_with a terms
@@ -35,6 +41,7 @@ returns-in-Ok-clause-ok c connections =
       association = a;
       size = size_of (association_terms talk.phase);
       now = c.args.now;
+      lost = d.is_lost;
       fresh = f;
     } in x) pdu (bay_of s)) (done_of s c.args.made.now))
     (c.is_fresh.ensures connections)

@@ -1,4 +1,4 @@
-use Rattle.std.proofs.Common.{◌≡◌, Bool, ◌||◌, slice_get, Option, Some, Ok, option_map, ap, sym, ◌∙◌}
+use Rattle.std.proofs.Common.{◌≡◌, Bool, false, ◌||◌, slice_get, Option, Some, Ok, option_map, ap, sym, ◌∙◌}
 use Rattle.std.proofs.lemmas.Int.{to_z-of_z}
 use Rattle.std.proofs.lemmas.Option.{slice_get-map}
 use Rattle.bay_nodes.specs.Names.{meter_names}
@@ -63,7 +63,7 @@ returns c connections =
           ap (λ (o : Option Sent). quiet_answer (Ok o)) (c.advance-over.ensures.sent connections)
           ∙ sym (ap (λ (o : Outcome). o.answer) whole);
       left = ap (λ (b : Bay). with_bay b
-          (record t { is_stale = t.is_stale || c.measure-changed.result })) did
+          (record t { is_stale = t.is_stale || c.measure-changed.result; is_lost = false })) did
           ∙ ap (λ (b : Bool). record
           (measure_taken c.args.now c.args.meter c.args.field c.args.value t)
           { is_stale = t.is_stale || b }) changed
