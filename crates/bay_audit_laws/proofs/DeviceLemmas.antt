@@ -6,20 +6,21 @@ use Rattle.bay_base.specs.declared.point.MeterField.{MeterField}
 use Rattle.bay_nodes.specs.Names.{interlocking_of, meter_names, switch_names}
 use Rattle.bay_nodes.specs.declared.switch.Switch.{Switch}
 use Rattle.bay_process.specs.Names.{field_names}
-use Rattle.bay_process.specs.Values.{rows_after_change, tells as tells_position, tells_measure, with_status}
-use Rattle.bay_process.proofs.ToldLemmas.{Keeps, field-away, keeps-contact, keeps-measure}
-use Rattle.bay_tree.specs.Rows.{leaf_of}
+use Rattle.bay_process.specs.Values.{rows_after_change, tells as tells_position, tells_doubt, tells_measure, with_status}
+use Rattle.bay_process.proofs.ToldLemmas.{Keeps, field-away, keeps-contact, keeps-doubt, keeps-measure}
+use Rattle.bay_tree.specs.Rows.{leaf_of, with_leaf_of}
 use Rattle.bay_tree.specs.declared.leaf.Dbpos.{Dbpos}
 use Rattle.bay_tree.specs.declared.leaf.Leaf.TheVariants as leaf
-use Rattle.bay_tree.specs.declared.leaf.Quality.TheVariants.{Good}
-use Rattle.bay_device.specs.Device.{State, contact_taken, device_at, input_taken, measure_taken}
-use Rattle.bay_device.specs.Outcomes.{contact_outcome, event_outcome, input_outcome, measure_outcome}
+use Rattle.bay_tree.specs.declared.leaf.Quality.TheVariants.{Good, Invalid}
+use Rattle.bay_device.specs.Device.{State, contact_taken, device_at, doubt_taken, input_taken, lost_taken, measure_taken}
+use Rattle.bay_device.specs.Outcomes.{contact_outcome, doubt_outcome, event_outcome, input_outcome, measure_outcome}
 use Rattle.bay_device.specs.declared.event.Event.{Event}
-use Rattle.bay_device.specs.declared.event.Event.TheVariants.{Open, Recv, Close, Contact, Input, Measure, Scan}
-use Rattle.bay_device.proofs.FreshLemmas.{same-truth}
+use Rattle.bay_device.specs.declared.event.Event.TheVariants.{Open, Recv, Close, Contact, Input, Measure, BadMeasure, Lost, Scan}
+use Rattle.bay_device.proofs.FreshLemmas.{same-truth, still-lost}
+use Rattle.bay_device.proofs.LostLemmas.{Fixed, lost-fixed, lost-keeps}
 use Rattle.bay_device.proofs.SameLemmas.{Parts, Same, same-event}
 use Rattle.bay_audit_laws.specs.Laws.{Has32Bits, IsOfType}
-use Rattle.bay_audit_laws.proofs.MeasureLemmas.{AllFit, contact-fits, measure-fits}
+use Rattle.bay_audit_laws.proofs.MeasureLemmas.{AllFit, contact-fits, doubt-fits, lost-fits, measure-fits}
 
 -- ---- what is no scan
 
@@ -123,6 +124,46 @@ quiet-measure now k field value s typed =
       fits = λ count. measure-fits count names value now s.rows typed;
     }
 
+quiet-doubt : (now k : ℕ) (field : MeterField) (s : State) → Quiet s (doubt_taken now k field s)
+quiet-doubt now k field s =
+    let names = field_names field (meter_names k) in
+    let told : Bool = tells_doubt names s.rows in
+    record {
+      machine = refl;
+      switches = refl;
+      meters = refl;
+      reads = refl;
+      writes = refl;
+      scans = refl;
+      stale = λ h. (or_parts s.is_stale (not told) h).0;
+      rows = λ h. ap (λ (b : Bool). cond b s.rows
+          (with_leaf_of names.time (leaf.Utc now)
+          (with_leaf_of names.quality (leaf.Quality Invalid) s.rows)))
+          (not-false told (or_parts s.is_stale (not told) h).1);
+      inputs = λ h. refl;
+      keeps = keeps-doubt names now s.rows (field-away k field);
+      fits = λ count. doubt-fits count names now s.rows;
+    }
+
+-- the process is lost
+quiet-lost : (now : ℕ) (s : State) → Quiet s (lost_taken now s)
+quiet-lost now s =
+    let fixed = lost-fixed now s in
+    let still = still-lost now s in
+    record {
+      machine = ap (λ (f : Fixed). f.machine) fixed;
+      switches = ap (λ (f : Fixed). f.switches) fixed;
+      meters = ap (λ (f : Fixed). f.meters) fixed;
+      reads = ap (λ (f : Fixed). f.reads) fixed;
+      writes = ap (λ (f : Fixed). f.writes) fixed;
+      scans = ap (λ (f : Fixed). f.scans) fixed;
+      stale = still.stale;
+      rows = still.rows;
+      inputs = still.inputs;
+      keeps = lost-keeps now s;
+      fits = λ count. lost-fits count now s;
+    }
+
 -- behind one that is at a moment
 quiet-behind : (now : ℕ) (s t : State) → Quiet (device_at now s) t → Quiet s t
 quiet-behind now s t q = record {
@@ -160,6 +201,12 @@ module _ (now : ℕ) (s : State) where
   quiet-measure-of k field value (Some id) typed =
       quiet-behind now s _ (quiet-measure now k field value (device_at now s) typed)
 
+  quiet-doubt-of : (k : ℕ) (field : MeterField) (o : Option (List ℕ))
+      → Quiet s (doubt_outcome now k field s o).after
+  quiet-doubt-of k field None = quiet-same s s refl
+  quiet-doubt-of k field (Some id) =
+      quiet-behind now s _ (quiet-doubt now k field (device_at now s))
+
 -- whether an event is a scan
 abbrev pub IsNoScan : Event → Type 0
 IsNoScan (Open a) = Unit {0}
@@ -168,6 +215,8 @@ IsNoScan (Close a) = Unit {0}
 IsNoScan (Contact k position) = Unit {0}
 IsNoScan (Input k value) = Unit {0}
 IsNoScan (Measure k field value) = Unit {0}
+IsNoScan (BadMeasure k field) = Unit {0}
+IsNoScan Lost = Unit {0}
 IsNoScan Scan = ⊥
 
 pub quiet-event : (choice : Option ℕ) (now : ℕ) (event : Event) (s : State) → IsOfType event
@@ -185,6 +234,9 @@ quiet-event choice now (Input k value) s typed h =
     quiet-input-of now s k value (slice_get s.input_values k) refl
 quiet-event choice now (Measure k field value) s typed h =
     quiet-measure-of now s k field value (slice_get s.meters k) typed
+quiet-event choice now (BadMeasure k field) s typed h =
+    quiet-doubt-of now s k field (slice_get s.meters k)
+quiet-event choice now Lost s typed h = quiet-behind now s _ (quiet-lost now (device_at now s))
 quiet-event choice now Scan s typed h = absurd h
 
 pub quiet-nothing : (s : State) → Quiet s s

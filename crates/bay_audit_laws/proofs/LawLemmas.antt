@@ -37,7 +37,7 @@ use Rattle.bay_device.specs.Meaning.{Halts, HaltsAt}
 use Rattle.bay_device.specs.Outcomes.{event_outcome, last_moment, refusal_of}
 use Rattle.bay_device.specs.Steps.{EachStep, Steps}
 use Rattle.bay_device.specs.declared.event.Event.{Event}
-use Rattle.bay_device.specs.declared.event.Event.TheVariants.{Open, Recv, Close, Contact, Input, Measure, Scan}
+use Rattle.bay_device.specs.declared.event.Event.TheVariants.{Open, Recv, Close, Contact, Input, Measure, BadMeasure, Lost, Scan}
 use Rattle.bay_device.specs.declared.event.Step.{Step}
 use Rattle.bay_device.specs.declared.fault.StepFault.{StepFault}
 use Rattle.bay_device.specs.declared.fault.StepFault.TheVariants.{MomentTooLarge, TimeWentBack}
@@ -113,6 +113,16 @@ turned-event choice now (Measure k field value) s answer new typed left halts =
     inr (inl (
       λ is. cc,
       subst (Quiet s) (sym left) (quiet-event choice now (Measure k field value) s typed tt),
+    ))
+turned-event choice now (BadMeasure k field) s answer new typed left halts =
+    inr (inl (
+      λ is. cc,
+      subst (Quiet s) (sym left) (quiet-event choice now (BadMeasure k field) s typed tt),
+    ))
+turned-event choice now Lost s answer new typed left halts =
+    inr (inl (
+      λ is. cc,
+      subst (Quiet s) (sym left) (quiet-event choice now Lost s typed tt),
     ))
 
 turned-if : (b c : Bool) (choice : Option ℕ) (now : ℕ) (event : Event) (s : State)

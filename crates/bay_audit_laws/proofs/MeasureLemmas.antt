@@ -13,15 +13,18 @@ use Rattle.bay_nodes.specs.declared.switch.Switch.{Switch}
 use Rattle.bay_nodes.specs.declared.switch.SwitchKind.{SwitchKind}
 use Rattle.bay_nodes.specs.declared.switch.SwitchKind.TheVariants.{Breaker, Disconnector, Earthing}
 use Rattle.bay_process.specs.Names.{field_names}
-use Rattle.bay_process.specs.Values.{is_operation, measure_leaf, number_of_leaf, operation_counted, position_quality, rows_after_change, rows_after_contact, rows_after_measure, tells, tells_measure, with_count, with_status}
+use Rattle.bay_process.specs.Values.{is_operation, measure_leaf, number_of_leaf, operation_counted, position_quality, rows_after_change, rows_after_contact, rows_after_doubt, rows_after_measure, tells, tells_doubt, tells_measure, with_count, with_status}
 use Rattle.bay_process.proofs.ToldLemmas.{leaf-other}
 use Rattle.bay_tree.specs.Rows.{leaf_of, with_leaf_of}
 use Rattle.bay_tree.specs.declared.leaf.Dbpos.{Dbpos}
+use Rattle.bay_tree.specs.declared.leaf.Dbpos.TheVariants.{Bad}
 use Rattle.bay_tree.specs.declared.leaf.Leaf.{Leaf}
 use Rattle.bay_tree.specs.declared.leaf.Leaf.TheVariants as leaf
 use Rattle.bay_tree.specs.declared.leaf.Quality.{Quality}
-use Rattle.bay_tree.specs.declared.leaf.Quality.TheVariants.{Good}
+use Rattle.bay_tree.specs.declared.leaf.Quality.TheVariants.{Good, Invalid}
 use Rattle.bay_tree.specs.declared.row.Row.{Row}
+use Rattle.bay_device.specs.Device.{State, lost_taken}
+use Rattle.bay_device.proofs.LostLemmas.{loss-passes}
 use Rattle.bay_audit_laws.specs.Laws.{Has32Bits}
 
 -- ---- one value
@@ -171,6 +174,21 @@ module _ (count : ℕ) where
   measure-fits names value now rows fits all =
       if-fits (tells_measure names value rows) rows _ all
       (status-fits names (leaf.Int32 value) Good now rows fits all)
+
+  pub doubt-fits : (names : StatusNames) (now : ℕ) (rows : List Row) → AllFit count rows
+      → AllFit count (rows_after_doubt names now rows)
+  doubt-fits names now rows all =
+      if-fits (tells_doubt names rows) rows _ all
+      (λ k field lt. written-fits _ _ names.time (leaf.Utc now) tt
+      (written-fits rows _ names.quality (leaf.Quality Invalid) tt (all k field lt)))
+
+  pub lost-fits : (now : ℕ) (s : State) → AllFit count s.rows
+      → AllFit count (lost_taken now s).rows
+  lost-fits now s all =
+      loss-passes (λ t. AllFit count t.rows) now
+      (λ k switch t p. contact-fits t.switches k switch Bad now t.rows p)
+      (λ k field t p. doubt-fits (field_names field (meter_names k)) now t.rows p)
+      (λ t p. p) (λ t p. p) s all
 
 -- a measured value as a process has it
 pub leaf-number : (meters : List (List ℕ)) (rows : List Row) → AllFit (length meters) rows → (k : ℕ)

@@ -27,7 +27,7 @@ use Rattle.bay_device.specs.Load.{initial_device}
 use Rattle.bay_device.specs.Meaning.{Halts, HaltsAt}
 use Rattle.bay_device.specs.Steps.{EachStep}
 use Rattle.bay_device.specs.declared.event.Event.{Event}
-use Rattle.bay_device.specs.declared.event.Event.TheVariants.{Open, Recv, Close, Contact, Input, Measure, Scan}
+use Rattle.bay_device.specs.declared.event.Event.TheVariants.{Open, Recv, Close, Contact, Input, Measure, BadMeasure, Lost, Scan}
 use Rattle.bay_device.specs.declared.event.Step.{Step}
 use Rattle.bay_device.specs.declared.fault.StepFault.{StepFault}
 use Rattle.bay_device.proofs.CommandLemmas.{step-commanded}
@@ -268,6 +268,8 @@ module _ (bay : Bay) (image : Image) (rule : Rule) (timing : Timing) (n : ℕ) (
   scans-same now (Contact k position) s answer scans other = refl
   scans-same now (Input k value) s answer scans other = refl
   scans-same now (Measure k field value) s answer scans other = refl
+  scans-same now (BadMeasure k field) s answer scans other = refl
+  scans-same now Lost s answer scans other = refl
   scans-same now Scan s answer scans other = absurd (other refl)
 
   scans-refused : (now : ℕ) (event : Event) (s : State) (fault : StepFault)
@@ -279,6 +281,8 @@ module _ (bay : Bay) (image : Image) (rule : Rule) (timing : Timing) (n : ℕ) (
   scans-refused now (Contact k position) s fault scans = refl
   scans-refused now (Input k value) s fault scans = refl
   scans-refused now (Measure k field value) s fault scans = refl
+  scans-refused now (BadMeasure k field) s fault scans = refl
+  scans-refused now Lost s fault scans = refl
   scans-refused now Scan s fault scans = refl
 
   led-refused : (scans : List (ℕ × Bool)) (now : ℕ) (event : Event) (s : State)

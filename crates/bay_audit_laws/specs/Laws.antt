@@ -19,7 +19,7 @@ use Rattle.bay_device.specs.Load.{initial_device}
 use Rattle.bay_device.specs.Meaning.{HaltsAt}
 use Rattle.bay_device.specs.Steps.{EachStep, Steps}
 use Rattle.bay_device.specs.declared.event.Event.{Event}
-use Rattle.bay_device.specs.declared.event.Event.TheVariants.{Open, Recv, Close, Contact, Input, Measure, Scan}
+use Rattle.bay_device.specs.declared.event.Event.TheVariants.{Open, Recv, Close, Contact, Input, Measure, BadMeasure, Lost, Scan}
 use Rattle.bay_device.specs.declared.event.Step.{Step}
 use Rattle.bay_device.specs.declared.fault.StepFault.{StepFault}
 use Rattle.bay_audit.specs.Rules.{IsByTimer, IsRule, is_obeyed, program_of}
@@ -61,6 +61,8 @@ IsOfType (Close a) = Unit {0}
 IsOfType (Contact k position) = Unit {0}
 IsOfType (Input k value) = Unit {0}
 IsOfType (Measure k field value) = Has32Bits value
+IsOfType (BadMeasure k field) = Unit {0}
+IsOfType Lost = Unit {0}
 IsOfType Scan = Unit {0}
 
 abbrev pub AreOfTypes : List (ℕ × Event) → Type 0
@@ -118,6 +120,8 @@ scans_after condition now (Close a) s answer scans = scans
 scans_after condition now (Contact k position) s answer scans = scans
 scans_after condition now (Input k value) s answer scans = scans
 scans_after condition now (Measure k field value) s answer scans = scans
+scans_after condition now (BadMeasure k field) s answer scans = scans
+scans_after condition now Lost s answer scans = scans
 scans_after condition now Scan s answer scans = scan_noted condition now s answer scans
 
 -- The condition has held for a time, at a moment: at the last scan, and at each before it up to one

@@ -8,17 +8,19 @@ use Rattle.bay_connection.specs.Talk.{Talk}
 use Rattle.bay_nodes.specs.declared.switch.Switch.{Switch}
 use Rattle.bay_nodes.specs.Names.{meter_names}
 use Rattle.bay_process.specs.Names.{field_names}
-use Rattle.bay_process.proofs.ToldLemmas.{Keeps, field-away, keeps-contact, keeps-measure}
+use Rattle.bay_process.proofs.ToldLemmas.{Keeps, field-away, keeps-contact, keeps-doubt, keeps-measure}
 use Rattle.bay_tree.specs.Rows.{leaf_of}
 use Rattle.bay_tree.specs.declared.leaf.Dbpos.{Dbpos}
-use Rattle.bay_device.specs.Device.{State}
-use Rattle.bay_device.specs.Outcomes.{Outcome, close_outcome, connection_at, contact_outcome, event_outcome, input_outcome, last_moment, measure_outcome, open_outcome, outcome, place_of, recv_outcome, refusal_of, scan_outcome}
+use Rattle.bay_device.specs.Device.{State, device_at}
+use Rattle.bay_device.specs.Outcomes.{Outcome, close_outcome, connection_at, contact_outcome, doubt_outcome, event_outcome, input_outcome, last_moment, lost_outcome, measure_outcome, open_outcome, outcome, place_of, recv_outcome, refusal_of, scan_outcome}
 use Rattle.bay_device.specs.Steps.{Steps}
 use Rattle.bay_device.specs.declared.event.Event.{Event}
-use Rattle.bay_device.specs.declared.event.Event.TheVariants.{Open, Recv, Close, Contact, Input, Measure, Scan}
+use Rattle.bay_device.specs.declared.event.Event.TheVariants.{Open, Recv, Close, Contact, Input, Measure, BadMeasure, Lost, Scan}
 use Rattle.bay_device.specs.declared.event.Step.{Step}
 use Rattle.bay_device.specs.declared.fault.StepFault.{StepFault}
 use Rattle.bay_device.specs.declared.fault.StepFault.TheVariants.{MomentTooLarge, TimeWentBack}
+use Rattle.bay_device.proofs.LostLemmas as loss
+use Rattle.bay_device.proofs.LostLemmas.{lost-fixed, lost-keeps}
 use Rattle.bay_device.proofs.SameLemmas.{Parts, Same, same-event}
 
 -- ---- parts
@@ -120,6 +122,36 @@ module _ (now : ℕ) (s : State) where
     },
   )
 
+  quiet-doubt : (k : ℕ) (field : MeterField) (o : Option (List ℕ))
+      → Quiet s (doubt_outcome now k field s o)
+  quiet-doubt k field None = quiet-same s (doubt_outcome now k field s None) refl refl
+  quiet-doubt k field (Some id) = (
+    refl,
+    record {
+      fixed = record { age = refl; image = refl; switches = refl; writes = refl };
+      scans = refl;
+      interlocking =
+          keeps-doubt (field_names field (meter_names k)) now s.rows (field-away k field);
+    },
+  )
+
+  quiet-lost : Quiet s (lost_outcome now s)
+  quiet-lost =
+      let fixed = lost-fixed now (device_at now s) in (
+        refl,
+        record {
+          fixed =
+              record {
+                age = ap (λ (f : loss.Fixed). f.age) fixed;
+                image = ap (λ (f : loss.Fixed). f.machine.image) fixed;
+                switches = ap (λ (f : loss.Fixed). f.switches) fixed;
+                writes = ap (λ (f : loss.Fixed). f.writes) fixed;
+              };
+          scans = ap (λ (f : loss.Fixed). f.scans) fixed;
+          interlocking = lost-keeps now (device_at now s);
+        },
+      )
+
 -- A scan is done.
 pub record Scanned (now : ℕ) (event : Event) (old : State) (answer : Result Step StepFault)
     (new : State) : Type 0 where
@@ -153,6 +185,9 @@ turned-event choice now (Input k value) s =
     inl (quiet-input now s k value (slice_get s.input_values k))
 turned-event choice now (Measure k field value) s =
     inl (quiet-measure now s k field value (slice_get s.meters k))
+turned-event choice now (BadMeasure k field) s =
+    inl (quiet-doubt now s k field (slice_get s.meters k))
+turned-event choice now Lost s = inl (quiet-lost now s)
 turned-event choice now Scan s =
     inr (record { event_is = refl; answered = refl; left = refl })
 

@@ -18,7 +18,7 @@ use Rattle.bay_device.specs.Outcomes.{connection_at, place_of}
 use Rattle.bay_device.specs.Steps.{Steps}
 use Rattle.bay_device.specs.Told.{AreTalks, pdu_in, pdus_in, talk_at}
 use Rattle.bay_device.specs.declared.event.Event.{Event}
-use Rattle.bay_device.specs.declared.event.Event.TheVariants.{Open, Recv, Close, Contact, Input, Measure, Scan}
+use Rattle.bay_device.specs.declared.event.Event.TheVariants.{Open, Recv, Close, Contact, Input, Measure, BadMeasure, Lost, Scan}
 use Rattle.bay_device.specs.declared.event.Sent.{Sent}
 use Rattle.bay_device.specs.declared.event.Step.{Step}
 use Rattle.bay_device.specs.declared.fault.StepFault.{StepFault}
@@ -118,6 +118,8 @@ module _ (now : ℕ) (names : Bay) (s : State) (step : Step) (command : Command)
   of-event (Contact k position) replied = none-has step.commands command replied has
   of-event (Input k value) replied = none-has step.commands command replied has
   of-event (Measure k field value) replied = none-has step.commands command replied has
+  of-event (BadMeasure k field) replied = none-has step.commands command replied has
+  of-event Lost replied = none-has step.commands command replied has
   of-event Scan replied = none-has step.commands command replied has
 
 -- ---- the line of sent octets

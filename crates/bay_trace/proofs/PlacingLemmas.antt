@@ -3,7 +3,7 @@ use Rattle.std.proofs.Common.{◌≡◌, ℕ, ◌<◌, true, false, Option, Resu
 use Rattle.bay_device.specs.Device.{State}
 use Rattle.bay_device.specs.Outcomes.{outcome}
 use Rattle.bay_device.specs.declared.event.Event.{Event}
-use Rattle.bay_device.specs.declared.event.Event.TheVariants.{Open, Recv, Close, Contact, Input, Measure, Scan}
+use Rattle.bay_device.specs.declared.event.Event.TheVariants.{Open, Recv, Close, Contact, Input, Measure, BadMeasure, Lost, Scan}
 use Rattle.bay_trace.specs.Placing.{LineRoom, Takes, Took, anywhere, count_of}
 use Rattle.bay_trace.specs.Trace.{NamedData}
 
@@ -16,6 +16,8 @@ same-anywhere choice now (Close a) s = refl
 same-anywhere choice now (Contact k position) s = refl
 same-anywhere choice now (Input k value) s = refl
 same-anywhere choice now (Measure k field value) s = refl
+same-anywhere choice now (BadMeasure k field) s = refl
+same-anywhere choice now Lost s = refl
 same-anywhere choice now Scan s = refl
 
 pub took-not : {X E : Type 0} (event : NamedData) (old new : LineRoom) (r : Result X E)

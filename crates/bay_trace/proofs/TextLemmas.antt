@@ -18,7 +18,7 @@ use Rattle.bay_trace.specs.TraceView.{line_view}
 use Rattle.bay_tree.specs.declared.leaf.Dbpos.{Dbpos}
 use Rattle.bay_base.specs.declared.point.MeterField.{MeterField}
 use Rattle.bay_base.specs.Decimals.{negative_of, positive_of, read_number}
-use Rattle.bay_trace.specs.Trace.{association_of, at_moment, disconnects, contact, event_of, input, measure, field_of, is_space, is_association_verb, LineData, measure_of, name_of, named_of, NamedData, only_word, connects, position_of, read_integer, received_of, receives, association_event_of, trace_line_of, truth_of, words_line}
+use Rattle.bay_trace.specs.Trace.{association_of, at_moment, disconnects, contact, event_of, input, measure, field_of, is_space, is_association_verb, LineData, measure_of, name_of, named_of, NamedData, only_word, connects, position_of, read_integer, received_of, receives, association_event_of, trace_line_of, truth_of, words_line, told_of}
 
 -- ---- what has a value has parts that have theirs
 
@@ -117,6 +117,13 @@ name-text (b ∷ bs) name e = by_test (is_utf8 (b ∷ bs)) refl
     by_test true is = IsUtf8-from_is_utf8 (b ∷ bs) is
     by_test false is = let none : None ≡ Some name = rw is at e in absurd cc
 
+told-text : (id : List ℕ) (field : MeterField) (word : List ℕ) (d : NamedData)
+    → told_of id field word ≡ Some d → IsUtf8 word
+told-text id field word d e =
+    choice word (codes "bad") _ d _ refl
+    (λ h. let number = mapped (measure id field) (read_integer word) d h in
+    integer-text word number.0 number.1) e
+
 -- ---- the words of a line
 
 abbrev AreText : List (List ℕ) → Type 0
@@ -133,15 +140,11 @@ only-text f (word ∷ next ∷ words) y text e = absurd cc
 measure-text : (id : List ℕ) (words : List (List ℕ)) (d : NamedData) → measure_of id words ≡ Some d
     → AreText words
 measure-text id [] d e = absurd cc
-measure-text id (word ∷ value) d e =
-    let field : Parts (λ f. option_map (measure id f)
-    (option_and_then read_integer (only_word value))) (field_of word) d =
-    and_then _ (field_of word) d e in
-    let number =
-    mapped (measure id field.part) (option_and_then read_integer (only_word value)) d
-    field.gives in (
+measure-text id (word ∷ told) d e =
+    let field : Parts (λ f. option_and_then (told_of id f) (only_word told)) (field_of word) d =
+    and_then _ (field_of word) d e in (
       field-text word field.part field.whole,
-      only-text read_integer value number.0 (λ w h. integer-text w number.0 h) number.1,
+      only-text (told_of id field.part) told d (λ w h. told-text id field.part w d h) field.gives,
     )
 
 -- the verb is this one, and what is behind it is text; or something is said further on
@@ -206,8 +209,11 @@ association_event-text word words d e =
 
 event-text : (words : List (List ℕ)) (d : NamedData) → event_of words ≡ Some d → AreText words
 event-text [] d e = absurd cc
-event-text (word ∷ []) d e =
-    (choice word (codes "scan") _ d _ refl (none-chosen IsUtf8 word d) e, tt)
+event-text (word ∷ []) d e = (
+  choice word (codes "scan") _ d _ refl
+      (choice word (codes "lost") _ d _ refl (none-chosen IsUtf8 word d)) e,
+  tt,
+)
 event-text (word ∷ name ∷ words) d e = by_test (is_association_verb word) refl
   where
     by_test : (v : Bool) → is_association_verb word ≡ v → AreText (word ∷ name ∷ words)

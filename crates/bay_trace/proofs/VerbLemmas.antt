@@ -1,5 +1,5 @@
 -- Lemmas on what stands behind a verb: a word that is told stands alone.
-use Rattle.std.proofs.Common.{◌≡◌, ◌≢◌, ℕ, ℤ, ◌++◌, ◌||◌, Bool, true, false, cond, eqb, List, Option, option_map, option_and_then, [], ◌∷◌, codes, Some, None, refl, sym, ap, ◌∙◌, arith}
+use Rattle.std.proofs.Common.{◌≡◌, ◌≢◌, ℕ, ℤ, ◌++◌, ◌||◌, Bool, true, false, cond, eqb, List, Option, option_map, option_and_then, [], ◌∷◌, codes, Some, None, refl, sym, ap, ap₂, ◌∙◌, arith}
 use Rattle.std.proofs.lemmas.Bool.{and_parts}
 use Rattle.std.proofs.lemmas.Bool.Decides.{nat_tests}
 use Rattle.std.proofs.lemmas.List.Splits.{join_with_byte-slice_split, slice_split-cons_no}
@@ -8,8 +8,9 @@ use Rattle.std.specs.Char.{is_ascii_digit}
 use Rattle.std.specs.List.{join_with_byte, slice_split, onto_first}
 use Rattle.std.specs.Str.{all_ascii_digits, bytes_eq}
 use Rattle.bay_tree.specs.declared.leaf.Dbpos.{Dbpos}
+use Rattle.bay_base.specs.declared.point.MeterField.{MeterField}
 use Rattle.bay_base.specs.Decimals.{negative_of, positive_of, read_number}
-use Rattle.bay_trace.specs.Trace.{association_of, connects, disconnects, is_space, is_association_verb, association_event_in, association_event_of, only_word, read_integer, position_of, truth_of, scan, name_of, named_of, event_of}
+use Rattle.bay_trace.specs.Trace.{association_of, connects, disconnects, is_space, is_association_verb, association_event_in, association_event_of, only_word, read_integer, position_of, truth_of, NamedData, told_of, measure, lost, scan, name_of, named_of, event_of}
 use Rattle.std.proofs.lemmas.List.Elements.{All-head, All-tail}
 use Rattle.std.specs.List.{AllPass}
 use Rattle.hex.specs.Hex.{is_hex_digit}
@@ -65,6 +66,16 @@ integer-word (b ∷ bs) z e = by_test (eqb b 45) refl
         ∙ ap (onto_first b) (read negative_of bs (rw minus at e))
     by_test false minus = read positive_of (b ∷ bs) (rw minus at e)
 
+told-word : (id : List ℕ) (field : MeterField) (word : List ℕ) (y : NamedData)
+    → told_of id field word ≡ Some y → IsWord word
+told-word id field word y e =
+    chosen IsWord word (codes "bad") _ y _ refl (λ h. by-value (read_integer word) refl h) e
+  where
+    by-value : (o : Option ℤ) → read_integer word ≡ o
+        → option_map (measure id field) (read_integer word) ≡ Some y → IsWord word
+    by-value None r h = let none : None ≡ Some y = rw r at h in absurd cc
+    by-value (Some z) r h = integer-word word z r
+
 association-word : (word : List ℕ) (a : ℕ) → association_of word ≡ Some a → IsWord word
 association-word word a e = by-number (read_number word) refl
   where
@@ -110,9 +121,10 @@ pub alone-truth : (bs : List ℕ)
     → option_and_then truth_of (only_word (slice_split is_space bs)) ≡ truth_of bs
 alone-truth bs = alone-tells truth_of bs (truth-word bs)
 
-pub alone-integer : (bs : List ℕ)
-    → option_and_then read_integer (only_word (slice_split is_space bs)) ≡ read_integer bs
-alone-integer bs = alone-tells read_integer bs (integer-word bs)
+pub alone-told : (id : List ℕ) (field : MeterField) (bs : List ℕ)
+    → option_and_then (told_of id field) (only_word (slice_split is_space bs))
+    ≡ told_of id field bs
+alone-told id field bs = alone-tells (told_of id field) bs (told-word id field bs)
 
 pub alone-association : (bs : List ℕ)
     → option_and_then association_of (only_word (slice_split is_space bs)) ≡ association_of bs
@@ -171,21 +183,23 @@ no-association verb words e =
     not-of (bytes_eq verb (codes "open")) (bytes_eq verb (codes "close"))
     (bytes_eq verb (codes "recv")) _ _ _ e
 
--- a text that isn't `scan`, and that begins with no verb before a name and a space, says what it
+-- a text that is neither `scan` nor `lost`, and that begins with no verb before a name and a space, says what it
 -- says of an association
 pub no-verb : (text : List ℕ) → ((r : List ℕ) → text ≢ codes "contact " ++ r)
     → ((r : List ℕ) → text ≢ codes "input " ++ r) → ((r : List ℕ) → text ≢ codes "measure " ++ r)
-    → text ≢ codes "scan"
+    → text ≢ codes "scan" → text ≢ codes "lost"
     → event_of (slice_split is_space text) ≡ association_event_in (slice_split is_space text)
-no-verb text no_contact no_input no_measure no_scan =
+no-verb text no_contact no_input no_measure no_scan no_lost =
     by-words (slice_split is_space text) (join_with_byte-slice_split 32 text)
   where
     by-words : (ws : List (List ℕ)) → join_with_byte 32 ws ≡ text
         → event_of ws ≡ association_event_in ws
     by-words [] e = refl
     by-words (word ∷ []) e =
-        ap (λ w. cond (bytes_eq w (codes "scan")) (Some scan) None) e
-        ∙ ap (λ v. cond v (Some scan) None) (is-not text (codes "scan") no_scan)
+        ap (λ w. cond (bytes_eq w (codes "scan")) (Some scan)
+        (cond (bytes_eq w (codes "lost")) (Some lost) None)) e
+        ∙ ap₂ (λ u v. cond u (Some scan) (cond v (Some lost) None))
+        (is-not text (codes "scan") no_scan) (is-not text (codes "lost") no_lost)
         ∙ sym (association-alone word)
     by-words (verb ∷ word ∷ values) e = by_test (is_association_verb verb) refl
       where

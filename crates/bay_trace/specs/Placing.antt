@@ -5,8 +5,8 @@ use Rattle.std.specs.Borrow.{Bor}
 use Rattle.bay_device.specs.Device.{State}
 use Rattle.bay_device.specs.LookUps.{switch_place, input_place, meter_place}
 use Rattle.bay_device.specs.declared.event.Event.{Event}
-use Rattle.bay_device.specs.declared.event.Event.TheVariants.{Open, Recv, Close, Contact, Input, Measure, Scan}
-use Rattle.bay_trace.specs.Trace.{NamedData, connects, receives, disconnects, contact, input, measure, scan}
+use Rattle.bay_device.specs.declared.event.Event.TheVariants.{Open, Recv, Close, Contact, Input, Measure, BadMeasure, Lost, Scan}
+use Rattle.bay_trace.specs.Trace.{NamedData, connects, receives, disconnects, contact, input, measure, bad_measure, lost, scan}
 
 -- octets, wherever they lie
 abbrev pub lying : List ℕ → Bor (List ℕ)
@@ -24,6 +24,9 @@ placed_event s (input name value) =
     Input (unwrap_or (input_place s name) (length s.input_values)) value
 placed_event s (measure id field value) =
     Measure (unwrap_or (meter_place s id) (length s.meters)) field value
+placed_event s (bad_measure id field) =
+    BadMeasure (unwrap_or (meter_place s id) (length s.meters)) field
+placed_event s lost = Lost
 placed_event s scan = Scan
 
 -- an event with its octets lying anywhere
@@ -34,6 +37,8 @@ anywhere (Close a) = Close a
 anywhere (Contact k position) = Contact k position
 anywhere (Input k value) = Input k value
 anywhere (Measure k field value) = Measure k field value
+anywhere (BadMeasure k field) = BadMeasure k field
+anywhere Lost = Lost
 anywhere Scan = Scan
 
 -- the octets that a line has
@@ -44,6 +49,8 @@ count_of (disconnects a) = 0
 count_of (contact id position) = 0
 count_of (input name value) = 0
 count_of (measure id field value) = 0
+count_of (bad_measure id field) = 0
+count_of lost = 0
 count_of scan = 0
 
 -- the octets of a line, and for how many there is room
@@ -59,6 +66,8 @@ AreOctets (disconnects a) octets = Unit {0}
 AreOctets (contact id position) octets = Unit {0}
 AreOctets (input name value) octets = Unit {0}
 AreOctets (measure id field value) octets = Unit {0}
+AreOctets (bad_measure id field) octets = Unit {0}
+AreOctets lost octets = Unit {0}
 AreOctets scan octets = Unit {0}
 
 -- the octets of what happens were taken, or there was no room for so many and no memory for more

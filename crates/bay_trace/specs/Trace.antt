@@ -1,9 +1,7 @@
 -- What a line of the trace says: words parted by one space.
-use Rattle.std.specs.Prelude.{ℕ, ℤ, pos, neg_ℤ, ◌==◌, ◌&&◌, ◌||◌, ◌+◌, ◌-◌, ◌*◌, ◌^◌, Bool, true, false, nat_lt, nat_le, List, [], ◌∷◌, length, codes, Option, None, Some, option_map, option_and_then, if◌then◌else◌}
+use Rattle.std.specs.Prelude.{ℕ, ℤ, ◌==◌, ◌||◌, ◌^◌, Bool, true, false, nat_lt, List, [], ◌∷◌, codes, Option, None, Some, option_map, option_and_then, if◌then◌else◌}
 use Rattle.std.specs.List.{slice_split}
-use Rattle.std.specs.Char.{is_ascii_digit}
-use Rattle.std.specs.Str.{all_ascii_digits, bytes_eq, is_utf8}
-use Rattle.std.specs.Str.Parse.{digits_value}
+use Rattle.std.specs.Str.{bytes_eq, is_utf8}
 use Rattle.bay_base.specs.declared.point.MeterField.{MeterField}
 use Rattle.bay_base.specs.declared.point.MeterField.TheVariants.{TotW, TotVAr, Hz, PhaseA, PhaseB, PhaseC}
 use Rattle.bay_tree.specs.declared.leaf.Dbpos.{Dbpos}
@@ -12,7 +10,8 @@ use Rattle.bay_base.specs.Decimals.{negative_of, positive_of, read_number}
 use Rattle.bay_trace.specs.Digits.{octets_of}
 
 -- what happens at a moment: an association is opened, octets of its client come, or it is closed; a
--- switch's position, an input's value or a field of a meter is told; or the program runs
+-- switch's position, an input's value or a field of a meter is told, or that a field is not to be
+-- trusted; the process is lost; or the program runs
 pub data NamedData : Type 0 where
   connects : ℕ → NamedData
   receives : ℕ → List ℕ → NamedData
@@ -20,6 +19,8 @@ pub data NamedData : Type 0 where
   contact : List ℕ → Dbpos → NamedData
   input : List ℕ → Bool → NamedData
   measure : List ℕ → MeterField → ℤ → NamedData
+  bad_measure : List ℕ → MeterField → NamedData
+  lost : NamedData
   scan : NamedData
 
 -- a line that can be read
@@ -82,12 +83,17 @@ field_of word =
     else if bytes_eq word (codes "AC") then Some PhaseC
     else None
 
--- a field and its value
+-- what a word tells of a field of a meter: its value, or with `bad` that it is not to be trusted
+abbrev pub told_of : List ℕ → MeterField → List ℕ → Option NamedData
+told_of id field word =
+    if bytes_eq word (codes "bad") then Some (bad_measure id field)
+    else option_map (measure id field) (read_integer word)
+
+-- a field and what is told of it
 abbrev pub measure_of : List ℕ → List (List ℕ) → Option NamedData
 measure_of id [] = None
-measure_of id (field ∷ value) =
-    option_and_then (λ f. option_map (measure id f)
-    (option_and_then read_integer (only_word value))) (field_of field)
+measure_of id (field ∷ told) =
+    option_and_then (λ f. option_and_then (told_of id f) (only_word told)) (field_of field)
 
 -- a word that is a name: it is UTF-8, and not empty
 abbrev pub name_of : List ℕ → Option (List ℕ)
@@ -95,7 +101,7 @@ name_of [] = None
 name_of (b ∷ bs) = if is_utf8 (b ∷ bs) then Some (b ∷ bs) else None
 
 -- what is told of what has this name: `contact` a position, `input` a truth value, `measure` a
--- field and its value
+-- field, and its value or `bad`
 abbrev pub named_of : List ℕ → List ℕ → List (List ℕ) → Option NamedData
 named_of verb name values =
     if bytes_eq verb (codes "contact")
@@ -138,11 +144,14 @@ abbrev pub is_association_verb : List ℕ → Bool
 is_association_verb verb =
     bytes_eq verb (codes "open") || (bytes_eq verb (codes "close") || bytes_eq verb (codes "recv"))
 
--- `scan` stands alone; the other verbs stand before an association, or before a name and what is
--- told
+-- `scan` and `lost` stand alone; the other verbs stand before an association, or before a name and
+-- what is told
 abbrev pub event_of : List (List ℕ) → Option NamedData
 event_of [] = None
-event_of (verb ∷ []) = if bytes_eq verb (codes "scan") then Some scan else None
+event_of (verb ∷ []) =
+    if bytes_eq verb (codes "scan") then Some scan
+    else if bytes_eq verb (codes "lost") then Some lost
+    else None
 event_of (verb ∷ word ∷ values) =
     if is_association_verb verb
     then association_event_of verb (word ∷ values)
@@ -167,6 +176,8 @@ process_event (disconnects a) = None
 process_event (contact id position) = Some (contact id position)
 process_event (input name value) = Some (input name value)
 process_event (measure id field value) = Some (measure id field value)
+process_event (bad_measure id field) = Some (bad_measure id field)
+process_event lost = None
 process_event scan = None
 
 -- what a line tells of the process; nothing where it can't be read, or tells of something else

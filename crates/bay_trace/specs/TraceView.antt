@@ -1,10 +1,10 @@
 -- A line of the trace without its place in memory.
 use Rattle.bay_trace.specs.declared.trace.NamedEvent.{NamedEvent}
-use Rattle.bay_trace.specs.declared.trace.NamedEvent.TheVariants.{Open, Recv, Close, Contact, Input, Measure, Scan}
+use Rattle.bay_trace.specs.declared.trace.NamedEvent.TheVariants.{Open, Recv, Close, Contact, Input, Measure, BadMeasure, Lost, Scan}
 use Rattle.bay_trace.specs.declared.trace.TraceLine.{TraceLine}
 use Rattle.bay_trace.specs.declared.trace.TraceLine.TheVariants.{Blank, At}
 use Rattle.bay_trace.specs.Digits.{octets_in}
-use Rattle.bay_trace.specs.Trace.{NamedData, LineData, connects, receives, disconnects, contact, input, measure, scan, blank, at_moment}
+use Rattle.bay_trace.specs.Trace.{NamedData, LineData, connects, receives, disconnects, contact, input, measure, bad_measure, lost, scan, blank, at_moment}
 
 -- what happens, without where its texts lie
 abbrev pub named_view : NamedEvent → NamedData
@@ -14,6 +14,8 @@ named_view (Close a) = disconnects a
 named_view (Contact id position) = contact id.now position
 named_view (Input name value) = input name.now value
 named_view (Measure id field value) = measure id.now field value
+named_view (BadMeasure id field) = bad_measure id.now field
+named_view Lost = lost
 named_view Scan = scan
 
 -- a line, without where its texts lie

@@ -46,6 +46,11 @@ pub fn placed_event<'a>(device: &Device, octets: &'a [u8], event: NamedEvent<'_>
             field,
             value,
         },
+        NamedEvent::BadMeasure { id, field } => Event::BadMeasure {
+            meter: device.meter(id).unwrap_or(device.meter_count()),
+            field,
+        },
+        NamedEvent::Lost => Event::Lost,
         NamedEvent::Scan => Event::Scan,
     }
 }

@@ -43,6 +43,13 @@ pub enum NamedEvent<'a> {
         field: MeterField,
         value: i32,
     },
+    /// This field of the meter with this id is not to be trusted.
+    BadMeasure {
+        id: &'a str,
+        field: MeterField,
+    },
+    /// The process is lost.
+    Lost,
     /// Runs the program once.
     Scan,
 }
@@ -160,18 +167,22 @@ fn input(text: &[u8]) -> Option<NamedEvent<'_>>
     Some(NamedEvent::Input { name, value })
 }
 
-// Reads an event of the meter with this id: a field and its value.
+// Reads an event of the meter with this id: a field, and its value or `bad`.
 fn measured<'a>(id: &'a str, told: &[u8]) -> Option<NamedEvent<'a>>
     ensures { option_map named_view result
         ≡ measure_of id.entry.now (slice_split is_space told.now) }
 {
     let (name, rest) = cut_word(told);
     let field = field(name)?;
-    let value = integer(rest?)?;
+    let rest = rest?;
+    if rest == b"bad".as_slice() {
+        return Some(NamedEvent::BadMeasure { id, field });
+    }
+    let value = integer(rest)?;
     Some(NamedEvent::Measure { id, field, value })
 }
 
-// Reads an event of a meter: a field and its value.
+// Reads an event of a meter: a field, and its value or `bad`.
 fn measure(text: &[u8]) -> Option<NamedEvent<'_>>
     ensures { option_map named_view result
         ≡ event_of (codes "measure" ∷ slice_split is_space text.now) }
@@ -222,6 +233,9 @@ fn event(text: &[u8]) -> Option<NamedEvent<'_>>
 {
     if text == b"scan".as_slice() {
         return Some(NamedEvent::Scan);
+    }
+    if text == b"lost".as_slice() {
+        return Some(NamedEvent::Lost);
     }
     if let Some(told) = text.strip_prefix(b"contact ") {
         return contact(told);
@@ -277,8 +291,8 @@ pub fn read_trace_line(line: &[u8]) -> Option<TraceLine<'_>>
     moment_line(line)
 }
 
-/// Reads a line with an event of the process: a contact, an input or a measurement. Returns `None`
-/// if the line is not valid or has another event.
+/// Reads a line with an event that a process sends: a contact, an input or a measurement. Returns
+/// `None` if the line is not valid or has another event.
 pub fn read_process_line(line: &[u8]) -> Option<NamedEvent<'_>>
     ensures { option_map named_view result ≡ process_of (trace_line_of line.now) }
 {
@@ -286,9 +300,10 @@ pub fn read_process_line(line: &[u8]) -> Option<NamedEvent<'_>>
         return None;
     };
     match event {
-        NamedEvent::Contact { .. } | NamedEvent::Input { .. } | NamedEvent::Measure { .. } => {
-            Some(event)
-        }
+        NamedEvent::Contact { .. }
+        | NamedEvent::Input { .. }
+        | NamedEvent::Measure { .. }
+        | NamedEvent::BadMeasure { .. } => Some(event),
         _ => None,
     }
 }

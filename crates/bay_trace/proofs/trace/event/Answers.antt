@@ -36,5 +36,9 @@ returns c =
     let other : bytes_eq c.args.text.now (codes "scan") ≡ false =
     ap (λ t. bytes_eq c.args.text.now t) (sym c.as_slice.ensures) ∙ sym c.eq.ensures
     ∙ c.if-eq.false in
+    let no_lost : bytes_eq c.args.text.now (codes "lost") ≡ false =
+    ap (λ t. bytes_eq c.args.text.now t) (sym c.as_slice-2.ensures) ∙ sym c.eq-2.ensures
+    ∙ c.if-eq-2.false in
     c.association_event.ensures ∙ sym (no-verb c.args.text.now no_contact no_input no_measure
-    (differs c.args.text.now (codes "scan") other))
+    (differs c.args.text.now (codes "scan") other)
+    (differs c.args.text.now (codes "lost") no_lost))
