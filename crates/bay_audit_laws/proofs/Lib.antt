@@ -1,3 +1,5 @@
+pub mod BadLemmas
+pub mod BlindLemmas
 pub mod DeviceLemmas
 pub mod LawLemmas
 pub mod LoadLemmas
@@ -5,3 +7,4 @@ pub mod MeasureLemmas
 pub mod ProcessLemmas
 pub mod RowLemmas
 pub mod WaitLemmas
+pub mod WrittenLemmas

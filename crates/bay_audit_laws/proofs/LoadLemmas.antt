@@ -28,7 +28,7 @@ contains-is rows name value tree w =
     ap (λ n. leaf_of n rows) (sym (ap (λ (r : Row). r.name) is))
     ∙ sym (leaf-named rows w.0 tree w.1) ∙ ap (λ (r : Row). r.leaf) is
 
-contains-leaf : (rows : List Row) (name : List ℕ) (value : Leaf) → IsTree rows
+pub contains-leaf : (rows : List Row) (name : List ℕ) (value : Leaf) → IsTree rows
     → Contains rows (row name (Some value)) → leaf_of name rows ≢ None
 contains-leaf rows name value tree w none =
     let both : Some value ≡ None = sym (contains-is rows name value tree w) ∙ none in cc

@@ -1,6 +1,7 @@
 // Laws of a device with a rule that holds. Each function does nothing, and its contract is the
 // law.
 ghost use Rattle.bay_audit_laws.specs.Laws.{CommandsObey, CommandsWait, ScansObey, ScansWait};
+ghost use Rattle.bay_audit_laws.specs.Lost.{LostIsBlind};
 
 /// Where a rule holds of a program, each scan of a device with that program leaves EnaOpn and
 /// EnaCls as the rule has it: of the positions, the inputs and the measured values as the device has
@@ -24,4 +25,11 @@ pub fn no_command_breaks_a_rule()
 pub fn a_release_waits()
     ensures scans { ScansWait }
     ensures commands { CommandsWait }
+{}
+
+/// While the process is lost, from its loss to the next contact, input, measured value or doubt of
+/// one that is accepted, the position of each switch is bad with an invalid quality and each input
+/// is FALSE: so each scan reads them, in each run of events from load on.
+pub fn a_lost_process_is_not_believed()
+    ensures { LostIsBlind }
 {}

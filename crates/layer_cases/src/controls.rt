@@ -6,8 +6,8 @@
 // selection, by `ok`; `selected` by the place of the selected switch.
 //
 // An ASK is `POSITION CATEGORY IDENTITY` with `on` or `off` and the identity's octets, and `test`
-// behind them for a test. A VIEW is the position, `fresh` or `stale`, and EnaOpn and EnaCls, as
-// `01`.
+// behind them for a test. A VIEW is the position, `fresh` or `stale` (`lost-fresh` or `lost-stale`
+// where the process is lost), and EnaOpn and EnaCls, as `01`.
 use crate::tree::position_of;
 use anyhow::{Result, bail};
 use bay_config::read::read_bay;
@@ -44,7 +44,8 @@ fn ask_of(alloc: Global, words: &[&str]) -> Result<Ask> {
 fn view_of(position: &str, age: &str, released: &str) -> View {
     View {
         pos: position_of(position),
-        fresh: age == "fresh",
+        lost: age.starts_with("lost"),
+        fresh: age.ends_with("fresh"),
         ena_opn: released.starts_with("1"),
         ena_cls: released.ends_with("1"),
     }
