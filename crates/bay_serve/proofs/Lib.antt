@@ -2,4 +2,5 @@ pub mod OfferLemmas
 pub mod PartLemmas
 pub mod RoomLemmas
 pub mod StepLemmas
+pub mod SupervisedLemmas
 pub mod TalkLemmas

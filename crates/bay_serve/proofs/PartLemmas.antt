@@ -5,9 +5,11 @@ use Rattle.bay_serve.specs.Calls.{Call, Accepts, Reads, Closes, Talks, ReadOutco
 use Rattle.bay_serve.specs.Offers.{Offer}
 use Rattle.bay_serve.specs.Served.{Goes, GoesEach, Offers, Opens, Serves, TakesIn}
 use Rattle.bay_serve.specs.Standings.{is_leaving}
-use Rattle.bay_serve.specs.Turns.{Held, Noted, Script, Turning, accept_calls_at, after_accept, after_each, after_line, after_reads, after_scan, turn_begin, calls_of_each, cut_off, free_place, heard_calls, hung_up, is_up, line_calls, with_line, offer_calls, offer_end, offer_of, offer_one, on_accept, on_heard, opening_at, after_opening, after_parting, queue_of, read_calls, read_one, scan_calls, after_turn_scan, after_settling, settling, standing_of, after_turn, turning, with_queue}
+use Rattle.bay_serve.specs.Turns.{Held, Noted, Script, Turning, accept_calls_at, after_accept, after_each, after_first, after_line, first_of, after_reads, after_scan, turn_begin, calls_of_each, cut_off, free_place, heard_calls, hung_up, is_up, line_calls, with_line, offer_calls, offer_end, offer_of, offer_one, on_accept, on_heard, opening_at, after_opening, after_parting, queue_of, read_calls, read_one, scan_calls, after_turn_scan, after_settling, settling, standing_of, after_turn, turning, with_queue}
 use Rattle.bay_serve.specs.declared.link.Arrival.{Arrival}
+use Rattle.bay_device.specs.Device.{over_at}
 use Rattle.bay_serve.specs.declared.process.ProcessEvent.{ProcessEvent}
+use Rattle.bay_serve.specs.declared.process.Reported.{Reported}
 use Rattle.bay_serve.specs.declared.told.Closing.TheVariants.{LinkFailed}
 use Rattle.bay_serve.specs.declared.told.Turn.{Turn}
 use Rattle.bay_serve.proofs.TalkLemmas.{Talks-one, Talks-append}
@@ -208,48 +210,55 @@ module _ {L : Type 0} (step : L → Call → L → Type 0) where
 
   -- ---- a turn
 
-  serves : (old l m p q new : L) (now : ℕ) (line : Option ProcessEvent) (before after : Held)
-      (noted : Noted) (s t u v : Turning) (opened : Option (ℕ × SocketAddrV4)) (turn : Turn)
-      → Opens step now old l (turn_begin before) s opened
-      → GoesEach step (read_one now) (read_calls now) l m 8 s t
-      → Talks step m (line_calls now line t) p → u ≡ with_line now line t
+  serves : (old k l m p q new : L) (now : ℕ) (given : Reported) (before after : Held) (noted : Noted)
+      (s z t u v : Turning) (opened : Option (ℕ × SocketAddrV4)) (over : Option ℕ) (turn : Turn)
+      → Opens step now old k (turn_begin before) s opened
+      → Talks step k (line_calls now (first_of given) s) l → z ≡ with_line now (first_of given) s
+      → GoesEach step (read_one now) (read_calls now) l m 8 z t
+      → Talks step m (line_calls now given.event t) p → u ≡ with_line now given.event t
       → Talks step p (scan_calls now u) q → v ≡ after_turn_scan now u
       → GoesEach step (offer_one now) (offer_calls now) q new 8 v (turning after noted)
+      → over ≡ over_at now before.device
       → turn ≡ record {
         opened = opened;
+        over = over;
         refused = noted.refused;
         commands = noted.commands;
         decisions = noted.decisions;
         closed = noted.closed;
         memory = noted.memory;
       }
-      → Serves step old new now line before after turn
-  serves old l m p q new now line before after noted s t u v opened turn a r
-      line_talks line_is scan_talks
-      scan_is o told =
+      → Serves step old new now given before after turn
+  serves old k l m p q new now given before after noted s z t u v opened over turn a first_talks
+      first_is r line_talks line_is scan_talks scan_is o over_is told =
       let script : Script =
       record { accepted = a.goes.choice; readings = r.choices; offers = o.choices } in
-      let first : s ≡ after_accept now script before = a.goes.is in
-      let second : t ≡ after_reads now script before =
+      let zero : s ≡ after_accept now script before = a.goes.is in
+      let first : z ≡ after_first now given script before =
+      first_is ∙ ap (with_line now (first_of given)) zero in
+      let second : t ≡ after_reads now given script before =
       r.is ∙ ap (after_each (read_one now) 0 r.choices) first in
-      let third : u ≡ after_line now line script before =
-      line_is ∙ ap (with_line now line) second in
-      let fourth : v ≡ after_scan now line script before =
+      let third : u ≡ after_line now given script before =
+      line_is ∙ ap (with_line now given.event) second in
+      let fourth : v ≡ after_scan now given script before =
       scan_is ∙ ap (after_turn_scan now) third in
-      let whole : turning after noted ≡ after_turn now line script before =
+      let whole : turning after noted ≡ after_turn now given script before =
       o.is ∙ ap (after_each (offer_one now) 0 o.choices) fourth in
+      let lost_talks : Talks step k
+      (line_calls now (first_of given) (after_accept now script before)) l =
+      subst (λ x. Talks step k (line_calls now (first_of given) x) l) zero first_talks in
       let read_talks : Talks step l
       (calls_of_each (read_one now) (read_calls now) 0 r.choices
-      (after_accept now script before)) m =
+      (after_first now given script before)) m =
       subst (λ x. Talks step l (calls_of_each (read_one now) (read_calls now) 0 r.choices x) m)
       first r.talks in
-      let lines : Talks step m (line_calls now line (after_reads now script before)) p =
-      subst (λ x. Talks step m (line_calls now line x) p) second line_talks in
-      let scans : Talks step p (scan_calls now (after_line now line script before)) q =
+      let lines : Talks step m (line_calls now given.event (after_reads now given script before)) p =
+      subst (λ x. Talks step m (line_calls now given.event x) p) second line_talks in
+      let scans : Talks step p (scan_calls now (after_line now given script before)) q =
       subst (λ x. Talks step p (scan_calls now x) q) third scan_talks in
       let offers : Talks step q
       (calls_of_each (offer_one now) (offer_calls now) 0 o.choices
-      (after_scan now line script before)) new =
+      (after_scan now given script before)) new =
       subst (λ x. Talks step q (calls_of_each (offer_one now) (offer_calls now) 0 o.choices x) new)
       fourth o.talks in
       record {
@@ -258,11 +267,14 @@ module _ {L : Type 0} (step : L → Call → L → Type 0) where
         all_offered = o.many;
         talks = Talks-append step old q new _ _
             (Talks-append step old p q _ _
-            (Talks-append step old m p _ _ (Talks-append step old l m _ _ a.goes.talks read_talks)
+            (Talks-append step old m p _ _
+            (Talks-append step old l m _ _ (Talks-append step old k l _ _ a.goes.talks lost_talks)
+            read_talks)
             lines)
             scans) offers;
         server = ap (λ (x : Turning). x.server) whole;
         opened = ap (λ (x : Turn). x.opened) told ∙ a.opened_is;
+        over = ap (λ (x : Turn). x.over) told ∙ over_is;
         refused = ap (λ (x : Turn). x.refused) told ∙ ap (λ (x : Turning). x.noted.refused) whole;
         commands =
             ap (λ (x : Turn). x.commands) told ∙ ap (λ (x : Turning). x.noted.commands) whole;
@@ -273,33 +285,38 @@ module _ {L : Type 0} (step : L → Call → L → Type 0) where
       }
 
   -- with what the code has in hand
-  pub serves-with : (old l m p q new : L) (now : ℕ) (line : Option ProcessEvent) (before after : Held)
-      (first noted : Noted) (s t u v : Turning) (opened : Option (ℕ × SocketAddrV4)) (turn : Turn)
-      → turning before first ≡ turn_begin before
-      → Opens step now old l (turning before first) s opened
-      → GoesEach step (read_one now) (read_calls now) l m 8 s t
-      → Talks step m (line_calls now line t) p → u ≡ with_line now line t
+  pub serves-with : (old k l m p q new : L) (now : ℕ) (given : Reported)
+      (first_event : Option ProcessEvent) (before after : Held) (first noted : Noted)
+      (s z t u v : Turning) (opened : Option (ℕ × SocketAddrV4)) (over : Option ℕ) (turn : Turn)
+      → turning before first ≡ turn_begin before → first_event ≡ first_of given
+      → Opens step now old k (turning before first) s opened
+      → Talks step k (line_calls now first_event s) l → z ≡ with_line now first_event s
+      → GoesEach step (read_one now) (read_calls now) l m 8 z t
+      → Talks step m (line_calls now given.event t) p → u ≡ with_line now given.event t
       → Talks step p (scan_calls now u) q → v ≡ after_turn_scan now u
       → GoesEach step (offer_one now) (offer_calls now) q new 8 v (turning after noted)
+      → over ≡ over_at now before.device
       → turn ≡ record {
         opened = opened;
+        over = over;
         refused = noted.refused;
         commands = noted.commands;
         decisions = noted.decisions;
         closed = noted.closed;
         memory = noted.memory;
       }
-      → Serves step old new now line before after turn
-  serves-with old l m p q new now line before after first noted s t u v opened turn e a r lt li st
-      si o
-      told =
-      serves old l m p q new now line before after noted s t u v opened turn
-      (subst (λ x. Opens step now old l x s opened) e a) r lt li st si o
-      told
+      → Serves step old new now given before after turn
+  serves-with old k l m p q new now given first_event before after first noted s z t u v opened over
+      turn e f a ft fi r lt li st si o ov told =
+      serves old k l m p q new now given before after noted s z t u v opened over turn
+      (subst (λ x. Opens step now old k x s opened) e a)
+      (subst (λ x. Talks step k (line_calls now x s) l) f ft)
+      (fi ∙ ap (λ x. with_line now x s) f)
+      r lt li st si o ov told
 
-  pub serves-as : (old new : L) (now same : ℕ) (line told : Option ProcessEvent) (before after : Held)
-      (turn : Turn) → Serves step old new now line before after turn
-      → now ≡ same → line ≡ told → Serves step old new same told before after turn
-  serves-as old new now same line told before after turn serves p q =
+  pub serves-as : (old new : L) (now same : ℕ) (given told : Reported) (before after : Held)
+      (turn : Turn) → Serves step old new now given before after turn
+      → now ≡ same → given ≡ told → Serves step old new same told before after turn
+  serves-as old new now same given told before after turn serves p q =
       subst (λ n. Serves step old new n told before after turn) p
       (subst (λ l. Serves step old new now l before after turn) q serves)

@@ -3,8 +3,8 @@
 -- `Turns` is the main file: **one turn**, a function of the time, of what the line tells, of the
 -- server before it and of a script. The script holds all that the turn does not decide itself:
 -- whether a connection waited, what each association brought, where memory ran out for it, and how
--- much each queue sent. A turn takes a connection, reads each association, takes the line, scans,
--- and offers each queue to the link. After each of these it closes an association to which a reply
+-- much each queue sent. A turn takes a connection, tells the device that the process is lost, if it
+-- is, reads each association, takes the line, scans, and offers each queue to the link. After each of these it closes an association to which a reply
 -- did not fit. It also gives the calls on the link in their order, and each event is the device's
 -- step (`Outcomes` of bay_device).
 --
@@ -15,7 +15,8 @@
 -- that is offered once more; which of these take replies.
 --
 -- `Served`: why a turn is refused, and what one that is done promises: there is a script with which
--- the calls, the server after it and what it tells are the turn's. `Room`: the room taken at first.
+-- the calls, the server after it and what it tells are the turn's. `Supervised`: the lines of a
+-- process that says when each was so. `Room`: the room taken at first.
 -- `Code` numbers the closings and faults.
 
 -- What public clauses cite of the crates below.
@@ -30,4 +31,5 @@ pub mod Offers
 pub mod Room
 pub mod Served
 pub mod Standings
+pub mod Supervised
 pub mod Turns

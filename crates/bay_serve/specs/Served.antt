@@ -1,23 +1,24 @@
 -- What a turn does, with the link that it is done over.
-use Rattle.std.specs.Prelude.{◌≡◌, ℕ, nat_lt, Bool, List, ◌++◌, length, drop, Option, Some, None, option_and_then, option_map, unwrap_or, Result, Ok, Err, if◌then◌else◌}
+use Rattle.std.specs.Prelude.{◌≡◌, ℕ, nat_lt, Bool, false, true, List, ◌++◌, length, drop, Option, Some, None, option_and_then, option_map, unwrap_or, Result, Ok, Err, if◌then◌else◌}
 use Rattle.std.specs.Borrow.{Bor}
 use Rattle.std.specs.declared.net.socket_addr.SocketAddrV4.{SocketAddrV4}
-use Rattle.bay_device.specs.Device.{State}
+use Rattle.bay_device.specs.Device.{State, over_at}
 use Rattle.bay_device.specs.LookUps.{input_place, meter_place, switch_place}
 use Rattle.bay_device.specs.Outcomes.{associations, last_moment}
-use Rattle.bay_trace.specs.Trace.{NamedData, connects, receives, disconnects, contact, input, measure, scan, process_of, trace_line_of}
+use Rattle.bay_trace.specs.Trace.{LineData, NamedData, blank, at_moment, connects, receives, disconnects, contact, input, measure, bad_measure, lost, scan, process_of, trace_line_of}
 use Rattle.bay_serve.specs.Calls.{Call, Talks}
 use Rattle.bay_serve.specs.Offers.{offering_of, after_calls}
 use Rattle.bay_serve.specs.Turns.{Held, Script, Turning, accept_calls, with_accept, after_each, calls_of_each, moment_at, opening_of, taken_in, after_turn, turn_calls}
 use Rattle.bay_serve.specs.declared.fault.ServeFault.{ServeFault}
 use Rattle.bay_serve.specs.declared.fault.ServeFault.TheVariants.{BadLine, MomentTooLarge}
 use Rattle.bay_serve.specs.declared.process.ProcessEvent.{ProcessEvent}
-use Rattle.bay_serve.specs.declared.process.ProcessEvent.TheVariants.{Contact, Input, Measure}
+use Rattle.bay_serve.specs.declared.process.ProcessEvent.TheVariants.{Contact, Input, Measure, BadMeasure}
+use Rattle.bay_serve.specs.declared.process.Reported.{Reported}
 use Rattle.bay_serve.specs.declared.told.Turn.{Turn}
 
 -- ---- what a turn is given
 
--- what a line tells of the process: a contact, an input or a measure
+-- what a line tells of the process: a contact, an input or a measure, which may be bad
 abbrev pub line_of : List ℕ → Option NamedData
 line_of text = process_of (trace_line_of text)
 
@@ -33,19 +34,40 @@ process_event s (input name value) =
     Some (Input (unwrap_or (input_place s name) (length s.input_values)) value)
 process_event s (measure id field value) =
     Some (Measure (unwrap_or (meter_place s id) (length s.meters)) field value)
+process_event s (bad_measure id field) =
+    Some (BadMeasure (unwrap_or (meter_place s id) (length s.meters)) field)
+process_event s lost = None
 process_event s scan = None
 
 -- what a line tells of the process of a device
 abbrev pub told_by : State → List ℕ → Option ProcessEvent
 told_by s text = option_and_then (process_event s) (line_of text)
 
--- an event, nothing, or a line that tells of none
+-- what a turn is given of the process, or a line that gives nothing
 abbrev pub Given : Type 0
-Given = Result (Option ProcessEvent) ServeFault
+Given = Result Reported ServeFault
 
+-- nothing is given, or an event alone
+abbrev pub reported : Option ProcessEvent → Reported
+reported event = record { is_lost = false; event = event }
+
+-- a line that tells of an event of the process
 abbrev pub understood : Option ProcessEvent → Given
 understood None = Err BadLine
-understood (Some event) = Ok (Some event)
+understood (Some event) = Ok (reported (Some event))
+
+-- a line that tells that the process is lost
+abbrev pub tells_lost : Option LineData → Bool
+tells_lost None = false
+tells_lost (Some blank) = false
+tells_lost (Some (at_moment moment lost)) = true
+tells_lost (Some (at_moment moment other)) = false
+
+-- what a line of a trace gives a turn: an event of the process, or that it is lost
+abbrev pub given_line : State → List ℕ → Given
+given_line s text =
+    if tells_lost (trace_line_of text) then Ok (record { is_lost = true; event = None })
+    else understood (told_by s text)
 
 -- the line of a turn, if there is one
 abbrev pub text_in : Option (Bor (List ℕ)) → Option (List ℕ)
@@ -53,19 +75,18 @@ text_in line = option_map (λ (text : Bor (List ℕ)). text.now) line
 
 -- what it gives the turn
 abbrev pub given_by : State → Option (List ℕ) → Given
-given_by s None = Ok None
-given_by s (Some text) = understood (told_by s text)
+given_by s None = Ok (reported None)
+given_by s (Some text) = given_line s text
 
--- the event of a turn, if it has one
-abbrev pub event_in : Given → Option ProcessEvent
-event_in (Ok event) = event
-event_in (Err fault) = None
+-- what a turn has of the process
+abbrev pub reported_in : Given → Reported
+reported_in (Ok given) = given
+reported_in (Err fault) = reported None
 
--- A line that tells of no contact, no input and no measure comes first, and then a moment that is
--- too large.
+-- A line that gives nothing comes first, and then a moment that is too large.
 abbrev pub turn_refusal : ℕ → Given → Held → Option ServeFault
 turn_refusal clock (Err fault) h = Some fault
-turn_refusal clock (Ok event) h =
+turn_refusal clock (Ok given) h =
     if nat_lt last_moment (moment_at clock h) then Some MomentTooLarge else None
 
 -- ---- its parts
@@ -121,16 +142,17 @@ module _ {L : Type 0} (step : L → Call → L → Type 0) where
   -- There is a script, of what the link answered to an accept, eight reads and eight offers and of
   -- where memory was refused, such that the calls on the link, the server after them and what the
   -- turn tells are the script's.
-  pub record Serves (old new : L) (now : ℕ) (line : Option ProcessEvent) (before after : Held)
+  pub record Serves (old new : L) (now : ℕ) (given : Reported) (before after : Held)
       (turn : Turn) : Type 0 where
     pub script : Script
     pub all_read : length script.readings ≡ associations
     pub all_offered : length script.offers ≡ associations
-    pub talks : Talks step old (turn_calls now line script before) new
-    pub server : after ≡ (after_turn now line script before).server
+    pub talks : Talks step old (turn_calls now given script before) new
+    pub server : after ≡ (after_turn now given script before).server
     pub opened : turn.opened ≡ opening_of script.accepted before
-    pub refused : turn.refused ≡ (after_turn now line script before).noted.refused
-    pub commands : turn.commands ≡ (after_turn now line script before).noted.commands
-    pub decisions : turn.decisions ≡ (after_turn now line script before).noted.decisions
-    pub closed : turn.closed ≡ (after_turn now line script before).noted.closed
-    pub memory : turn.memory ≡ (after_turn now line script before).noted.memory
+    pub over : turn.over ≡ over_at now before.device
+    pub refused : turn.refused ≡ (after_turn now given script before).noted.refused
+    pub commands : turn.commands ≡ (after_turn now given script before).noted.commands
+    pub decisions : turn.decisions ≡ (after_turn now given script before).noted.decisions
+    pub closed : turn.closed ≡ (after_turn now given script before).noted.closed
+    pub memory : turn.memory ≡ (after_turn now given script before).noted.memory

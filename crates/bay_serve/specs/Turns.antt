@@ -8,7 +8,7 @@ use Rattle.bay_device.specs.Code.{step_code_of}
 use Rattle.bay_device.specs.Device.{State}
 use Rattle.bay_device.specs.Outcomes.{associations, connection_at, outcome, place_of, Outcome}
 use Rattle.bay_device.specs.declared.event.Event.{Event}
-use Rattle.bay_device.specs.declared.event.Event.TheVariants.{Open, Recv, Close, Contact, Input, Measure, Scan}
+use Rattle.bay_device.specs.declared.event.Event.TheVariants.{Open, Recv, Close, Contact, Input, Measure, BadMeasure, Lost, Scan}
 use Rattle.bay_device.specs.declared.event.Sent.{Sent}
 use Rattle.bay_device.specs.declared.event.Step.{Step}
 use Rattle.bay_device.specs.declared.event.Why.{Why}
@@ -20,6 +20,7 @@ use Rattle.bay_serve.specs.Offers.{Offer, Offered, offering_of}
 use Rattle.bay_serve.specs.Standings.{after_full, is_full, is_leaving, is_told, takes_replies}
 use Rattle.bay_serve.specs.declared.process.ProcessEvent.{ProcessEvent}
 use Rattle.bay_serve.specs.declared.process.ProcessEvent.TheVariants as process
+use Rattle.bay_serve.specs.declared.process.Reported.{Reported}
 use Rattle.bay_serve.specs.declared.standing.Standing.{Standing}
 use Rattle.bay_serve.specs.declared.standing.Standing.TheVariants.{Steady, Leaving, Gone}
 use Rattle.bay_serve.specs.declared.told.Closing.{Closing}
@@ -321,6 +322,8 @@ abbrev pub event_of : ProcessEvent → Event
 event_of (process.Contact k position) = Contact k position
 event_of (process.Input k value) = Input k value
 event_of (process.Measure k field value) = Measure k field value
+event_of (process.BadMeasure k field) = BadMeasure k field
+event_of process.Lost = Lost
 
 -- an event that the device refuses is told of
 abbrev pub put_told : Result Step StepFault → Turning → Turning
@@ -333,6 +336,10 @@ told_after o s = put_told o.answer (with_device o.after s)
 -- what happens to the process happens at the turn's moment
 abbrev pub told_of : ℕ → ProcessEvent → Turning → Turning
 told_of now event s = told_after (outcome None now (event_of event) s.server.device) s
+
+-- what a turn begins with before it reads: where the process is lost, that it is
+abbrev pub first_of : Reported → Option ProcessEvent
+first_of given = if given.is_lost then Some process.Lost else None
 
 -- a turn has an event of the process, or none
 abbrev pub with_line : ℕ → Option ProcessEvent → Turning → Turning
@@ -431,27 +438,33 @@ turn_begin h = turning h nothing_noted
 abbrev pub after_accept : ℕ → Script → Held → Turning
 after_accept now script h = with_accept now script.accepted (turn_begin h)
 
-abbrev pub after_reads : ℕ → Script → Held → Turning
-after_reads now script h = after_each (read_one now) 0 script.readings (after_accept now script h)
+abbrev pub after_first : ℕ → Reported → Script → Held → Turning
+after_first now given script h = with_line now (first_of given) (after_accept now script h)
 
-abbrev pub after_line : ℕ → Option ProcessEvent → Script → Held → Turning
-after_line now line script h = with_line now line (after_reads now script h)
+abbrev pub after_reads : ℕ → Reported → Script → Held → Turning
+after_reads now given script h =
+    after_each (read_one now) 0 script.readings (after_first now given script h)
 
-abbrev pub after_scan : ℕ → Option ProcessEvent → Script → Held → Turning
-after_scan now line script h = after_turn_scan now (after_line now line script h)
+abbrev pub after_line : ℕ → Reported → Script → Held → Turning
+after_line now given script h = with_line now given.event (after_reads now given script h)
 
--- A turn: one connection is taken, each association is read, the line is told, the program runs
--- once, and each queue is offered.
-abbrev pub after_turn : ℕ → Option ProcessEvent → Script → Held → Turning
-after_turn now line script h =
-    after_each (offer_one now) 0 script.offers (after_scan now line script h)
+abbrev pub after_scan : ℕ → Reported → Script → Held → Turning
+after_scan now given script h = after_turn_scan now (after_line now given script h)
+
+-- A turn: one connection is taken; where the process is lost, that is told; each association is
+-- read, the line is told, the program runs once, and each queue is offered.
+abbrev pub after_turn : ℕ → Reported → Script → Held → Turning
+after_turn now given script h =
+    after_each (offer_one now) 0 script.offers (after_scan now given script h)
 
 -- the calls on the link, in their order
-abbrev pub turn_calls : ℕ → Option ProcessEvent → Script → Held → List Call
-turn_calls now line script h =
+abbrev pub turn_calls : ℕ → Reported → Script → Held → List Call
+turn_calls now given script h =
     accept_calls now script.accepted (turn_begin h)
-    ++ calls_of_each (read_one now) (read_calls now) 0 script.readings (after_accept now script h)
-    ++ line_calls now line (after_reads now script h)
-    ++ scan_calls now (after_line now line script h)
+    ++ line_calls now (first_of given) (after_accept now script h)
+    ++ calls_of_each (read_one now) (read_calls now) 0 script.readings
+    (after_first now given script h)
+    ++ line_calls now given.event (after_reads now given script h)
+    ++ scan_calls now (after_line now given script h)
     ++ calls_of_each (offer_one now) (offer_calls now) 0 script.offers
-    (after_scan now line script h)
+    (after_scan now given script h)

@@ -7,7 +7,7 @@ use thiserror::Error;
 /// Why a turn was not done. Nothing has changed.
 #[derive(Clone, Copy, Debug, Error)]
 pub enum ServeFault {
-    /// The line does not report a contact, an input or a measurement.
+    /// The line reports no contact, no input and no measurement, and not that the process is lost.
     #[error("the line is no contact, input or measure")]
     BadLine,
     /// The time is past the last one that a time stamp can hold.

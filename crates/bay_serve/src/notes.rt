@@ -160,10 +160,12 @@ impl Notes {
         self.decisions[place] = Some(decisions);
     }
 
-    /// Returns what the turn reports, given the association that it opened.
-    pub fn into_turn(self, opened: Option<(u16, SocketAddrV4)>) -> Turn
+    /// Returns what the turn reports, given the association that it opened, and the switch whose
+    /// operate was over in it.
+    pub fn into_turn(self, opened: Option<(u16, SocketAddrV4)>, over: Option<usize>) -> Turn
         ensures { result ≡ record {
           opened = opened;
+          over = over;
           refused = self.refused;
           commands = self.commands;
           decisions = self.decisions;
@@ -181,6 +183,7 @@ impl Notes {
         } = self;
         Turn {
             opened,
+            over,
             refused,
             commands,
             decisions,

@@ -41,6 +41,8 @@ impl Closing {
 pub struct Turn {
     /// The association that was opened, and the address of its client.
     pub opened: Option<(u16, SocketAddrV4)>,
+    /// The switch whose operate was over, as it had not reached its position in time.
+    pub over: Option<usize>,
     /// The number of the fault with which the device refused the event of the line: 113, no such
     /// switch, input or meter.
     pub refused: Option<u8>,

@@ -1,7 +1,7 @@
 // One turn of the server.
 ghost use Rattle.std.specs.Prelude.{◌≡◌, None, Some, IfOk, IfErr, OnErr, OnOk};
 ghost use Rattle.bay_serve.specs.Calls.{Called, Talks};
-ghost use Rattle.bay_serve.specs.Served.{Serves, event_in, given_by, text_in, turn_refusal};
+ghost use Rattle.bay_serve.specs.Served.{Serves, given_by, reported_in, text_in, turn_refusal};
 ghost use Rattle.bay_serve.specs.Turns.{line_calls, with_line, moment_at, scan_calls, after_turn_scan, told_of, turning};
 
 use crate::closing::settle;
@@ -9,7 +9,7 @@ use crate::fault::ServeFault;
 use crate::link::Link;
 use crate::notes::Notes;
 use crate::offering::offer_each;
-use crate::process::{Given, ProcessEvent, read_line};
+use crate::process::{Given, ProcessEvent, Reported, read_line};
 use crate::reading::{accept_one, read_each};
 use crate::sending::{put_ended, step_quietly};
 use crate::server::Server;
@@ -21,6 +21,7 @@ use bay_device::event::{Event, LAST_MOMENT};
 fn tell(server: &mut Server, notes: &mut Notes, now: u64, event: ProcessEvent)
     ensures after { turning server.new notes.new
         ≡ told_of now event (turning server.old notes.old) }
+    ensures commands { notes.new.commands ≡ notes.old.commands }
 {
     match server.step(now, event.event()) {
         Ok(step) => put_ended(server, notes, &step.ended),
@@ -40,6 +41,7 @@ fn tell_line<L: Link>(
         (line_calls now event (turning server.old notes.old)) link.new }
     ensures after { turning server.new notes.new
         ≡ with_line now event (turning server.old notes.old) }
+    ensures commands { notes.new.commands ≡ notes.old.commands }
 {
     if let Some(event) = event {
         tell(server, notes, now, event);
@@ -59,14 +61,14 @@ fn scan<L: Link>(server: &mut Server, notes: &mut Notes, link: &mut L, now: u64)
 }
 
 /// Serves one turn, at the later of the clock's time (in milliseconds since 1970) and the last
-/// time. Accepts at most one waiting connection, under the lowest free number. Reads each
-/// association once, in order, up to 4,096 octets; closes one whose client sends no more, and one
+/// time. Accepts at most one waiting connection, under the lowest free number. Tells the device that the process is lost, if it
+/// is. Reads each association once, in order, up to 4,096 octets; closes one whose client sends no more, and one
 /// whose read fails, with 131. Does the event of the process that it is given, if it is given one.
 /// Runs the program once. Writes what is still to be sent to each association, as far as the link
 /// takes it. Closes an association with 131 if a write fails, and with 130 if a reply does not fit
 /// into what is still to be sent to it.
 ///
-/// A line that reports no event of the process is refused first, then a time that is too late.
+/// A line that reports nothing of the process is refused first, then a time that is too late.
 /// Nothing is done then.
 pub fn serve_event<L: Link>(
     server: &mut Server,
@@ -78,7 +80,7 @@ pub fn serve_event<L: Link>(
     // are the turn's.
     ensures ok { IfOk result
         (λ turn. Serves (Called L.does L.failures) link.old link.new (moment_at clock server.old)
-        (event_in given) server.old server.new turn) }
+        (reported_in given) server.old server.new turn) }
     // A turn is done exactly where what it is given and its moment are right, and otherwise it says
     // which of them is not.
     ensures right { OnOk result (turn_refusal clock given server.old ≡ None) }
@@ -87,18 +89,20 @@ pub fn serve_event<L: Link>(
     ensures server_kept { OnErr result (server.new ≡ server.old) }
     ensures link_kept { OnErr result (link.new ≡ link.old) }
 {
-    let event = given?;
+    let given = given?;
     let now = clock.max(server.device().moment());
     if now > LAST_MOMENT {
         return Err(ServeFault::MomentTooLarge);
     }
+    let over = server.device().over_at(now);
     let mut notes = Notes::new();
     let opened = accept_one(server, &mut notes, link, now);
+    tell_line(server, &mut notes, link, now, given.first());
     read_each(server, &mut notes, link, now);
-    tell_line(server, &mut notes, link, now, event);
+    tell_line(server, &mut notes, link, now, given.event);
     scan(server, &mut notes, link, now);
     offer_each(server, &mut notes, link, now);
-    Ok(notes.into_turn(opened))
+    Ok(notes.into_turn(opened, over))
 }
 
 // Reads the line of a turn, if there is one.
@@ -107,12 +111,12 @@ fn read_given(device: &Device, line: Option<&str>) -> Given
 {
     match line {
         Some(text) => read_line(device, text.as_bytes()),
-        None => Ok(None),
+        None => Ok(Reported::of(None)),
     }
 }
 
-/// Serves one turn, which is given the contact, input or measurement of a line, whatever the line's
-/// own time.
+/// Serves one turn, which is given what a line reports: a contact, an input or a measurement, or
+/// that the process is lost, whatever the line's own time.
 pub fn serve_turn<L: Link>(
     server: &mut Server,
     link: &mut L,
@@ -121,7 +125,7 @@ pub fn serve_turn<L: Link>(
 ) -> Result<Turn, ServeFault>
     ensures ok { IfOk result
         (λ turn. Serves (Called L.does L.failures) link.old link.new (moment_at clock server.old)
-        (event_in (given_by server.old.device (text_in line.entry))) server.old server.new turn) }
+        (reported_in (given_by server.old.device (text_in line.entry))) server.old server.new turn) }
     ensures right { OnOk result
         (turn_refusal clock (given_by server.old.device (text_in line.entry)) server.old ≡ None) }
     ensures refused { IfErr result

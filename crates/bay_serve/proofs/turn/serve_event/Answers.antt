@@ -7,9 +7,10 @@ pub returns-clause-ok : goal.returns-clause-ok
 returns-clause-ok g c =
     let now : c.max-now.result ≡ moment_at c.args.clock c.args.server.now = search rules in
     serves-as _ _ _ _ _ _ _ _ _ _
-    (serves-with _ _ _ _ _ _ _ _ _ _ _ _ _ _ _ _ _ _ _
-    (ap (turning c.args.server.now) c.new-notes.ensures) c.accept_one-opened.ensures.opens
+    (serves-with _ _ _ _ _ _ _ _ _ _ _ _ _ _ _ _ _ _ _ _ _ _ _
+    (ap (turning c.args.server.now) c.new-notes.ensures) c.first.ensures
+    c.accept_one-opened.ensures.opens c.tell_line.ensures.talks c.tell_line.ensures.after
     c.read_each.ensures
-    c.tell_line.ensures.talks c.tell_line.ensures.after c.scan.ensures.talks c.scan.ensures.after
-    c.offer_each.ensures c.into_turn.ensures)
+    c.tell_line-2.ensures.talks c.tell_line-2.ensures.after c.scan.ensures.talks
+    c.scan.ensures.after c.offer_each.ensures (search rules) c.into_turn.ensures)
     now (search rules)
