@@ -12,8 +12,9 @@ use Rattle.bay_trace.specs.Placing.{lying}
 use Rattle.bay_serve.specs.Calls.{Call, Reads, Closes, ReadOutcome, Octets, Silence, Over, Broken}
 use Rattle.bay_serve.specs.Offers.{Offer}
 use Rattle.bay_serve.specs.Standings.{is_leaving, is_told}
-use Rattle.bay_serve.specs.Turns.{Held, Reading, Script, Turning, turn_calls, accept_calls, after_accept, after_each, after_line, after_offer, after_reads, after_scan, turn_begin, calls_of_each, cut_off, free_place, heard_calls, hung_up, is_up, leaves, left_by, line_calls, offer_calls, offer_end, offer_of, offer_one, on_heard, after_parting, put_answer, queue_at, queue_of, read_calls, read_one, scan_calls, after_settling, settling, standing_of, after_event, taken_in, after_turn, with_device, with_noted, with_queue}
+use Rattle.bay_serve.specs.Turns.{Held, Reading, Script, Turning, turn_calls, accept_calls, after_accept, after_each, after_line, after_offer, after_reads, after_scan, turn_begin, calls_of_each, cut_off, free_place, heard_calls, hung_up, is_up, leaves, left_by, line_calls, offer_calls, offer_end, offer_of, offer_one, on_heard, after_parting, put_answer, queue_at, queue_of, read_calls, read_one, scan_calls, after_settling, settling, standing_of, after_event, taken_in, after_turn, with_device, with_noted, with_queue, after_first, first_of, with_line}
 use Rattle.bay_serve.specs.declared.process.ProcessEvent.{ProcessEvent}
+use Rattle.bay_serve.specs.declared.process.Reported.{Reported}
 use Rattle.bay_serve.specs.declared.told.Closing.TheVariants as closing
 use Rattle.bay_serve_laws.specs.Causes.{HasItsCause, ends_for, fails_for, has_some, reason_in, reasons_of}
 use Rattle.bay_serve_laws.specs.Events.{ChosenEvent, turn_events, accept_events, done_at, events_of_each, failed_events, heard_events, line_events, offer_events, read_events, scan_events, settled_events}
@@ -399,25 +400,36 @@ module _ (now p : ℕ) (low : p < 8) (held : List ℕ) (past : now ≤ last_mome
       }
 
 -- what is known after a turn
-abbrev pub KnowsTurn : ℕ → Option ProcessEvent → Script → Held → ℕ → Type 0
-KnowsTurn now line script h p =
-    Knows p (has_some (fails_for (p + 1)) (turn_calls now line script h))
-    (has_some (ends_for (p + 1)) (turn_calls now line script h))
-    (reasons_of (p + 1) (done_at now (turn_events now line script h) h.device).answers)
-    (after_turn now line script h).noted
+abbrev pub KnowsTurn : ℕ → Reported → Script → Held → ℕ → Type 0
+KnowsTurn now given script h p =
+    Knows p (has_some (fails_for (p + 1)) (turn_calls now given script h))
+    (has_some (ends_for (p + 1)) (turn_calls now given script h))
+    (reasons_of (p + 1) (done_at now (turn_events now given script h) h.device).answers)
+    (after_turn now given script h).noted
 
-pub knows-turn : (now : ℕ) (line : Option ProcessEvent) (script : Script) (h : Held) → IsTidy h
+line-learns : (now p : ℕ) (low : p < 8) (line : Option ProcessEvent) (s : Turning)
+    → Learns now p low s (line_calls now line s) (line_events now line s) (with_line now line s)
+line-learns now p low line s =
+    Learns-still now p low s (with_line now line s) (line_calls now line s) (line_events now line s)
+    (Part-line now line s).device (plain-line (p + 1) now line s)
+    (none-closes (p + 1) now (line_events now line s) s.server.device (line-quiet now line s))
+    (λ sized. keep-line (Others now p low) (Still p s.noted) (still-kept p low s.noted) now line s
+    (Still-refl p s.noted sized))
+
+pub knows-turn : (now : ℕ) (given : Reported) (script : Script) (h : Held) → IsTidy h
     → IsInTime now h → length script.readings ≡ 8 → length script.offers ≡ 8
-    → (p : ℕ) → p < 8 → KnowsTurn now line script h p
-knows-turn now line script h tidy time readings offers p low =
+    → (p : ℕ) → p < 8 → KnowsTurn now given script h p
+knows-turn now given script h tidy time readings offers p low =
     let held = queue_at p h in
+    let line = given.event in
     let past = time.not_past in
     let s0 : Turning = turn_begin h in
     let s1 : Turning = after_accept now script h in
-    let s2 : Turning = after_reads now script h in
-    let s3 : Turning = after_line now line script h in
-    let s4 : Turning = after_scan now line script h in
-    let s5 : Turning = after_turn now line script h in
+    let z : Turning = after_first now given script h in
+    let s2 : Turning = after_reads now given script h in
+    let s3 : Turning = after_line now given script h in
+    let s4 : Turning = after_scan now given script h in
+    let s5 : Turning = after_turn now given script h in
     let kept1 : Kept now p low held past s1 = record {
       taken = _;
       sent = _;
@@ -433,22 +445,23 @@ knows-turn now line script h tidy time readings offers p low =
     (accept-quiet now (free_place h) script.accepted s0))
     (λ sized. keep-on-accept (Others now p low) (Still p s0.noted) (still-kept p low s0.noted) now
     (free_place h) script.accepted s0 (Still-refl p s0.noted sized)) in
-    let to2 : Both now p low held past s1
-    (calls_of_each (read_one now) (read_calls now) 0 script.readings s1)
-    (events_of_each (read_one now) (read_events now) 0 script.readings s1) s2 =
+    let lost = first_of given in
+    let kept0 : Kept now p low held past z =
+    kept-after now p low held past s1 z (line_calls now lost s1) (line_events now lost s1)
+    (line-moves now p held low past lost s1) kept1 in
+    let to0 : Learns now p low s1 (line_calls now lost s1) (line_events now lost s1) z =
+    line-learns now p low lost s1 in
+    let to2 : Both now p low held past z
+    (calls_of_each (read_one now) (read_calls now) 0 script.readings z)
+    (events_of_each (read_one now) (read_events now) 0 script.readings z) s2 =
     each-both now p low held past (read_one now) (read_calls now) (read_events now)
-    (read-learns now p low) (read-moves now p held low past) 0 script.readings s1
-    (omega (arith, readings)) kept1 in
+    (read-learns now p low) (read-moves now p held low past) 0 script.readings z
+    (omega (arith, readings)) kept0 in
     let kept3 : Kept now p low held past s3 =
     kept-after now p low held past s2 s3 (line_calls now line s2) (line_events now line s2)
     (line-moves now p held low past line s2) to2.kept in
     let to3 : Learns now p low s2 (line_calls now line s2) (line_events now line s2) s3 =
-    Learns-still now p low s2 s3 (line_calls now line s2) (line_events now line s2)
-    (Part-line now line s2).device (plain-line (p + 1) now line s2)
-    (none-closes (p + 1) now (line_events now line s2) s2.server.device
-    (line-quiet now line s2))
-    (λ sized. keep-line (Others now p low) (Still p s2.noted) (still-kept p low s2.noted) now line
-    s2 (Still-refl p s2.noted sized)) in
+    line-learns now p low line s2 in
     let kept4 : Kept now p low held past s4 =
     kept-after now p low held past s3 s4 (scan_calls now s3) (scan_events now s3)
     (scan-moves now p held low past s3) kept3 in
@@ -465,14 +478,15 @@ knows-turn now line script h tidy time readings offers p low =
     each-both now p low held past (offer_one now) (offer_calls now) (offer_events now)
     (offer-learns now p low) (offer-moves now p held low past) 0 script.offers s4
     (omega (arith, offers)) kept4 in
-    let to02 = Learns-trans now p low s0 s1 s2 _ _ _ _ to1 to2.learns in
+    let to01 = Learns-trans now p low s0 s1 z _ _ _ _ to1 to0 in
+    let to02 = Learns-trans now p low s0 z s2 _ _ _ _ to01 to2.learns in
     let to03 = Learns-trans now p low s0 s2 s3 _ _ _ _ to02 to3 in
     let to04 = Learns-trans now p low s0 s3 s4 _ _ _ _ to03 to4 in
     let whole = Learns-trans now p low s0 s4 s5 _ _ _ _ to04 to5.learns in
     whole.learns false false [] (nothing-known p low)
 
-pub has-its-cause : (now : ℕ) (line : Option ProcessEvent) (script : Script) (h : Held) → IsTidy h
+pub has-its-cause : (now : ℕ) (given : Reported) (script : Script) (h : Held) → IsTidy h
     → IsInTime now h → length script.readings ≡ 8 → length script.offers ≡ 8
-    → (p : ℕ) → p < 8 → HasItsCause now line script h (p + 1)
-has-its-cause now line script h tidy time readings offers p low =
-    (knows-turn now line script h tidy time readings offers p low).caused
+    → (p : ℕ) → p < 8 → HasItsCause now given script h (p + 1)
+has-its-cause now given script h tidy time readings offers p low =
+    (knows-turn now given script h tidy time readings offers p low).caused

@@ -2,7 +2,7 @@
 use Rattle.std.proofs.Common.{◌≡◌, ℕ, ◌+◌, ◌<◌, ◌≤◌, Bool, true, false, length, Option, refl, ap, sym, ◌∙◌, arith, length-append, inl, inr}
 use Rattle.bay_serve.specs.Standings.{is_told}
 use Rattle.bay_serve.specs.Turns.{Held, Script, Turning, is_up_in, queue_at, standing_of, turn_calls, after_turn}
-use Rattle.bay_serve.specs.declared.process.ProcessEvent.{ProcessEvent}
+use Rattle.bay_serve.specs.declared.process.Reported.{Reported}
 use Rattle.bay_serve_laws.specs.Events.{done_at, turn_events}
 use Rattle.bay_serve_laws.specs.Flows.{IsInTime, IsTidy, sent_to, taken_of}
 use Rattle.bay_serve_laws.specs.Fullness.{IsOpenIn, IsToldWhereFull}
@@ -16,22 +16,22 @@ told-by : (b u : Bool) → u ≡ false → (b ≡ false → u ≡ true) → b �
 told-by true u e f = refl
 told-by false u e f = absurd (let no : false ≡ true = sym e ∙ f refl in cc)
 
-pub told-where-full : (now : ℕ) (line : Option ProcessEvent) (script : Script) (h : Held) → IsTidy h
+pub told-where-full : (now : ℕ) (given : Reported) (script : Script) (h : Held) → IsTidy h
     → IsInTime now h → AreInRoom h → length script.readings ≡ 8
     → length script.offers ≡ 8 → (p : ℕ) → p < 8 → IsOpenIn p script h
-    → IsToldWhereFull now line script h p
-told-where-full now line script h tidy time room readings offers p low up =
-    let t : Turning = after_turn now line script h in
-    let taken = taken_of (p + 1) (turn_calls now line script h) in
+    → IsToldWhereFull now given script h p
+told-where-full now given script h tidy time room readings offers p low up =
+    let t : Turning = after_turn now given script h in
+    let taken = taken_of (p + 1) (turn_calls now given script h) in
     let held = queue_at p h in
-    let sent = sent_to (p + 1) (done_at now (turn_events now line script h) h.device).answers in
-    let flows = loses-nothing now line script h tidy time offers in
+    let sent = sent_to (p + 1) (done_at now (turn_events now given script h) h.device).answers in
+    let flows = loses-nothing now given script h tidy time offers in
     let f = flows.flows p low in
-    let knows = knows-turn now line script h tidy time readings offers p low in
+    let knows = knows-turn now given script h tidy time readings offers p low in
     let sizes : length taken + length f.rest ≡ length held + length sent =
     sym (length-append taken f.rest) ∙ ap length f.is ∙ length-append held sent in
     let inside : length (queue_at p t.server) ≤ 262144 =
-    in-room t.server p (holds-turn now line script h room) in (
+    in-room t.server p (holds-turn now given script h room) in (
       (λ told. (
           let more = flows.full p low told in
           let none = knows.caused.queue told in
@@ -45,7 +45,7 @@ told-where-full now line script h tidy time room readings offers p low up =
         | inl e ↦ absurd (omega (arith, n.over_full, sizes, inside, ap length e))
         | inr down ↦ knows.told
             (told-by (is_told (standing_of p t)) (is_up_in p t.server) down.1
-            (turned-open now p low line script h time readings offers up).up)
+            (turned-open now p low given script h time readings offers up).up)
             n.failed_not n.over_not n.closed_not
       ]),
     )

@@ -5,9 +5,10 @@ use Rattle.bay_device.specs.Device.{State}
 use Rattle.bay_serve.specs.Calls.{Call, Closes, Reads, ReadOutcome, Octets, Silence, Over, Broken}
 use Rattle.bay_serve.specs.Offers.{Offer, offering_of}
 use Rattle.bay_serve.specs.Standings.{is_leaving}
-use Rattle.bay_serve.specs.Turns.{Held, Reading, Script, Turning, turn_calls, accept_calls_at, after_accept, after_line, after_opening, after_reads, after_scan, turn_begin, calls_of_each, cut_off, first_full, free_place, heard_calls, hung_up, is_up, line_calls, offer_calls, offer_end, offer_of, offer_one, queue_of, read_calls, read_one, scan_calls, settling, settling_in, settling_next, standing_of, after_event, taken_in, told_of}
+use Rattle.bay_serve.specs.Turns.{Held, Reading, Script, Turning, turn_calls, accept_calls_at, after_accept, after_line, after_opening, after_reads, after_scan, turn_begin, calls_of_each, cut_off, first_full, free_place, heard_calls, hung_up, is_up, line_calls, offer_calls, offer_end, offer_of, offer_one, queue_of, read_calls, read_one, scan_calls, settling, settling_in, settling_next, standing_of, after_event, taken_in, told_of, after_first, first_of}
 use Rattle.bay_serve.specs.declared.process.ProcessEvent.{ProcessEvent}
-use Rattle.bay_serve.specs.declared.process.ProcessEvent.TheVariants.{Contact, Input, Measure}
+use Rattle.bay_serve.specs.declared.process.Reported.{Reported}
+use Rattle.bay_serve.specs.declared.process.ProcessEvent.TheVariants.{Contact, Input, Measure, BadMeasure, Lost}
 use Rattle.bay_serve.specs.declared.told.Closing.TheVariants as closing
 use Rattle.bay_serve_laws.specs.Events.{ChosenEvent, turn_events, accept_events_at, events_of_each, failed_events, heard_events, line_events, offer_events, read_events, scan_events, settled_events, settled_in_events, settled_next_events}
 use Rattle.bay_serve_laws.specs.Flows.{brought_by, given_by, given_of, received_of}
@@ -115,6 +116,9 @@ module _ (a : ℕ) where
         record { is = (settled-bring (told_of now (Input k value) s)).is }
     line-bring (Some (Measure k field value)) s =
         record { is = (settled-bring (told_of now (Measure k field value) s)).is }
+    line-bring (Some (BadMeasure k field)) s =
+        record { is = (settled-bring (told_of now (BadMeasure k field) s)).is }
+    line-bring (Some Lost) s = record { is = (settled-bring (told_of now Lost s)).is }
 
     offered-none : (b : ℕ) (q takes : List ℕ) (fails : Bool)
         → given_of a (offering_of b q takes fails).calls ≡ []
@@ -160,27 +164,31 @@ module _ (a : ℕ) where
         (events_of_each f events (place + 1) cs t) (step place c s)
         (each-bring f calls events step (place + 1) cs t)
 
-    pub turn-brings : (line : Option ProcessEvent) (script : Script) (h : Held)
-        → given_of a (turn_calls now line script h) ≡ received_of a (turn_events now line script h)
-    turn-brings line script h =
+    pub turn-brings : (given : Reported) (script : Script) (h : Held)
+        → given_of a (turn_calls now given script h) ≡ received_of a (turn_events now given script h)
+    turn-brings given script h =
         let s0 : Turning = turn_begin h in
         let s1 : Turning = after_accept now script h in
-        let s2 : Turning = after_reads now script h in
-        let s3 : Turning = after_line now line script h in
-        let s4 : Turning = after_scan now line script h in
-        let reads : Brings (calls_of_each (read_one now) (read_calls now) 0 script.readings s1)
-        (events_of_each (read_one now) (read_events now) 0 script.readings s1) =
+        let z : Turning = after_first now given script h in
+        let s2 : Turning = after_reads now given script h in
+        let s3 : Turning = after_line now given script h in
+        let s4 : Turning = after_scan now given script h in
+        let reads : Brings (calls_of_each (read_one now) (read_calls now) 0 script.readings z)
+        (events_of_each (read_one now) (read_events now) 0 script.readings z) =
         each-bring (read_one now) (read_calls now) (read_events now) read-bring 0 script.readings
-        s1 in
+        z in
         let scan : Brings (scan_calls now s3) (scan_events now s3) =
         record { is = (settled-bring (after_event now Scan s3)).is } in
         let offers : Brings (calls_of_each (offer_one now) (offer_calls now) 0 script.offers s4)
         (events_of_each (offer_one now) (offer_events now) 0 script.offers s4) =
         each-bring (offer_one now) (offer_calls now) (offer_events now) offer-bring 0 script.offers
         s4 in
-        let to2 = both-bring _ _ _ _ (accept-bring (free_place h) script.accepted s0) reads in
-        let to3 = both-bring _ _ _ _ to2 (line-bring line s2) in
+        let to1 =
+        both-bring _ _ _ _ (accept-bring (free_place h) script.accepted s0)
+        (line-bring (first_of given) s1) in
+        let to2 = both-bring _ _ _ _ to1 reads in
+        let to3 = both-bring _ _ _ _ to2 (line-bring given.event s2) in
         let to4 = both-bring _ _ _ _ to3 scan in
-        let whole : Brings (turn_calls now line script h) (turn_events now line script h) =
+        let whole : Brings (turn_calls now given script h) (turn_events now given script h) =
         both-bring _ _ _ _ to4 offers in
         whole.is

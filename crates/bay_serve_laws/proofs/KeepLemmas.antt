@@ -16,8 +16,9 @@ use Rattle.bay_trace.specs.Placing.{lying}
 use Rattle.bay_serve.specs.Calls.{ReadOutcome, Octets, Silence, Over, Broken}
 use Rattle.bay_serve.specs.Offers.{Offer, Offered}
 use Rattle.bay_serve.specs.Standings.{after_full, is_leaving, takes_replies}
-use Rattle.bay_serve.specs.Turns.{Held, Noted, Reading, Script, Turning, after_accept, after_each, after_line, after_offer, after_reads, after_scan, turn_begin, cut_off, first_full, free_place, goes, has_room, hung_up, is_up, leaves, left_by, with_line, nothing_noted, offer_of, offer_one, on_accept, on_heard, after_opening, after_parting, put_all, put_answer, put_at, put_ended, put_quiet, put_sent, put_told, put_whole, queue_of, read_one, after_turn_scan, after_settling, settled_in, settled_next, standing_in, standing_of, stands, after_event, taken_in, told_of, after_turn, with_device, with_noted, with_queue, event_of}
+use Rattle.bay_serve.specs.Turns.{Held, Noted, Reading, Script, Turning, after_accept, after_each, after_line, after_offer, after_reads, after_scan, turn_begin, cut_off, first_full, free_place, goes, has_room, hung_up, is_up, leaves, left_by, with_line, nothing_noted, offer_of, offer_one, on_accept, on_heard, after_opening, after_parting, put_all, put_answer, put_at, put_ended, put_quiet, put_sent, put_told, put_whole, queue_of, read_one, after_turn_scan, after_settling, settled_in, settled_next, standing_in, standing_of, stands, after_event, taken_in, told_of, after_turn, with_device, with_noted, with_queue, event_of, after_first, first_of}
 use Rattle.bay_serve.specs.declared.process.ProcessEvent.{ProcessEvent}
+use Rattle.bay_serve.specs.declared.process.Reported.{Reported}
 use Rattle.bay_serve.specs.declared.standing.Standing.TheVariants.{Gone}
 use Rattle.bay_serve.specs.declared.told.Closing.{Closing}
 use Rattle.bay_serve.specs.declared.told.Closing.TheVariants as closing
@@ -231,19 +232,21 @@ module _ (Ends : ℕ → Type 0) (P : Noted → Type 0) (k : IsNoted Ends P) (no
       (step place c s (omega arith) p)
 
   pub keep_turn : ((place : ℕ) → Ends place)
-      → (line : Option ProcessEvent) (script : Script) (h : Held)
+      → (given : Reported) (script : Script) (h : Held)
       → length script.readings ≡ 8 → length script.offers ≡ 8 → P nothing_noted
-      → P (after_turn now line script h).noted
-  keep_turn all line script h reads offers p =
+      → P (after_turn now given script h).noted
+  keep_turn all given script h reads offers p =
       let s1 : Turning = after_accept now script h in
-      let s2 : Turning = after_reads now script h in
-      let s3 : Turning = after_line now line script h in
-      let s4 : Turning = after_scan now line script h in
+      let z : Turning = after_first now given script h in
+      let s2 : Turning = after_reads now given script h in
+      let s3 : Turning = after_line now given script h in
+      let s4 : Turning = after_scan now given script h in
       let p1 = keep-on-accept (free_place h) script.accepted (turn_begin h) p in
+      let p0 = keep-line (first_of given) s1 p1 in
       let p2 =
       keep-each (read_one now) (λ place r s low. keep-read place r s low (all place)) 0
-      script.readings s1 (omega (arith, reads)) p1 in
-      let p3 = keep-line line s2 p2 in
+      script.readings z (omega (arith, reads)) p0 in
+      let p3 = keep-line given.event s2 p2 in
       let p4 = keep-scan s3 p3 in
       keep-each (offer_one now) (λ place o s low. keep-offer place o s low (all place)) 0
       script.offers s4 (omega (arith, offers)) p4

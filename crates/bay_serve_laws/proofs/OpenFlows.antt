@@ -7,7 +7,7 @@ use Rattle.std.specs.declared.net.socket_addr.SocketAddrV4.{SocketAddrV4}
 use Rattle.bay_connection.specs.Talk.{Talk}
 use Rattle.bay_device.specs.Outcomes.{last_moment, outcome}
 use Rattle.bay_device.specs.declared.event.Event.{Event}
-use Rattle.bay_device.specs.declared.event.Event.TheVariants.{Open, Recv, Close, Contact, Input, Measure, Scan}
+use Rattle.bay_device.specs.declared.event.Event.TheVariants.{Open, Recv, Close, Contact, Input, Measure, BadMeasure, Lost, Scan}
 use Rattle.bay_device.specs.declared.event.Step.{Step}
 use Rattle.bay_device.specs.declared.event.Why.{Why}
 use Rattle.bay_device.specs.declared.event.Why.TheVariants.{Ended}
@@ -16,8 +16,9 @@ use Rattle.bay_trace.specs.Placing.{lying}
 use Rattle.bay_serve.specs.Calls.{ReadOutcome, Octets, Silence, Over, Broken}
 use Rattle.bay_serve.specs.Offers.{Offer}
 use Rattle.bay_serve.specs.Standings.{is_leaving, is_told}
-use Rattle.bay_serve.specs.Turns.{Held, Reading, Script, Turning, after_accept, after_each, after_line, after_offer, after_reads, after_scan, turn_begin, cut_off, first_full, free_place, hung_up, is_up, leaves, left_by, with_line, offer_of, offer_one, on_accept, on_heard, after_opening, after_parting, put_answer, put_told, read_one, after_settling, settled_in, settled_next, standing_in, standing_of, after_event, taken_in, told_of, after_turn, with_device, with_noted}
+use Rattle.bay_serve.specs.Turns.{Held, Reading, Script, Turning, after_accept, after_each, after_line, after_offer, after_reads, after_scan, turn_begin, cut_off, first_full, free_place, hung_up, is_up, leaves, left_by, with_line, offer_of, offer_one, on_accept, on_heard, after_opening, after_parting, put_answer, put_told, read_one, after_settling, settled_in, settled_next, standing_in, standing_of, after_event, taken_in, told_of, after_turn, with_device, with_noted, after_first, first_of}
 use Rattle.bay_serve.specs.declared.process.ProcessEvent.{ProcessEvent}
+use Rattle.bay_serve.specs.declared.process.Reported.{Reported}
 use Rattle.bay_serve.specs.declared.process.ProcessEvent.TheVariants as process
 use Rattle.bay_serve.specs.declared.standing.Standing.{Standing}
 use Rattle.bay_serve.specs.declared.standing.Standing.TheVariants.{Steady, Gone, Leaving}
@@ -31,7 +32,7 @@ use Rattle.bay_serve_laws.proofs.KeepLemmas.{keep-cut, keep-rest, keep-stepped, 
 use Rattle.bay_serve_laws.proofs.PutLemmas.{told_why-standings}
 use Rattle.bay_serve_laws.proofs.SameLemmas.{Commands, Same, put_answer-commands, put_quiet-same, put_told-same}
 use Rattle.bay_serve_laws.proofs.TellingLemmas.{set-length}
-use Rattle.bay_serve_laws.proofs.UpLemmas.{HeardOpen, LeftOpen, close-outcome-far, contact-outcome-up, input-outcome-up, measure-outcome-up, open-outcome-here, open-outcome-up, recv-outcome-far, recv-outcome-here, scan-outcome-up, up_at}
+use Rattle.bay_serve_laws.proofs.UpLemmas.{HeardOpen, LeftOpen, close-outcome-far, contact-outcome-up, bad-measure-outcome-up, input-outcome-up, lost-outcome-up, measure-outcome-up, open-outcome-here, open-outcome-up, recv-outcome-far, recv-outcome-here, scan-outcome-up, up_at}
 
 get-is : (ts : List (Option Talk)) (i : ℕ)
     → unwrap_or (slice_get ts i) None ≡ get_or ts i None
@@ -267,6 +268,11 @@ module _ (now p : ℕ) (low : p < 8) where
   process-open (process.Measure k field value) s o =
       told-open (Measure k field value) s
       (measure-outcome-up None now p k field value s.server.device) o
+  process-open (process.BadMeasure k field) s o =
+      told-open (BadMeasure k field) s
+      (bad-measure-outcome-up None now p k field s.server.device) o
+  process-open process.Lost s o =
+      told-open Lost s (lost-outcome-up None now p s.server.device) o
 
   line-open : (line : Option ProcessEvent) (s : Turning) → Opened s
       → Opened (with_line now line s)
@@ -318,20 +324,22 @@ module _ (now p : ℕ) (low : p < 8) where
       (settled-open (after_opening now p (turn_begin h))
       (opened-here (turn_begin h) refl time.not_before time.not_past taken.0)))
 
-  pub turned-open : (line : Option ProcessEvent) (script : Script) (h : Held) → IsInTime now h
+  pub turned-open : (given : Reported) (script : Script) (h : Held) → IsInTime now h
       → length script.readings ≡ 8 → length script.offers ≡ 8
-      → IsOpenIn p script h → Opened (after_turn now line script h)
-  turned-open line script h time readings offers up =
+      → IsOpenIn p script h → Opened (after_turn now given script h)
+  turned-open given script h time readings offers up =
       let s1 : Turning = after_accept now script h in
-      let s2 : Turning = after_reads now script h in
-      let s3 : Turning = after_line now line script h in
-      let s4 : Turning = after_scan now line script h in
+      let z : Turning = after_first now given script h in
+      let s2 : Turning = after_reads now given script h in
+      let s3 : Turning = after_line now given script h in
+      let s4 : Turning = after_scan now given script h in
       let o1 = accepted-open script h time up in
+      let o0 = line-open (first_of given) s1 o1 in
       let o2 =
       each-open (read_one now)
       (λ place r s small o. read-if-open (is_up place s) place r s refl small
-      o) 0 script.readings s1 (omega (arith, readings)) o1 in
-      let o3 = line-open line s2 o2 in
+      o) 0 script.readings z (omega (arith, readings)) o0 in
+      let o3 = line-open given.event s2 o2 in
       let o4 =
       settled-open (after_event now Scan s3)
       (stepped-open Scan s3 (λ u. scan-outcome-up None now p s3.server.device ∙ u) o3) in

@@ -11,8 +11,9 @@ use Rattle.bay_trace.specs.Placing.{lying}
 use Rattle.bay_serve.specs.Calls.{Call, Closes, ReadOutcome, Octets, Silence, Over, Broken}
 use Rattle.bay_serve.specs.Offers.{Offer}
 use Rattle.bay_serve.specs.Standings.{is_full, is_leaving, is_told}
-use Rattle.bay_serve.specs.Turns.{Held, Noted, Reading, Script, Turning, turn_calls, after_accept, after_each, after_line, after_opening, after_parting, after_reads, after_scan, after_turn_scan, turn_begin, calls_of_each, cut_off, first_full, free_place, hung_up, is_up, offer_calls, offer_end, offer_of, offer_one, on_accept, on_heard, queue_of, read_one, after_settling, settled_in, settled_next, standing_in, standing_of, after_event, taken_in, told_of, with_device, with_line, with_queue, after_turn, event_of}
+use Rattle.bay_serve.specs.Turns.{Held, Noted, Reading, Script, Turning, turn_calls, after_accept, after_each, after_line, after_opening, after_parting, after_reads, after_scan, after_turn_scan, turn_begin, calls_of_each, cut_off, first_full, free_place, hung_up, is_up, offer_calls, offer_end, offer_of, offer_one, on_accept, on_heard, queue_of, read_one, after_settling, settled_in, settled_next, standing_in, standing_of, after_event, taken_in, told_of, with_device, with_line, with_queue, after_turn, event_of, after_first, first_of}
 use Rattle.bay_serve.specs.declared.process.ProcessEvent.{ProcessEvent}
+use Rattle.bay_serve.specs.declared.process.Reported.{Reported}
 use Rattle.bay_serve.specs.declared.standing.Standing.TheVariants.{Full, Steady}
 use Rattle.bay_serve.specs.declared.told.Closing.{Closing}
 use Rattle.bay_serve.specs.declared.told.Closing.TheVariants as closing
@@ -328,10 +329,11 @@ module _ (now : ℕ) (final : Noted) where
 
 -- ---- a whole turn
 
-right-nested : (a b c d e : List ChosenEvent) → a ++ b ++ c ++ d ++ e ≡ a ++ (b ++ (c ++ (d ++ e)))
-right-nested a b c d e =
-    append_assoc (a ++ b ++ c) d e ∙ append_assoc (a ++ b) c (d ++ e)
-    ∙ append_assoc a b (c ++ (d ++ e))
+right-nested : (a b c d e f : List ChosenEvent)
+    → a ++ b ++ c ++ d ++ e ++ f ≡ a ++ (b ++ (c ++ (d ++ (e ++ f))))
+right-nested a b c d e f =
+    append_assoc (a ++ b ++ c ++ d) e f ∙ append_assoc (a ++ b ++ c) d (e ++ f)
+    ∙ append_assoc (a ++ b) c (d ++ (e ++ f)) ∙ append_assoc a b (c ++ (d ++ (e ++ f)))
 
 -- a call failed for the association
 record Fails (a : ℕ) (calls : List Call) : Type 0 where
@@ -341,24 +343,30 @@ fails-later : (a : ℕ) (xs ys : List Call) → Fails a ys → Fails a (xs ++ ys
 fails-later a xs ys f =
     record { is = some-append (fails_for a) xs ys ∙ or_right _ _ f.is }
 
-pub in-order : (now : ℕ) (line : Option ProcessEvent) (script : Script) (h : Held)
-    → length script.readings ≡ 8 → length script.offers ≡ 8 → IsInOrder now line script h
-in-order now line script h readings offers =
+pub in-order : (now : ℕ) (given : Reported) (script : Script) (h : Held)
+    → length script.readings ≡ 8 → length script.offers ≡ 8 → IsInOrder now given script h
+in-order now given script h readings offers =
     let s0 : Turning = turn_begin h in
     let s1 : Turning = after_accept now script h in
-    let s2 : Turning = after_reads now script h in
-    let s3 : Turning = after_line now line script h in
-    let s4 : Turning = after_scan now line script h in
-    let s5 : Turning = after_turn now line script h in
+    let z : Turning = after_first now given script h in
+    let s2 : Turning = after_reads now given script h in
+    let s3 : Turning = after_line now given script h in
+    let s4 : Turning = after_scan now given script h in
+    let s5 : Turning = after_turn now given script h in
     let final = s5.noted in
     let told = final.closed in
     let why = λ (a : ℕ).
-    tells is_queue_full a told || has_some (fails_for a) (turn_calls now line script h) in
+    tells is_queue_full a told || has_some (fails_for a) (turn_calls now given script h) in
     let g1 : Grown s0.noted s1.noted =
     keep-on-accept Each (Grown s0.noted) (grown-kept s0.noted) now (free_place h) script.accepted s0
     (Grown-refl s0.noted refl) in
-    let g2 : Grown s1.noted s2.noted =
-    reads-grown now final 0 script.readings s1 (omega (arith, readings)) g1.sized in
+    let lost = first_of given in
+    let line = given.event in
+    let g0 : Grown s1.noted z.noted =
+    keep-line Each (Grown s1.noted) (grown-kept s1.noted) now lost s1
+    (Grown-refl s1.noted g1.sized) in
+    let g2 : Grown z.noted s2.noted =
+    reads-grown now final 0 script.readings z (omega (arith, readings)) g0.sized in
     let g3 : Grown s2.noted s3.noted =
     keep-line Each (Grown s2.noted) (grown-kept s2.noted) now line s2
     (Grown-refl s2.noted g2.sized) in
@@ -368,25 +376,28 @@ in-order now line script h readings offers =
     offers-grown now final 0 script.offers s4 (omega (arith, offers)) g4.sized in
     let w3 : Grown s3.noted final = Grown-trans s3.noted s4.noted final g4 w4 in
     let w2 : Grown s2.noted final = Grown-trans s2.noted s3.noted final g3 w3 in
-    let w1 : Grown s1.noted final = Grown-trans s1.noted s2.noted final g2 w2 in
+    let w0 : Grown z.noted final = Grown-trans z.noted s2.noted final g2 w2 in
+    let w1 : Grown s1.noted final = Grown-trans s1.noted z.noted final g0 w0 in
     let last = events_of_each (offer_one now) (offer_events now) 0 script.offers s4 in
     let failing = calls_of_each (offer_one now) (offer_calls now) 0 script.offers s4 in
     let closings : AreClosings why last =
     offers-close now final why (λ a e. or_left _ _ e) 0 script.offers s4 (omega (arith, offers))
     g4.sized (Grown-refl final w4.sized)
     (λ a e.
-    let whole : Fails a (turn_calls now line script h) =
+    let whole : Fails a (turn_calls now given script h) =
     fails-later a _ failing (record { is = e }) in
     or_right (tells is_queue_full a told) _ whole.is) in
     let opens = accept_events now script.accepted s0 in
-    let reads = events_of_each (read_one now) (read_events now) 0 script.readings s1 in
+    let losses = line_events now lost s1 in
+    let reads = events_of_each (read_one now) (read_events now) 0 script.readings z in
     let lines = line_events now line s2 in
     let scans = scan_events now s3 in
-    subst (AreInOrder now told why line script h.device)
-    (sym (right-nested opens reads lines scans last))
-    (then-accept now final _ (free_place h) script.accepted s0 (reads ++ (lines ++ (scans ++ last)))
-    refl w1
-    (then-reads now final _ 0 script.readings s1 (lines ++ (scans ++ last))
-    (omega (arith, readings)) g1.sized w2
+    subst (AreInOrder now told why given script h.device)
+    (sym (right-nested opens losses reads lines scans last))
+    (then-accept now final _ (free_place h) script.accepted s0
+    (losses ++ (reads ++ (lines ++ (scans ++ last)))) refl w1
+    (then-line now final _ lost s1 (reads ++ (lines ++ (scans ++ last))) g1.sized w0
+    (then-reads now final _ 0 script.readings z (lines ++ (scans ++ last))
+    (omega (arith, readings)) g0.sized w2
     (then-line now final _ line s2 (scans ++ last) g2.sized w3
-    (then-scan now final (λ f rest. AreClosings why rest) s3 last g3.sized w4 closings))))
+    (then-scan now final (λ f rest. AreClosings why rest) s3 last g3.sized w4 closings)))))

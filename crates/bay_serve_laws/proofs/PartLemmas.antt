@@ -12,8 +12,9 @@ use Rattle.bay_trace.specs.Placing.{lying}
 use Rattle.bay_serve.specs.Calls.{Call, Accepts, Reads, Closes, ReadOutcome, Octets, Silence, Over, Broken}
 use Rattle.bay_serve.specs.Offers.{Offer}
 use Rattle.bay_serve.specs.Standings.{is_leaving}
-use Rattle.bay_serve.specs.Turns.{Held, Reading, Script, Turning, accept_calls, accept_calls_at, with_accept, after_accept, after_each, after_line, after_reads, after_scan, turn_begin, calls_of_each, cut_off, first_full, free_place, goes, heard_calls, hung_up, is_up, leaves, line_calls, with_line, offer_calls, offer_end, offer_of, offer_one, after_offer, on_accept, on_heard, after_opening, after_parting, read_calls, read_one, scan_calls, after_turn_scan, after_settling, settled_in, settled_next, settling, settling_in, settling_next, standing_of, after_event, taken_in, told_after, told_of, turn_calls, after_turn, with_device, with_noted, with_queue, event_of}
+use Rattle.bay_serve.specs.Turns.{Held, Reading, Script, Turning, accept_calls, accept_calls_at, with_accept, after_accept, after_each, after_line, after_reads, after_scan, turn_begin, calls_of_each, cut_off, first_full, free_place, goes, heard_calls, hung_up, is_up, leaves, line_calls, with_line, offer_calls, offer_end, offer_of, offer_one, after_offer, on_accept, on_heard, after_opening, after_parting, read_calls, read_one, scan_calls, after_turn_scan, after_settling, settled_in, settled_next, settling, settling_in, settling_next, standing_of, after_event, taken_in, told_after, told_of, turn_calls, after_turn, with_device, with_noted, with_queue, event_of, after_first, first_of}
 use Rattle.bay_serve.specs.declared.process.ProcessEvent.{ProcessEvent}
+use Rattle.bay_serve.specs.declared.process.Reported.{Reported}
 use Rattle.bay_serve.specs.declared.told.Closing.{Closing}
 use Rattle.bay_serve.specs.declared.told.Closing.TheVariants as closing
 use Rattle.bay_serve_laws.specs.Events.{ChosenEvent, accept_events, accept_events_at, closing_of, commands_in, commands_of, done_at, events_of_each, failed_events, heard_events, line_events, offer_events, read_events, scan_events, settled_events, settled_in_events, settled_next_events, surely, turn_events}
@@ -290,22 +291,24 @@ module _ (now : ℕ) where
       (step place c s) (Part-each f calls events step (place + 1) cs t)
 
   -- the whole of a turn
-  pub Part-turn : (line : Option ProcessEvent) (script : Script) (h : Held)
-      → Part now (turn_begin h) (turn_calls now line script h) (turn_events now line script h)
-      (after_turn now line script h)
-  Part-turn line script h =
+  pub Part-turn : (given : Reported) (script : Script) (h : Held)
+      → Part now (turn_begin h) (turn_calls now given script h) (turn_events now given script h)
+      (after_turn now given script h)
+  Part-turn given script h =
       let s0 : Turning = turn_begin h in
       let s1 : Turning = after_accept now script h in
-      let s2 : Turning = after_reads now script h in
-      let s3 : Turning = after_line now line script h in
-      let s4 : Turning = after_scan now line script h in
+      let z : Turning = after_first now given script h in
+      let s2 : Turning = after_reads now given script h in
+      let s3 : Turning = after_line now given script h in
+      let s4 : Turning = after_scan now given script h in
       let reads =
-      Part-each (read_one now) (read_calls now) (read_events now) Part-read 0 script.readings s1
-      in
+      Part-each (read_one now) (read_calls now) (read_events now) Part-read 0 script.readings z in
       let offers =
       Part-each (offer_one now) (offer_calls now) (offer_events now) Part-offer 0 script.offers
       s4 in
-      let to2 = Part-trans s0 s1 s2 _ _ _ _ (Part-accept script.accepted s0) reads in
-      let to3 = Part-trans s0 s2 s3 _ _ _ _ to2 (Part-line line s2) in
+      let to1 =
+      Part-trans s0 s1 z _ _ _ _ (Part-accept script.accepted s0) (Part-line (first_of given) s1) in
+      let to2 = Part-trans s0 z s2 _ _ _ _ to1 reads in
+      let to3 = Part-trans s0 s2 s3 _ _ _ _ to2 (Part-line given.event s2) in
       let to4 = Part-trans s0 s3 s4 _ _ _ _ to3 (Part-scan s3) in
-      Part-trans s0 s4 (after_turn now line script h) _ _ _ _ to4 offers
+      Part-trans s0 s4 (after_turn now given script h) _ _ _ _ to4 offers

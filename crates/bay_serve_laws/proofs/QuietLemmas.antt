@@ -5,10 +5,10 @@ use Rattle.bay_nodes.specs.declared.switch.Switch.{Switch}
 use Rattle.bay_base.specs.declared.point.MeterField.{MeterField}
 use Rattle.bay_connection.specs.Talk.{Talk}
 use Rattle.bay_device.specs.Device.{State}
-use Rattle.bay_device.specs.Outcomes.{Outcome, close_outcome, connection_at, contact_outcome, event_outcome, input_outcome, last_moment, measure_outcome, octets_outcome, open_outcome, outcome, place_of, recv_outcome, refusal_of}
+use Rattle.bay_device.specs.Outcomes.{Outcome, close_outcome, connection_at, contact_outcome, event_outcome, doubt_outcome, input_outcome, last_moment, measure_outcome, octets_outcome, open_outcome, outcome, place_of, recv_outcome, refusal_of}
 use Rattle.bay_device.specs.Steps.{IsWithoutOctets}
 use Rattle.bay_device.specs.declared.event.Event.{Event}
-use Rattle.bay_device.specs.declared.event.Event.TheVariants.{Open, Recv, Close, Contact, Input, Measure, Scan}
+use Rattle.bay_device.specs.declared.event.Event.TheVariants.{Open, Recv, Close, Contact, Input, Measure, BadMeasure, Lost, Scan}
 use Rattle.bay_device.specs.declared.event.Step.{Step}
 use Rattle.bay_device.specs.declared.fault.StepFault.{StepFault}
 use Rattle.bay_device.specs.declared.fault.StepFault.TheVariants.{MomentTooLarge, TimeWentBack}
@@ -43,6 +43,12 @@ measure-quiet : (now k : ℕ) (field : MeterField) (value : ℤ) (s : State) (id
 measure-quiet now k field value s None = tt
 measure-quiet now k field value s (Some id) = record { sent = refl; commands = refl; closed = refl }
 
+bad-measure-quiet : (now k : ℕ) (field : MeterField) (s : State) (id : Option (List ℕ))
+    → IsQuiet (doubt_outcome now k field s id).answer
+bad-measure-quiet now k field s None = tt
+bad-measure-quiet now k field s (Some id) =
+    record { sent = refl; commands = refl; closed = refl }
+
 open-quiet : (now a : ℕ) (s : State) (place : Option ℕ) (talk : Option Talk)
     → IsQuiet (open_outcome now a s place talk).answer
 open-quiet now a s None talk = tt
@@ -72,6 +78,9 @@ event-quiet choice now (Contact k position) s h =
 event-quiet choice now (Input k value) s h = input-quiet now k value s (slice_get s.input_values k)
 event-quiet choice now (Measure k field value) s h =
     measure-quiet now k field value s (slice_get s.meters k)
+event-quiet choice now (BadMeasure k field) s h =
+    bad-measure-quiet now k field s (slice_get s.meters k)
+event-quiet choice now Lost s h = record { sent = refl; commands = refl; closed = refl }
 event-quiet choice now Scan s h = record { sent = refl; commands = refl; closed = refl }
 
 -- what holds of a refusal and of what else an event does holds of it at any moment
@@ -99,3 +108,5 @@ pub process-quiet : (event : ProcessEvent) → IsWithoutOctets (event_of event)
 process-quiet (process.Contact k position) = tt
 process-quiet (process.Input k value) = tt
 process-quiet (process.Measure k field value) = tt
+process-quiet (process.BadMeasure k field) = tt
+process-quiet process.Lost = tt

@@ -8,7 +8,7 @@ use Rattle.bay_device.specs.Device.{State}
 use Rattle.bay_device.specs.Outcomes.{last_moment, outcome}
 use Rattle.bay_device.specs.Steps.{IsWithoutOctets}
 use Rattle.bay_device.specs.declared.event.Event.{Event}
-use Rattle.bay_device.specs.declared.event.Event.TheVariants.{Open, Recv, Close, Contact, Input, Measure, Scan}
+use Rattle.bay_device.specs.declared.event.Event.TheVariants.{Open, Recv, Close, Contact, Input, Measure, BadMeasure, Lost, Scan}
 use Rattle.bay_device.specs.declared.event.Step.{Step}
 use Rattle.bay_device.specs.declared.event.Why.{Why}
 use Rattle.bay_device.specs.declared.event.Why.TheVariants.{Ended}
@@ -33,7 +33,7 @@ use Rattle.bay_serve_laws.proofs.QuietLemmas.{outcome-quiet}
 use Rattle.bay_serve_laws.proofs.SameLemmas.{Commands, Same, put_answer-commands, put_quiet-same, put_told-same}
 use Rattle.bay_serve_laws.proofs.StandingLemmas.{AreCalm, all-steady}
 use Rattle.bay_serve_laws.proofs.TellsLemmas.{why-not_full}
-use Rattle.bay_serve_laws.proofs.UpLemmas.{HeardOpen, LeftOpen, close-outcome-far, close-outcome-here, contact-outcome-up, input-outcome-up, measure-outcome-up, open-outcome-up, outcome-moment, recv-outcome-far, recv-outcome-here, scan-outcome-up, up_at}
+use Rattle.bay_serve_laws.proofs.UpLemmas.{HeardOpen, LeftOpen, close-outcome-far, close-outcome-here, contact-outcome-up, bad-measure-outcome-up, input-outcome-up, lost-outcome-up, measure-outcome-up, open-outcome-up, outcome-moment, recv-outcome-far, recv-outcome-here, scan-outcome-up, up_at}
 
 -- ---- before anything was done
 
@@ -392,6 +392,11 @@ module _ (now p : ℕ) (held : List ℕ) (h : p < 8) (past : now ≤ last_moment
   process-moves (process.Measure k field value) s =
       told-moves (Measure k field value) s tt
       (measure-outcome-up None now p k field value s.server.device)
+  process-moves (process.BadMeasure k field) s =
+      told-moves (BadMeasure k field) s tt
+      (bad-measure-outcome-up None now p k field s.server.device)
+  process-moves process.Lost s =
+      told-moves Lost s tt (lost-outcome-up None now p s.server.device)
 
   pub line-moves : (line : Option ProcessEvent) (s : Turning)
       → Moves (Well now p held) (Well now p held) now p s (line_calls now line s)

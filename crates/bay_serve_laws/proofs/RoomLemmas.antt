@@ -18,8 +18,9 @@ use Rattle.bay_trace.specs.Placing.{lying}
 use Rattle.bay_serve.specs.Calls.{ReadOutcome, Octets, Silence, Over, Broken}
 use Rattle.bay_serve.specs.Offers.{Offer, Offered, offering_of}
 use Rattle.bay_serve.specs.Standings.{after_full, is_leaving, takes_replies}
-use Rattle.bay_serve.specs.Turns.{Held, Reading, Script, Turning, after_accept, after_each, after_line, after_offer, after_reads, after_scan, turn_begin, cut_off, first_full, free_place, has_room, hung_up, is_up, leaves, left_by, with_line, offer_of, offer_one, on_accept, on_heard, after_opening, after_parting, put_all, put_answer, put_at, put_ended, put_quiet, put_sent, put_told, put_whole, queue_at, queue_of, read_one, after_turn_scan, after_settling, settled_in, settled_next, standing_of, stands, after_event, taken_in, told_of, after_turn, with_device, with_noted, with_queue, event_of}
+use Rattle.bay_serve.specs.Turns.{Held, Reading, Script, Turning, after_accept, after_each, after_line, after_offer, after_reads, after_scan, turn_begin, cut_off, first_full, free_place, has_room, hung_up, is_up, leaves, left_by, with_line, offer_of, offer_one, on_accept, on_heard, after_opening, after_parting, put_all, put_answer, put_at, put_ended, put_quiet, put_sent, put_told, put_whole, queue_at, queue_of, read_one, after_turn_scan, after_settling, settled_in, settled_next, standing_of, stands, after_event, taken_in, told_of, after_turn, with_device, with_noted, with_queue, event_of, after_first, first_of}
 use Rattle.bay_serve.specs.declared.process.ProcessEvent.{ProcessEvent}
+use Rattle.bay_serve.specs.declared.process.Reported.{Reported}
 use Rattle.bay_serve.specs.declared.told.Closing.{Closing}
 use Rattle.bay_serve.specs.declared.told.Closing.TheVariants as closing
 use Rattle.bay_serve_laws.specs.Flows.{IsTidy}
@@ -208,16 +209,18 @@ module _ (now : ℕ) where
   holds-each f step place (c ∷ cs) s p =
       holds-each f step (place + 1) cs (f place c s) (step place c s p)
 
-  pub holds-turn : (line : Option ProcessEvent) (script : Script) (h : Held) → AreInRoom h
-      → AreInRoom (after_turn now line script h).server
-  holds-turn line script h p =
+  pub holds-turn : (given : Reported) (script : Script) (h : Held) → AreInRoom h
+      → AreInRoom (after_turn now given script h).server
+  holds-turn given script h p =
       let s1 : Turning = after_accept now script h in
-      let s2 : Turning = after_reads now script h in
-      let s3 : Turning = after_line now line script h in
-      let s4 : Turning = after_scan now line script h in
+      let z : Turning = after_first now given script h in
+      let s2 : Turning = after_reads now given script h in
+      let s3 : Turning = after_line now given script h in
+      let s4 : Turning = after_scan now given script h in
       let p1 = holds-accept (free_place h) script.accepted (turn_begin h) p in
-      let p2 = holds-each (read_one now) holds-read 0 script.readings s1 p1 in
-      let p3 = holds-line line s2 p2 in
+      let p0 = holds-line (first_of given) s1 p1 in
+      let p2 = holds-each (read_one now) holds-read 0 script.readings z p0 in
+      let p3 = holds-line given.event s2 p2 in
       let p4 = holds-scan s3 p3 in
       holds-each (offer_one now) holds-offer 0 script.offers s4 p4
 

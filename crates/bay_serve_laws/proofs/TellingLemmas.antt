@@ -8,7 +8,7 @@ use Rattle.bay_device.specs.declared.event.Why.{Why}
 use Rattle.bay_device.specs.declared.event.Why.TheVariants.{Ended, Fault, Memory}
 use Rattle.bay_serve.specs.Standings.{after_full, is_full, is_leaving, is_told}
 use Rattle.bay_serve.specs.Turns.{Held, Noted, Script, first_full, goes, leaves, nothing_noted, standing_in, stands, after_turn}
-use Rattle.bay_serve.specs.declared.process.ProcessEvent.{ProcessEvent}
+use Rattle.bay_serve.specs.declared.process.Reported.{Reported}
 use Rattle.bay_serve.specs.declared.standing.Standing.{Standing}
 use Rattle.bay_serve.specs.declared.standing.Standing.TheVariants.{Steady, Full, Leaving, LeavingFull, Gone}
 use Rattle.bay_serve.specs.declared.told.Closing.{Closing}
@@ -238,10 +238,10 @@ nothing-once : AreOnce nothing_noted
 nothing-once = record { sized = refl; once = λ p. record { few = omega arith; none = λ e. refl } }
 
 -- of each association it is told once at most
-pub told-once : (now : ℕ) (line : Option ProcessEvent) (script : Script) (h : Held) (place : ℕ)
+pub told-once : (now : ℕ) (given : Reported) (script : Script) (h : Held) (place : ℕ)
     → length script.readings ≡ 8 → length script.offers ≡ 8
-    → times_told (place + 1) (after_turn now line script h).noted.closed
-    (after_turn now line script h).noted.memory ≤ 1
-told-once now line script h place reads offers =
-    ((keep_turn Each AreOnce once-kept now (λ q. tt) line script h reads offers nothing-once).once
+    → times_told (place + 1) (after_turn now given script h).noted.closed
+    (after_turn now given script h).noted.memory ≤ 1
+told-once now given script h place reads offers =
+    ((keep_turn Each AreOnce once-kept now (λ q. tt) given script h reads offers nothing-once).once
     place).few

@@ -3,8 +3,8 @@ use Rattle.std.proofs.Common.{◌≡◌, ℕ, ◌+◌, ◌<◌, ◌≤◌, Bool,
 use Rattle.bay_device.specs.Outcomes.{last_moment}
 use Rattle.bay_serve.specs.Calls.{Call}
 use Rattle.bay_serve.specs.Standings.{is_full, is_leaving}
-use Rattle.bay_serve.specs.Turns.{Held, Script, Turning, after_accept, after_each, after_line, after_reads, after_scan, turn_begin, calls_of_each, is_up, offer_calls, offer_one, queue_at, queue_of, read_calls, read_one, standing_of, turn_calls, after_turn}
-use Rattle.bay_serve.specs.declared.process.ProcessEvent.{ProcessEvent}
+use Rattle.bay_serve.specs.Turns.{Held, Script, Turning, after_accept, after_each, after_line, after_reads, after_scan, turn_begin, calls_of_each, is_up, offer_calls, offer_one, queue_at, queue_of, read_calls, read_one, standing_of, turn_calls, after_turn, after_first, first_of}
+use Rattle.bay_serve.specs.declared.process.Reported.{Reported}
 use Rattle.bay_serve.specs.declared.standing.Standing.{Standing}
 use Rattle.bay_serve.specs.declared.standing.Standing.TheVariants.{Steady, Full, Leaving, LeavingFull, Gone}
 use Rattle.bay_serve_laws.specs.Events.{ChosenEvent, done_at, events_of_each, offer_events, read_events, turn_events}
@@ -30,33 +30,38 @@ each-moves P now p f calls events step i (c ∷ cs) s =
     (calls_of_each f calls (i + 1) cs t) (events i c s) (events_of_each f events (i + 1) cs t)
     (step i c s) (each-moves P now p f calls events step (i + 1) cs t)
 
-turn-moves : (now p : ℕ) (held : List ℕ) (line : Option ProcessEvent) (script : Script) (h : Held)
+turn-moves : (now p : ℕ) (held : List ℕ) (given : Reported) (script : Script) (h : Held)
     → p < 8 → now ≤ last_moment
-    → Moves (Fresh now p held) (Well now p held) now p (turn_begin h) (turn_calls now line script h)
-    (turn_events now line script h) (after_turn now line script h)
-turn-moves now p held line script h low past =
+    → Moves (Fresh now p held) (Well now p held) now p (turn_begin h) (turn_calls now given script h)
+    (turn_events now given script h) (after_turn now given script h)
+turn-moves now p held given script h low past =
     let s0 : Turning = turn_begin h in
     let s1 : Turning = after_accept now script h in
-    let s2 : Turning = after_reads now script h in
-    let s3 : Turning = after_line now line script h in
-    let s4 : Turning = after_scan now line script h in
+    let z : Turning = after_first now given script h in
+    let s2 : Turning = after_reads now given script h in
+    let s3 : Turning = after_line now given script h in
+    let s4 : Turning = after_scan now given script h in
     let reads =
     each-moves (Well now p held) now p (read_one now) (read_calls now) (read_events now)
-    (read-moves now p held low past) 0 script.readings s1 in
+    (read-moves now p held low past) 0 script.readings z in
     let offers =
     each-moves (Well now p held) now p (offer_one now) (offer_calls now) (offer_events now)
     (offer-moves now p held low past) 0 script.offers s4 in
+    let to1 =
+    Moves-trans (Fresh now p held) (Well now p held) (Well now p held) now p s0 s1 z _ _ _ _
+    (accept-moves now p held low past script.accepted s0)
+    (line-moves now p held low past (first_of given) s1) in
     let to2 =
-    Moves-trans (Fresh now p held) (Well now p held) (Well now p held) now p s0 s1 s2 _ _ _ _
-    (accept-moves now p held low past script.accepted s0) reads in
+    Moves-trans (Fresh now p held) (Well now p held) (Well now p held) now p s0 z s2 _ _ _ _
+    to1 reads in
     let to3 =
     Moves-trans (Fresh now p held) (Well now p held) (Well now p held) now p s0 s2 s3 _ _ _ _
-    to2 (line-moves now p held low past line s2) in
+    to2 (line-moves now p held low past given.event s2) in
     let to4 =
     Moves-trans (Fresh now p held) (Well now p held) (Well now p held) now p s0 s3 s4 _ _ _ _
     to3 (scan-moves now p held low past s3) in
     Moves-trans (Fresh now p held) (Well now p held) (Well now p held) now p s0 s4
-    (after_turn now line script h) _ _ _ _ to4 offers
+    (after_turn now given script h) _ _ _ _ to4 offers
 
 kept-at : (x : Standing) (u : Bool) (q lost : List ℕ) → MayLose x u q lost → is_full x ≡ false
     → is_leaving x ≡ false → (q ≡ q ++ lost) ⊎ ((q ≡ []) × (u ≡ false))
@@ -76,19 +81,19 @@ empty-at Leaving u q lost m e f g = absurd (cc)
 empty-at LeavingFull u q lost m e f g = absurd (cc)
 empty-at Gone u q lost m e f g = m.0
 
-pub loses-nothing : (now : ℕ) (line : Option ProcessEvent) (script : Script) (h : Held) → IsTidy h
-    → IsInTime now h → length script.offers ≡ 8 → LosesNothing now line script h
-loses-nothing now line script h tidy time offers =
-    let t : Turning = after_turn now line script h in
-    let taken = λ (p : ℕ). taken_of (p + 1) (turn_calls now line script h) in
+pub loses-nothing : (now : ℕ) (given : Reported) (script : Script) (h : Held) → IsTidy h
+    → IsInTime now h → length script.offers ≡ 8 → LosesNothing now given script h
+loses-nothing now given script h tidy time offers =
+    let t : Turning = after_turn now given script h in
+    let taken = λ (p : ℕ). taken_of (p + 1) (turn_calls now given script h) in
     let sent =
-    λ (p : ℕ). sent_to (p + 1) (done_at now (turn_events now line script h) h.device).answers in
+    λ (p : ℕ). sent_to (p + 1) (done_at now (turn_events now given script h) h.device).answers in
     let well : (p : ℕ) → p < 8 → Well now p (queue_at p h) (taken p) (sent p) t = λ p low.
-    (turn-moves now p (queue_at p h) line script h low time.not_past).goes [] []
+    (turn-moves now p (queue_at p h) given script h low time.not_past).goes [] []
     (begun-fresh now p h low tidy time.not_before) in
     let left : (p : ℕ) → p < 8
     → is_leaving (standing_of p t) ≡ false =
-    λ p low. each-left now 0 p p script.offers (after_scan now line script h) (omega arith)
+    λ p low. each-left now 0 p p script.offers (after_scan now given script h) (omega arith)
     (omega (arith, offers, low)) in
     record {
       flows = λ p low.

@@ -5,11 +5,12 @@ use Rattle.bay_nodes.specs.declared.switch.Switch.{Switch}
 use Rattle.bay_tree.specs.declared.leaf.Dbpos.{Dbpos}
 use Rattle.bay_base.specs.declared.point.MeterField.{MeterField}
 use Rattle.bay_connection.specs.Talk.{Indication, Talk, answers, ends, fails, indications, left_by, releases, tells}
+use Rattle.bay_device.proofs.LostLemmas.{Fixed, lost-fixed}
 use Rattle.bay_device.specs.Device.{State, device_at, ended_at}
 use Rattle.bay_device.specs.Hearing.{Done, AllHeard, after_indications, on_heard, after_pdu, with_sent}
-use Rattle.bay_device.specs.Outcomes.{Outcome, close_outcome, without_connection, closed_by, connection_at, contact_outcome, event_outcome, first_talk, input_outcome, last_moment, measure_outcome, nothing_done, open_outcome, outcome, place_of, recv_after, recv_done, recv_outcome, refusal_of, with_connection, without_owner}
+use Rattle.bay_device.specs.Outcomes.{Outcome, close_outcome, without_connection, closed_by, connection_at, contact_outcome, event_outcome, first_talk, doubt_outcome, input_outcome, last_moment, measure_outcome, nothing_done, open_outcome, outcome, place_of, recv_after, recv_done, recv_outcome, refusal_of, with_connection, without_owner}
 use Rattle.bay_device.specs.declared.event.Event.{Event}
-use Rattle.bay_device.specs.declared.event.Event.TheVariants.{Open, Recv, Close, Contact, Input, Measure, Scan}
+use Rattle.bay_device.specs.declared.event.Event.TheVariants.{Open, Recv, Close, Contact, Input, Measure, BadMeasure, Lost, Scan}
 use Rattle.bay_device.specs.declared.event.Sent.{Sent}
 use Rattle.bay_device.specs.declared.event.Step.{Step}
 use Rattle.bay_device.specs.declared.event.Why.{Why}
@@ -161,6 +162,11 @@ measure-moment : (now k : ℕ) (field : MeterField) (value : ℤ) (s : State) (i
 measure-moment now k field value s None h = h
 measure-moment now k field value s (Some id) h = omega arith
 
+bad-measure-moment : (now k : ℕ) (field : MeterField) (s : State) (id : Option (List ℕ))
+    → s.moment ≤ now → (doubt_outcome now k field s id).after.moment ≤ now
+bad-measure-moment now k field s None h = h
+bad-measure-moment now k field s (Some id) h = omega arith
+
 after-moment : (now a : ℕ) (left : Talk) (s : State) (why : Option Why) → s.moment ≤ now
     → (recv_after a left s why).moment ≤ now
 after-moment now a left s None h = let e = set-moment (place_of a) (Some left) s in omega (arith, e)
@@ -191,6 +197,10 @@ event-moment choice now (Input k value) s h =
     input-moment now k value s (slice_get s.input_values k) h
 event-moment choice now (Measure k field value) s h =
     measure-moment now k field value s (slice_get s.meters k) h
+event-moment choice now (BadMeasure k field) s h =
+    bad-measure-moment now k field s (slice_get s.meters k) h
+event-moment choice now Lost s h = let same =
+    ap (λ (f : Fixed). f.moment) (lost-fixed now (device_at now s)) in omega (arith, same)
 event-moment choice now Scan s h = omega arith
 
 -- the last moment is not after an event's
@@ -239,6 +249,23 @@ pub measure-outcome-up : (choice : Option ℕ) (now p k : ℕ) (field : MeterFie
 measure-outcome-up choice now p k field value s =
     process-up choice now p (Measure k field value) s
     (measure-up now k field value s (slice_get s.meters k))
+
+bad-measure-up : (now k : ℕ) (field : MeterField) (s : State) (id : Option (List ℕ))
+    → (doubt_outcome now k field s id).after.connections ≡ s.connections
+bad-measure-up now k field s None = refl
+bad-measure-up now k field s (Some id) = refl
+
+pub bad-measure-outcome-up : (choice : Option ℕ) (now p k : ℕ) (field : MeterField) (s : State)
+    → up_at p (outcome choice now (BadMeasure k field) s).after ≡ up_at p s
+bad-measure-outcome-up choice now p k field s =
+    process-up choice now p (BadMeasure k field) s
+    (bad-measure-up now k field s (slice_get s.meters k))
+
+pub lost-outcome-up : (choice : Option ℕ) (now p : ℕ) (s : State)
+    → up_at p (outcome choice now Lost s).after ≡ up_at p s
+lost-outcome-up choice now p s =
+    process-up choice now p Lost s
+    (ap (λ (f : Fixed). f.connections) (lost-fixed now (device_at now s)))
 
 pub scan-outcome-up : (choice : Option ℕ) (now p : ℕ) (s : State)
     → up_at p (outcome choice now Scan s).after ≡ up_at p s

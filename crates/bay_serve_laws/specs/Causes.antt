@@ -6,7 +6,7 @@ use Rattle.bay_device.specs.declared.event.Why.TheVariants as why
 use Rattle.bay_device.specs.declared.fault.StepFault.{StepFault}
 use Rattle.bay_serve.specs.Calls.{Call, Accepts, Reads, Writes, Closes, ReadOutcome, Octets, Silence, Over, Broken, is_broken}
 use Rattle.bay_serve.specs.Turns.{Held, Script, turn_calls, after_turn}
-use Rattle.bay_serve.specs.declared.process.ProcessEvent.{ProcessEvent}
+use Rattle.bay_serve.specs.declared.process.Reported.{Reported}
 use Rattle.bay_serve.specs.declared.told.Closing.{Closing}
 use Rattle.bay_serve.specs.declared.told.Closing.TheVariants.{Ended, Fault, QueueFull, LinkFailed}
 use Rattle.bay_serve_laws.specs.Events.{done_at, turn_events}
@@ -114,9 +114,9 @@ pub record IsCaused (failed over : Bool) (reasons : List Why) (a : ℕ) (told : 
       → (failed ≡ false) × (over ≡ false) × (reasons ≡ [])
 
 -- So it is of one of the associations in a turn.
-abbrev pub HasItsCause : ℕ → Option ProcessEvent → Script → Held → ℕ → Type 0
-HasItsCause now line script h a =
-    IsCaused (has_some (fails_for a) (turn_calls now line script h))
-    (has_some (ends_for a) (turn_calls now line script h))
-    (reasons_of a (done_at now (turn_events now line script h) h.device).answers) a
-    (after_turn now line script h).noted.closed (after_turn now line script h).noted.memory
+abbrev pub HasItsCause : ℕ → Reported → Script → Held → ℕ → Type 0
+HasItsCause now given script h a =
+    IsCaused (has_some (fails_for a) (turn_calls now given script h))
+    (has_some (ends_for a) (turn_calls now given script h))
+    (reasons_of a (done_at now (turn_events now given script h) h.device).answers) a
+    (after_turn now given script h).noted.closed (after_turn now given script h).noted.memory

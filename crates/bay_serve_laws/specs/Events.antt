@@ -13,8 +13,9 @@ use Rattle.bay_trace.specs.Placing.{lying}
 use Rattle.bay_serve.specs.Calls.{ReadOutcome, Octets, Silence, Over, Broken}
 use Rattle.bay_serve.specs.Offers.{Offer}
 use Rattle.bay_serve.specs.Standings.{is_leaving}
-use Rattle.bay_serve.specs.Turns.{Held, Reading, Script, Turning, after_accept, after_line, after_reads, after_scan, turn_begin, cut_off, first_full, free_place, hung_up, is_up, offer_of, offer_one, after_opening, read_one, standing_of, after_event, event_of, taken_in, told_of, after_turn}
+use Rattle.bay_serve.specs.Turns.{Held, Reading, Script, Turning, after_accept, after_first, after_line, after_reads, after_scan, turn_begin, cut_off, first_full, first_of, free_place, hung_up, is_up, offer_of, offer_one, after_opening, read_one, standing_of, after_event, event_of, taken_in, told_of, after_turn}
 use Rattle.bay_serve.specs.declared.process.ProcessEvent.{ProcessEvent}
+use Rattle.bay_serve.specs.declared.process.Reported.{Reported}
 use Rattle.bay_serve.specs.declared.told.Closing.TheVariants as closing
 
 -- an event with its choice: behind how many things that its octets come to memory was refused, if
@@ -101,14 +102,16 @@ events_of_each f events place (c ∷ cs) s =
     events place c s ++ events_of_each f events (place + 1) cs (f place c s)
 
 -- the events of a turn, in their order
-abbrev pub turn_events : ℕ → Option ProcessEvent → Script → Held → List ChosenEvent
-turn_events now line script h =
+abbrev pub turn_events : ℕ → Reported → Script → Held → List ChosenEvent
+turn_events now given script h =
     accept_events now script.accepted (turn_begin h)
-    ++ events_of_each (read_one now) (read_events now) 0 script.readings (after_accept now script h)
-    ++ line_events now line (after_reads now script h)
-    ++ scan_events now (after_line now line script h)
+    ++ line_events now (first_of given) (after_accept now script h)
+    ++ events_of_each (read_one now) (read_events now) 0 script.readings
+    (after_first now given script h)
+    ++ line_events now given.event (after_reads now given script h)
+    ++ scan_events now (after_line now given script h)
     ++ events_of_each (offer_one now) (offer_events now) 0 script.offers
-    (after_scan now line script h)
+    (after_scan now given script h)
 
 -- ---- what they come to
 
@@ -135,9 +138,9 @@ commands_of (answer ∷ answers) = commands_in answer ++ commands_of answers
 
 -- The device after a turn is that of the turn's events, and the commands that are told are those of
 -- their answers.
-pub record IsItsEvents (now : ℕ) (line : Option ProcessEvent) (script : Script) (h : Held)
+pub record IsItsEvents (now : ℕ) (given : Reported) (script : Script) (h : Held)
     : Type 0 where
-  pub device : (after_turn now line script h).server.device
-      ≡ (done_at now (turn_events now line script h) h.device).after
-  pub commands : (after_turn now line script h).noted.commands
-      ≡ commands_of (done_at now (turn_events now line script h) h.device).answers
+  pub device : (after_turn now given script h).server.device
+      ≡ (done_at now (turn_events now given script h) h.device).after
+  pub commands : (after_turn now given script h).noted.commands
+      ≡ commands_of (done_at now (turn_events now given script h) h.device).answers

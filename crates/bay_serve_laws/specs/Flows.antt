@@ -2,13 +2,13 @@
 use Rattle.std.specs.Prelude.{◌≡◌, ℕ, ◌+◌, ◌<◌, ◌≤◌, ◌==◌, Bool, true, false, if◌then◌else◌, List, [], ◌∷◌, ◌++◌, length, take, Option, Some, None, Result, Ok, Err, ◌⊎◌}
 use Rattle.bay_device.specs.Outcomes.{associations, last_moment}
 use Rattle.bay_device.specs.declared.event.Event.{Event}
-use Rattle.bay_device.specs.declared.event.Event.TheVariants.{Open, Recv, Close, Contact, Input, Measure, Scan}
+use Rattle.bay_device.specs.declared.event.Event.TheVariants.{Open, Recv, Close, Contact, Input, Measure, BadMeasure, Lost, Scan}
 use Rattle.bay_device.specs.declared.event.Sent.{Sent}
 use Rattle.bay_device.specs.declared.event.Step.{Step}
 use Rattle.bay_device.specs.declared.fault.StepFault.{StepFault}
 use Rattle.bay_serve.specs.Calls.{Call, Accepts, Reads, Writes, Closes, ReadOutcome, Octets, Silence, Over, Broken}
 use Rattle.bay_serve.specs.Turns.{Held, Script, is_up_in, queue_at, turn_calls, after_turn}
-use Rattle.bay_serve.specs.declared.process.ProcessEvent.{ProcessEvent}
+use Rattle.bay_serve.specs.declared.process.Reported.{Reported}
 use Rattle.bay_serve_laws.specs.Causes.{is_queue_full, tells}
 use Rattle.bay_serve_laws.specs.Events.{ChosenEvent, done_at, turn_events}
 
@@ -55,6 +55,8 @@ brought_by a (Close b) = []
 brought_by a (Contact k position) = []
 brought_by a (Input k value) = []
 brought_by a (Measure k field value) = []
+brought_by a (BadMeasure k field) = []
+brought_by a Lost = []
 brought_by a Scan = []
 
 -- the octets of an association that events bring, in their order
@@ -107,19 +109,19 @@ pub record Flows (taken held sent holds : List ℕ) (up : Bool) : Type 0 where
   pub is : taken ++ rest ≡ held ++ sent
   pub kept : (holds ≡ rest) ⊎ ((holds ≡ []) × (up ≡ false))
 
-abbrev pub FlowsAt : ℕ → Option ProcessEvent → Script → Held → ℕ → Type 0
-FlowsAt now line script h place =
-    Flows (taken_of (place + 1) (turn_calls now line script h)) (queue_at place h)
-    (sent_to (place + 1) (done_at now (turn_events now line script h) h.device).answers)
-    (queue_at place (after_turn now line script h).server)
-    (is_up_in place (after_turn now line script h).server)
+abbrev pub FlowsAt : ℕ → Reported → Script → Held → ℕ → Type 0
+FlowsAt now given script h place =
+    Flows (taken_of (place + 1) (turn_calls now given script h)) (queue_at place h)
+    (sent_to (place + 1) (done_at now (turn_events now given script h) h.device).answers)
+    (queue_at place (after_turn now given script h).server)
+    (is_up_in place (after_turn now given script h).server)
 
 -- So it is for each association, and the server is tidy again; where it is told that a queue was
 -- full, the link left more of its octets than there is room for.
-pub record LosesNothing (now : ℕ) (line : Option ProcessEvent) (script : Script) (h : Held)
+pub record LosesNothing (now : ℕ) (given : Reported) (script : Script) (h : Held)
     : Type 0 where
-  pub flows : (place : ℕ) → place < associations → FlowsAt now line script h place
+  pub flows : (place : ℕ) → place < associations → FlowsAt now given script h place
   pub full : (place : ℕ) (low : place < associations)
-      → tells is_queue_full (place + 1) (after_turn now line script h).noted.closed ≡ true
+      → tells is_queue_full (place + 1) (after_turn now given script h).noted.closed ≡ true
       → 262144 < length (flows place low).rest
-  pub tidy : IsTidy (after_turn now line script h).server
+  pub tidy : IsTidy (after_turn now given script h).server

@@ -3,7 +3,7 @@ use Rattle.std.specs.Prelude.{◌≡◌, ℕ, ◌+◌, ◌<◌, ◌↔◌, ◌�
 use Rattle.std.specs.declared.net.socket_addr.SocketAddrV4.{SocketAddrV4}
 use Rattle.bay_device.specs.declared.event.Why.{Why}
 use Rattle.bay_serve.specs.Turns.{Held, Script, free_place, is_up_in, queue_at, turn_calls, after_turn}
-use Rattle.bay_serve.specs.declared.process.ProcessEvent.{ProcessEvent}
+use Rattle.bay_serve.specs.declared.process.Reported.{Reported}
 use Rattle.bay_serve_laws.specs.Causes.{ends_for, fails_for, has_some, is_queue_full, reasons_of, tells}
 use Rattle.bay_serve_laws.specs.Events.{done_at, turn_events}
 use Rattle.bay_serve_laws.specs.Flows.{sent_to, taken_of}
@@ -25,11 +25,11 @@ IsOpenIn place script h =
     × (from : SocketAddrV4) × (script.accepted ≡ Some (Some from)))
 
 -- So it is of one of the associations in a turn, exactly where that is told.
-abbrev pub IsToldWhereFull : ℕ → Option ProcessEvent → Script → Held → ℕ → Type 0
-IsToldWhereFull now line script h place =
-    (tells is_queue_full (place + 1) (after_turn now line script h).noted.closed ≡ true)
-    ↔ HasNoRoom (taken_of (place + 1) (turn_calls now line script h)) (queue_at place h)
-    (sent_to (place + 1) (done_at now (turn_events now line script h) h.device).answers)
-    (has_some (fails_for (place + 1)) (turn_calls now line script h))
-    (has_some (ends_for (place + 1)) (turn_calls now line script h))
-    (reasons_of (place + 1) (done_at now (turn_events now line script h) h.device).answers)
+abbrev pub IsToldWhereFull : ℕ → Reported → Script → Held → ℕ → Type 0
+IsToldWhereFull now given script h place =
+    (tells is_queue_full (place + 1) (after_turn now given script h).noted.closed ≡ true)
+    ↔ HasNoRoom (taken_of (place + 1) (turn_calls now given script h)) (queue_at place h)
+    (sent_to (place + 1) (done_at now (turn_events now given script h) h.device).answers)
+    (has_some (fails_for (place + 1)) (turn_calls now given script h))
+    (has_some (ends_for (place + 1)) (turn_calls now given script h))
+    (reasons_of (place + 1) (done_at now (turn_events now given script h) h.device).answers)

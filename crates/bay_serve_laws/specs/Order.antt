@@ -7,8 +7,9 @@ use Rattle.bay_device.specs.Outcomes.{connection_at}
 use Rattle.bay_device.specs.declared.event.Event.TheVariants.{Open, Recv, Close, Scan}
 use Rattle.bay_trace.specs.Placing.{lying}
 use Rattle.bay_serve.specs.Calls.{ReadOutcome, Octets, Silence, Over, Broken}
-use Rattle.bay_serve.specs.Turns.{Held, Reading, Script, after_turn, event_of, turn_calls}
+use Rattle.bay_serve.specs.Turns.{Held, Reading, Script, after_turn, event_of, first_of, turn_calls}
 use Rattle.bay_serve.specs.declared.process.ProcessEvent.{ProcessEvent}
+use Rattle.bay_serve.specs.declared.process.Reported.{Reported}
 use Rattle.bay_serve.specs.declared.told.Closing.{Closing}
 use Rattle.bay_serve_laws.specs.Causes.{fails_for, has_some, is_queue_full, tells}
 use Rattle.bay_serve_laws.specs.Events.{ChosenEvent, done_at, surely, turn_events}
@@ -70,22 +71,23 @@ module _ (now : ℕ) (told : List (ℕ × Closing)) where
   ThenReads place (r ∷ rs) Rest d events =
       Then (read_at place r d) (ThenReads (place + 1) rs Rest) d events
 
-  -- A connection is opened, each association is read, the line is told, the program runs once, and
-  -- then associations are closed at most, for a reason.
-  abbrev pub AreInOrder : (ℕ → Bool) → Option ProcessEvent → Script → State → List ChosenEvent
-      → Type 0
-  AreInOrder has_reason line script d events =
-      Then (opened script.accepted d) (ThenReads 0 script.readings
-      (λ e. Then (told_at line) (Then (surely Scan ∷ []) (λ f rest. AreClosings has_reason rest))
-      e))
+  -- A connection is opened, it is told that the process is lost, if it is, each association is read,
+  -- the line is told, the program runs once, and then associations are closed at most, for a reason.
+  abbrev pub AreInOrder : (ℕ → Bool) → Reported → Script → State → List ChosenEvent → Type 0
+  AreInOrder has_reason given script d events =
+      Then (opened script.accepted d) (λ c. Then (told_at (first_of given))
+      (ThenReads 0 script.readings
+      (λ e. Then (told_at given.event)
+      (Then (surely Scan ∷ []) (λ f rest. AreClosings has_reason rest))
+      e)) c)
       d
       events
 
 -- So are the events of a turn. At its end an association is closed whose queue was full, or for
 -- which a call on the link failed.
-abbrev pub IsInOrder : ℕ → Option ProcessEvent → Script → Held → Type 0
-IsInOrder now line script h =
-    let told = (after_turn now line script h).noted.closed in
+abbrev pub IsInOrder : ℕ → Reported → Script → Held → Type 0
+IsInOrder now given script h =
+    let told = (after_turn now given script h).noted.closed in
     AreInOrder now told
-    (λ a. tells is_queue_full a told || has_some (fails_for a) (turn_calls now line script h)) line
-    script h.device (turn_events now line script h)
+    (λ a. tells is_queue_full a told || has_some (fails_for a) (turn_calls now given script h)) given
+    script h.device (turn_events now given script h)

@@ -5,7 +5,7 @@ ghost use Rattle.bay_device.specs.Outcomes.{associations};
 ghost use Rattle.bay_serve.specs.Calls.{Called};
 ghost use Rattle.bay_serve.specs.Served.{Serves};
 ghost use Rattle.bay_serve.specs.Turns.{Held, Script, after_turn, turn_calls};
-ghost use Rattle.bay_serve.specs.declared.process.ProcessEvent.{ProcessEvent};
+ghost use Rattle.bay_serve.specs.declared.process.Reported.{Reported};
 ghost use Rattle.bay_serve.specs.declared.told.Turn.{Turn};
 ghost use Rattle.bay_serve_laws.specs.Causes.{HasItsCause};
 ghost use Rattle.bay_serve_laws.specs.Events.{IsItsEvents, turn_events};
@@ -21,10 +21,10 @@ use bay_serve::link::Link;
 /// A failed connection of an association is reported only if a call of the link failed: the link's
 /// count of failures rises in such a turn.
 pub fn a_told_failure_is_counted<L: Link>(_link: &L)
-    ensures { (old new : L) (now : ℕ) (line : Option ProcessEvent) (before after : Held)
+    ensures { (old new : L) (now : ℕ) (given : Reported) (before after : Held)
         (turn : Turn)
         →
-        Serves (Called L.does L.failures) old new now line before after turn
+        Serves (Called L.does L.failures) old new now given before after turn
         → tells_failure turn.closed ≡ true →
         L.failures old < 2 ^ 64 - 1 → L.failures old < L.failures new }
 {}
@@ -32,10 +32,10 @@ pub fn a_told_failure_is_counted<L: Link>(_link: &L)
 /// The closing of an association is reported at most once in a turn: with its reason, or as out of
 /// memory.
 pub fn an_association_is_told_once<L: Link>(_link: &L)
-    ensures { (old new : L) (now : ℕ) (line : Option ProcessEvent) (before after : Held)
+    ensures { (old new : L) (now : ℕ) (given : Reported) (before after : Held)
         (turn : Turn)
         (place : ℕ) →
-        Serves (Called L.does L.failures) old new now line before after turn
+        Serves (Called L.does L.failures) old new now given before after turn
         → times_told (place + 1) turn.closed turn.memory ≤ 1 }
 {}
 
@@ -46,25 +46,25 @@ pub fn an_association_is_told_once<L: Link>(_link: &L)
 /// write of it failed and neither its client nor the device had closed it. A full queue is reported
 /// only if nothing else closed it.
 pub fn each_closing_has_its_cause()
-    ensures { (now : ℕ) (line : Option ProcessEvent) (script : Script) (h : Held) → IsTidy h
+    ensures { (now : ℕ) (given : Reported) (script : Script) (h : Held) → IsTidy h
         → IsInTime now h → length script.readings ≡ associations
         → length script.offers ≡ associations → (place : ℕ)
-        → place < associations → HasItsCause now line script h (place + 1) }
+        → place < associations → HasItsCause now given script h (place + 1) }
 {}
 
 /// The device after a turn is the device before it with the turn's events applied, each at the
 /// turn's time, and the commands that the turn reports are those of the events' answers, in order.
 /// The events are, in this order: if a connection was accepted, the lowest free association is
-/// opened; for each association that is open when it comes, what its one read brought (its octets
+/// opened; that the process is lost, if it is; for each association that is open when it comes, what its one read brought (its octets
 /// arrive, or it is closed, or nothing); the event of the process, if there is one; and exactly one
 /// scan. Behind each of these, the associations to which a reply did not fit are closed; behind the
 /// scan also those for which a call failed. There is no other event.
 pub fn a_turn_is_its_events()
-    ensures events { (now : ℕ) (line : Option ProcessEvent) (script : Script) (h : Held)
-        → IsItsEvents now line script h }
-    ensures order { (now : ℕ) (line : Option ProcessEvent) (script : Script) (h : Held)
+    ensures events { (now : ℕ) (given : Reported) (script : Script) (h : Held)
+        → IsItsEvents now given script h }
+    ensures order { (now : ℕ) (given : Reported) (script : Script) (h : Held)
         → length script.readings ≡ associations → length script.offers ≡ associations
-        → IsInOrder now line script h }
+        → IsInOrder now given script h }
 {}
 
 /// What the link takes for an association in a turn, followed by what its queue then holds, is what
@@ -73,11 +73,11 @@ pub fn a_turn_is_its_events()
 /// full queue is reported, more than 262,144 octets were left. What the link gives of an
 /// association in a turn is what the device receives from it in the turn.
 pub fn octets_are_neither_lost_nor_repeated()
-    ensures octets { (now : ℕ) (line : Option ProcessEvent) (script : Script) (h : Held) → IsTidy h
-        → IsInTime now h → length script.offers ≡ associations → LosesNothing now line script h }
-    ensures received { (now : ℕ) (line : Option ProcessEvent) (script : Script) (h : Held)
-        → (a : ℕ) → given_of a (turn_calls now line script h)
-        ≡ received_of a (turn_events now line script h) }
+    ensures octets { (now : ℕ) (given : Reported) (script : Script) (h : Held) → IsTidy h
+        → IsInTime now h → length script.offers ≡ associations → LosesNothing now given script h }
+    ensures received { (now : ℕ) (given : Reported) (script : Script) (h : Held)
+        → (a : ℕ) → given_of a (turn_calls now given script h)
+        ≡ received_of a (turn_events now given script h) }
     // A server is tidy as it is made, and so after each turn.
     ensures begins { (device : State)
         → IsTidy (record { device = device; queues = replicate associations [] }) }
@@ -88,9 +88,9 @@ pub fn octets_are_neither_lost_nor_repeated()
 pub fn queues_stay_in_their_room()
     ensures begins { (device : State)
         → AreInRoom (record { device = device; queues = replicate associations [] }) }
-    ensures stays { (now : ℕ) (line : Option ProcessEvent) (script : Script) (h : Held)
+    ensures stays { (now : ℕ) (given : Reported) (script : Script) (h : Held)
         → AreInRoom h
-        → AreInRoom (after_turn now line script h).server }
+        → AreInRoom (after_turn now given script h).server }
 {}
 
 /// When a reply does not fit follows from the calls on the link and the device's answers. For an
@@ -98,9 +98,9 @@ pub fn queues_stay_in_their_room()
 /// reported exactly if the link left more than 262,144 octets of what its queue held and what was
 /// sent to it, no call for it failed, its client did not end, and the device did not close it.
 pub fn a_full_queue_is_told()
-    ensures { (now : ℕ) (line : Option ProcessEvent) (script : Script) (h : Held) → IsTidy h
+    ensures { (now : ℕ) (given : Reported) (script : Script) (h : Held) → IsTidy h
         → IsInTime now h → AreInRoom h → length script.readings ≡ associations
         → length script.offers ≡ associations → (place : ℕ) → place < associations
         → IsOpenIn place script h
-        → IsToldWhereFull now line script h place }
+        → IsToldWhereFull now given script h place }
 {}
