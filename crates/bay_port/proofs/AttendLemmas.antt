@@ -1,21 +1,22 @@
 -- Lemmas on what is done with the connection of a process.
-use Rattle.std.proofs.Common.{◌≡◌, ℕ, ◌+◌, ◌==◌, ◌≤◌, nat_lt, nat_le, Bool, true, false, if◌then◌else◌, List, [], ◌∷◌, ◌++◌, length, take, Option, None, Some, Result, Ok, Err, refl, sym, ap, ◌∙◌, subst, arith}
+use Rattle.std.proofs.Common.{◌≡◌, ℕ, ◌+◌, ◌-◌, ◌==◌, ◌≤◌, nat_lt, nat_le, Bool, true, false, if◌then◌else◌, List, [], ◌∷◌, ◌++◌, length, take, Option, None, Some, Result, Ok, Err, refl, sym, ap, ◌∙◌, subst, arith}
 use Rattle.std.proofs.lemmas.Bool.Decides.{nat_tests}
 use Rattle.std.specs.List.{position}
 use Rattle.std.specs.declared.net.socket_addr.SocketAddrV4.{SocketAddrV4}
-use Rattle.bay_lines.specs.Fronts.{Overlong, Waiting, front, front_at, is_end}
+use Rattle.bay_lines.specs.Fronts.{Front, Overlong, Waiting, Whole, front, front_at, is_end}
 use Rattle.bay_serve.proofs.TalkLemmas.{Talks-append}
-use Rattle.bay_port.specs.Attending.{Attended, all_told, Attends, Does, Leads, AttendedPart, Script, attendance, attended_here, behind, line_part, left_in, offer_part, offered_of, on_taken, read_by, accepted_in, first_part, welcomed, talk_part, told_to}
+use Rattle.bay_port.specs.Attending.{Attended, all_told, Attends, Does, Leads, AttendedPart, Script, accepted_in, attendance, attended_here, behind, first_part, greet_part, left_alone, line_in_front, line_judged, line_part, offer_part, offered_of, on_taken, quiet_part, read_by, talk_part, told_to, welcomed}
 use Rattle.bay_serve.specs.Calls.{Call, Accepts, Closes, ReadOutcome, Octets, Silence, Reads, Writes, Talks}
-use Rattle.bay_port.specs.Fit.{is_waiting, is_wrong}
+use Rattle.bay_port.specs.Fit.{is_waiting}
 use Rattle.bay_port.specs.Ports.{PortData, emptied}
 use Rattle.bay_device.specs.Device.{State}
-use Rattle.bay_port.specs.Sound.{is_forgotten}
-use Rattle.bay_port.specs.Telling.{fits_in}
+use Rattle.bay_port.specs.Telling.{ToldTurn, fits_in, greeting}
+use Rattle.bay_port.specs.Watching.{Watched, judged}
 use Rattle.bay_port.specs.declared.news.News.{News}
 use Rattle.bay_port.specs.declared.news.News.TheVariants.{Opened, Closed}
 use Rattle.bay_port.specs.declared.news.Parting.{Parting}
 use Rattle.bay_port.specs.declared.port.Presence.TheVariants.{Away, Leaving, Here}
+use Rattle.bay_port.specs.declared.watching.LineWord.{LineWord}
 
 -- ---- the parts
 
@@ -37,19 +38,43 @@ offered-some : (xs : List ℕ) (taken : Option ℕ) (p : PortData) → (length x
 offered-some [] taken p e = absurd cc
 offered-some (b ∷ bs) taken p e = refl
 
-told-calls : (text : List ℕ) (s : State) (p : PortData) → (told_to text s p).calls ≡ []
-told-calls text s p = by-room (fits_in p.queue (all_told text s p)) refl
+told-calls : (t : ToldTurn) (s : State) (p : PortData) → (told_to t s p).calls ≡ []
+told-calls t s p = by-room (fits_in p.queue (all_told t s p)) refl
   where
-    by-room : (v : Bool) → fits_in p.queue (all_told text s p) ≡ v → (told_to text s p).calls ≡ []
+    by-room : (v : Bool) → fits_in p.queue (all_told t s p) ≡ v → (told_to t s p).calls ≡ []
     by-room true e = rw e refl
     by-room false e = rw e refl
 
-checked-calls : (p : PortData) → (line_part p).calls ≡ []
-checked-calls p = by-front (is_wrong (front p.kept)) refl
+pub greet-calls : (now : ℕ) (s : State) (p : PortData) → (greet_part now s p).calls ≡ []
+greet-calls now s p = by-room (fits_in p.queue (greeting now s p.watch)) refl
   where
-    by-front : (v : Bool) → is_wrong (front p.kept) ≡ v → (line_part p).calls ≡ []
-    by-front true e = rw e refl
-    by-front false e = rw e refl
+    by-room : (v : Bool) → fits_in p.queue (greeting now s p.watch) ≡ v
+        → (greet_part now s p).calls ≡ []
+    by-room true e = rw e refl
+    by-room false e = rw e refl
+
+quiet-calls : (now : ℕ) (watch : Option Watched) (p : PortData)
+    → (quiet_part now watch p).calls ≡ []
+quiet-calls now None p = refl
+quiet-calls now (Some w) p = by-span (nat_le (now - w.heard) w.duties.limit) refl
+  where
+    by-span : (v : Bool) → nat_le (now - w.heard) w.duties.limit ≡ v
+        → (quiet_part now (Some w) p).calls ≡ []
+    by-span true e = rw e refl
+    by-span false e = rw e refl
+
+judged-calls : (now : ℕ) (r : Result LineWord Parting) (p : PortData)
+    → (line_judged now r p).calls ≡ []
+judged-calls now (Ok word) p = refl
+judged-calls now (Err why) p = refl
+
+checked-calls : (now : ℕ) (s : State) (p : PortData) → (line_part now s p).calls ≡ []
+checked-calls now s p = by-front (front p.kept)
+  where
+    by-front : (f : Front) → (line_in_front now s f p).calls ≡ []
+    by-front Waiting = quiet-calls now p.watch p
+    by-front Overlong = refl
+    by-front (Whole line rest) = judged-calls now (judged p.watch s now line) p
 
 module _ {L : Type 0} (step : L → Call → L → Type 0) where
   -- what waits was offered
@@ -132,12 +157,12 @@ module _ {L : Type 0} (step : L → Call → L → Type 0) where
   ran-out old new (Err w) calls after f why talks leads =
       record { talks = talks; leads = leads }
 
-  module _ (text : List ℕ) (s : State) (old : L) (before told : PortData)
-      (answer : Result (Unit {0}) Parting) (tells : Leads (told_to text s before).after told answer)
+  module _ (t : ToldTurn) (s : State) (old : L) (before told : PortData)
+      (answer : Result (Unit {0}) Parting) (tells : Leads (told_to t s before).after told answer)
     where
-      ran-told : Ran old old (told_to text s before) told answer
+      ran-told : Ran old old (told_to t s before) told answer
       ran-told = record {
-        talks = subst (λ cs. Talks step old cs old) (sym (told-calls text s before)) refl;
+        talks = subst (λ cs. Talks step old cs old) (sym (told-calls t s before)) refl;
         leads = tells;
       }
 
@@ -149,36 +174,36 @@ module _ {L : Type 0} (step : L → Call → L → Type 0) where
       let b = behind a f in
       ran-out old new b.after b.calls after g why r1.talks r1.leads
 
-  module _ (text : List ℕ) (s : State) (old : L) (before told : PortData) where
+  module _ (t : ToldTurn) (s : State) (old : L) (before told : PortData) where
     -- it could not be told
-    pub talks-untold : (why : Parting) → Leads (told_to text s before).after told (Err why)
-        → Does step (talk_part text s) old old before told (Err why)
+    pub talks-untold : (why : Parting) → Leads (told_to t s before).after told (Err why)
+        → Does step (talk_part t s) old old before told (Err why)
     talks-untold why tells =
-        let t = ran-told text s old before told (Err why) tells in
-        let r = ran-out2 old old (told_to text s before) told (offer_part None) (read_by Silence)
-        why t in
-        let b = behind (behind (told_to text s before) (offer_part None)) (read_by Silence) in
-        let last = ran-out old old b.after b.calls told line_part why r.talks r.leads in
+        let first = ran-told t s old before told (Err why) tells in
+        let r = ran-out2 old old (told_to t s before) told (offer_part None) (read_by Silence)
+        why first in
+        let b = behind (behind (told_to t s before) (offer_part None)) (read_by Silence) in
+        let last = ran-out old old b.after b.calls told (line_part t.now s) why r.talks r.leads in
         record { answers = (None, Silence); talks = last.talks; leads = last.leads }
 
-    module _ (tells : Leads (told_to text s before).after told (Ok tt)) where
+    module _ (tells : Leads (told_to t s before).after told (Ok tt)) where
       ran-offered : (new : L) (after : PortData) (answer : Result (Unit {0}) Parting)
           → (does : Does step offer_part old new told after answer)
-          → Ran old new (behind (told_to text s before) (offer_part does.answers)) after answer
+          → Ran old new (behind (told_to t s before) (offer_part does.answers)) after answer
       ran-offered new after answer does =
-          let a = told_to text s before in
-          let t = ran-told text s old before told (Ok tt) tells in
-          ran-on old old new a.after a.calls told after (offer_part does.answers) answer t.talks
-          t.leads (record { talks = does.talks; leads = does.leads })
+          let a = told_to t s before in
+          let r = ran-told t s old before told (Ok tt) tells in
+          ran-on old old new a.after a.calls told after (offer_part does.answers) answer r.talks
+          r.leads (record { talks = does.talks; leads = does.leads })
 
       -- it could not be offered
       pub talks-unoffered : (new : L) (after : PortData) (why : Parting)
           → Does step offer_part old new told after (Err why)
-          → Does step (talk_part text s) old new before after (Err why)
+          → Does step (talk_part t s) old new before after (Err why)
       talks-unoffered new after why does =
           let r = ran-offered new after (Err why) does in
-          let a = behind (told_to text s before) (offer_part does.answers) in
-          let last = ran-out2 old new a after (read_by Silence) line_part why r in
+          let a = behind (told_to t s before) (offer_part does.answers) in
+          let last = ran-out2 old new a after (read_by Silence) (line_part t.now s) why r in
           record { answers = (does.answers, Silence); talks = last.talks; leads = last.leads }
 
       module _ (mid : L) (between : PortData)
@@ -186,10 +211,10 @@ module _ {L : Type 0} (step : L → Call → L → Type 0) where
         where
           ran-read : (new : L) (after : PortData) (answer : Result (Unit {0}) Parting)
               → (does : Does step read_by mid new between after answer)
-              → Ran old new (behind (behind (told_to text s before) (offer_part offers.answers))
+              → Ran old new (behind (behind (told_to t s before) (offer_part offers.answers))
               (read_by does.answers)) after answer
           ran-read new after answer does =
-              let a = behind (told_to text s before) (offer_part offers.answers) in
+              let a = behind (told_to t s before) (offer_part offers.answers) in
               let r = ran-offered mid between (Ok tt) offers in
               ran-on old mid new a.after a.calls between after (read_by does.answers) answer r.talks
               r.leads (record { talks = does.talks; leads = does.leads })
@@ -197,12 +222,12 @@ module _ {L : Type 0} (step : L → Call → L → Type 0) where
           -- it could not be read
           pub talks-unread : (new : L) (after : PortData) (why : Parting)
               → Does step read_by mid new between after (Err why)
-              → Does step (talk_part text s) old new before after (Err why)
+              → Does step (talk_part t s) old new before after (Err why)
           talks-unread new after why does =
               let r = ran-read new after (Err why) does in
-              let b = behind (behind (told_to text s before) (offer_part offers.answers))
+              let b = behind (behind (told_to t s before) (offer_part offers.answers))
               (read_by does.answers) in
-              let last = ran-out old new b.after b.calls after line_part why r.talks r.leads in
+              let last = ran-out old new b.after b.calls after (line_part t.now s) why r.talks r.leads in
               record {
                 answers = (offers.answers, does.answers);
                 talks = last.talks;
@@ -212,16 +237,16 @@ module _ {L : Type 0} (step : L → Call → L → Type 0) where
           -- it was told, offered and read, and its line was looked at
           pub talks-whole : (new : L) (read after : PortData) (answer : Result (Unit {0}) Parting)
               → Does step read_by mid new between read (Ok tt)
-              → Leads (line_part read).after after answer
-              → Does step (talk_part text s) old new before after answer
+              → Leads (line_part t.now s read).after after answer
+              → Does step (talk_part t s) old new before after answer
           talks-whole new read after answer does checks =
               let r = ran-read new read (Ok tt) does in
-              let b = behind (behind (told_to text s before) (offer_part offers.answers))
+              let b = behind (behind (told_to t s before) (offer_part offers.answers))
               (read_by does.answers) in
               let last =
-              ran-on old new new b.after b.calls read after line_part answer r.talks r.leads
+              ran-on old new new b.after b.calls read after (line_part t.now s) answer r.talks r.leads
               (record {
-                talks = subst (λ cs. Talks step new cs new) (sym (checked-calls read)) refl;
+                talks = subst (λ cs. Talks step new cs new) (sym (checked-calls t.now s read)) refl;
                 leads = checks;
               }) in
               record {
@@ -230,25 +255,61 @@ module _ {L : Type 0} (step : L → Call → L → Type 0) where
                 leads = last.leads;
               }
 
-  -- it was read twice
-  pub reads-first : (old mid new : L) (before between after : PortData)
-      (answer : Result (Unit {0}) Parting) → Does step read_by old mid before between (Ok tt)
-      → Does step read_by mid new between after answer
-      → Does step first_part old new before after answer
-  reads-first old mid new before between after answer first second =
-      let a = read_by first.answers before in
-      let r = ran-on old mid new a.after a.calls between after (read_by second.answers) answer
-      first.talks first.leads (record { talks = second.talks; leads = second.leads }) in
-      record { answers = (first.answers, second.answers); talks = r.talks; leads = r.leads }
+  module _ (now : ℕ) (s : State) (old : L) (before greeted : PortData) where
+    ran-greeted : (answer : Result (Unit {0}) Parting)
+        → Leads (greet_part now s before).after greeted answer
+        → Ran old old (greet_part now s before) greeted answer
+    ran-greeted answer greets = record {
+      talks = subst (λ cs. Talks step old cs old) (sym (greet-calls now s before)) refl;
+      leads = greets;
+    }
 
-  -- the first read brought its end
-  pub reads-gone : (old new : L) (before after : PortData) (why : Parting)
-      → Does step read_by old new before after (Err why)
-      → Does step first_part old new before after (Err why)
-  reads-gone old new before after why first =
-      let a = read_by first.answers before in
-      let r = ran-out old new a.after a.calls after (read_by Silence) why first.talks first.leads in
-      record { answers = (first.answers, Silence); talks = r.talks; leads = r.leads }
+    -- it could not be greeted
+    pub begins-not : (why : Parting) → Leads (greet_part now s before).after greeted (Err why)
+        → Does step (first_part now s) old old before greeted (Err why)
+    begins-not why greets =
+        let r =
+        ran-out2 old old (greet_part now s before) greeted (read_by Silence) (read_by Silence) why
+        (ran-greeted (Err why) greets) in
+        record { answers = (Silence, Silence); talks = r.talks; leads = r.leads }
+
+    module _ (greets : Leads (greet_part now s before).after greeted (Ok tt)) where
+      ran-read-first : (new : L) (after : PortData) (answer : Result (Unit {0}) Parting)
+          → (does : Does step read_by old new greeted after answer)
+          → Ran old new (behind (greet_part now s before) (read_by does.answers)) after answer
+      ran-read-first new after answer does =
+          let a = greet_part now s before in
+          let r = ran-greeted (Ok tt) greets in
+          ran-on old old new a.after a.calls greeted after (read_by does.answers) answer r.talks
+          r.leads (record { talks = does.talks; leads = does.leads })
+
+      -- the first read brought its end
+      pub begins-gone : (new : L) (after : PortData) (why : Parting)
+          → Does step read_by old new greeted after (Err why)
+          → Does step (first_part now s) old new before after (Err why)
+      begins-gone new after why does =
+          let r = ran-read-first new after (Err why) does in
+          let a = behind (greet_part now s before) (read_by does.answers) in
+          let last = ran-out old new a.after a.calls after (read_by Silence) why r.talks r.leads in
+          record { answers = (does.answers, Silence); talks = last.talks; leads = last.leads }
+
+      -- it was read twice
+      pub begins-whole : (mid new : L) (between after : PortData)
+          (answer : Result (Unit {0}) Parting)
+          → Does step read_by old mid greeted between (Ok tt)
+          → Does step read_by mid new between after answer
+          → Does step (first_part now s) old new before after answer
+      begins-whole mid new between after answer first second =
+          let a = behind (greet_part now s before) (read_by first.answers) in
+          let r = ran-read-first mid between (Ok tt) first in
+          let last =
+          ran-on old mid new a.after a.calls between after (read_by second.answers) answer r.talks
+          r.leads (record { talks = second.talks; leads = second.leads }) in
+          record {
+            answers = (first.answers, second.answers);
+            talks = last.talks;
+            leads = last.leads;
+          }
 
   -- ---- behind a turn
 
@@ -266,13 +327,14 @@ module _ {L : Type 0} (step : L → Call → L → Type 0) where
       }
 
   -- no connection was accepted
-  pub accepts-none : (old new : L) (before : PortData) (taken : Option (Option SocketAddrV4))
-      → accepted_in taken (Silence, Silence) before
+  pub accepts-none : (now : ℕ) (s : State) (old new : L) (before : PortData) (taken : Option (Option SocketAddrV4))
+      → accepted_in now s taken (Silence, Silence) before
       ≡ record { port = before; news = None; calls = Accepts 1 taken ∷ [] }
       → step old (Accepts 1 taken) new
-      → Attends step (λ script. accepted_in script.accepted (script.heard, script.again) before)
+      → Attends step (λ script. accepted_in now s script.accepted
+      (script.heard, script.again) before)
       old new before None
-  accepts-none old new before taken is call =
+  accepts-none now s old new before taken is call =
       record {
         script = record { accepted = taken; taken = None; heard = Silence; again = Silence };
         talks = rw is (new, call, refl);
@@ -281,32 +343,33 @@ module _ {L : Type 0} (step : L → Call → L → Type 0) where
       }
 
   -- one was, and it was welcomed
-  pub accepts-one : (old mid new : L) (from : SocketAddrV4) (before after : PortData)
+  pub accepts-one : (now : ℕ) (s : State) (old mid new : L) (from : SocketAddrV4) (before after : PortData)
       (news : Option News)
       → step old (Accepts 1 (Some (Some from))) mid
       → Attends step
       (λ script. welcomed before
-      (first_part (script.heard, script.again) (emptied Here before))) mid new after news
-      → Attends step (λ script. accepted_in script.accepted (script.heard, script.again) before)
+      (first_part now s (script.heard, script.again) (emptied Here before))) mid new after news
+      → Attends step (λ script. accepted_in now s script.accepted
+      (script.heard, script.again) before)
       old new after news
-  accepts-one old mid new from before after news call welcomes =
-      let s = welcomes.script in
+  accepts-one now s old mid new from before after news call welcomes =
+      let answers = welcomes.script in
       record {
         script =
-            record { accepted = Some (Some from); taken = None; heard = s.heard; again = s.again };
+            record { accepted = Some (Some from); taken = None; heard = answers.heard; again = answers.again };
         talks = (mid, call, welcomes.talks);
         port = welcomes.port;
         news_is = welcomes.news_is;
       }
 
   -- it is taken
-  pub welcomes-taken : (old new : L) (before after : PortData)
-      → Does step first_part old new (emptied Here before) after (Ok tt)
+  pub welcomes-taken : (now : ℕ) (s : State) (old new : L) (before after : PortData)
+      → Does step (first_part now s) old new (emptied Here before) after (Ok tt)
       → Attends step (λ script. welcomed before
-      (first_part (script.heard, script.again) (emptied Here before)))
+      (first_part now s (script.heard, script.again) (emptied Here before)))
       old new after (Some Opened)
-  welcomes-taken old new before after does =
-      let part = first_part does.answers (emptied Here before) in
+  welcomes-taken now s old new before after does =
+      let part = first_part now s does.answers (emptied Here before) in
       let is = led part.after part.calls after does.leads in
       record {
         script = record {
@@ -321,13 +384,13 @@ module _ {L : Type 0} (step : L → Call → L → Type 0) where
       }
 
   -- or it has gone
-  pub welcomes-gone : (old mid new : L) (before after : PortData) (why : Parting)
-      → Does step first_part old mid (emptied Here before) after (Err why) → step mid (Closes 1) new
+  pub welcomes-gone : (now : ℕ) (s : State) (old mid new : L) (before after : PortData) (why : Parting)
+      → Does step (first_part now s) old mid (emptied Here before) after (Err why) → step mid (Closes 1) new
       → Attends step (λ script. welcomed before
-      (first_part (script.heard, script.again) (emptied Here before)))
+      (first_part now s (script.heard, script.again) (emptied Here before)))
       old new (emptied Away before) None
-  welcomes-gone old mid new before after why does closes =
-      let part = first_part does.answers (emptied Here before) in
+  welcomes-gone now s old mid new before after why does closes =
+      let part = first_part now s does.answers (emptied Here before) in
       let is = ended part.after part.calls after why does.leads in
       record {
         script = record {
@@ -342,21 +405,21 @@ module _ {L : Type 0} (step : L → Call → L → Type 0) where
         news_is = rw is refl;
       }
 
-  module _ (text : List ℕ) (s : State) (old mid : L) (before after : PortData) where
+  module _ (t : ToldTurn) (s : State) (old mid : L) (before after : PortData) where
     attended-here : (script : Script) → before.standing ≡ Here
-        → attendance text s script before
-        ≡ attended_here before (talk_part text s (script.taken, script.heard) before)
+        → attendance t s script before
+        ≡ attended_here before (talk_part t s (script.taken, script.heard) before)
     attended-here script here = rw here refl
 
     -- a process stays
     pub attends-kept : before.standing ≡ Here
-        → Does step (talk_part text s) old mid before after (Ok tt)
-        → Attends step (λ script. attendance text s script before) old mid after None
+        → Does step (talk_part t s) old mid before after (Ok tt)
+        → Attends step (λ script. attendance t s script before) old mid after None
     attends-kept here does =
-        let part = talk_part text s does.answers before in
+        let part = talk_part t s does.answers before in
         let is = led part.after part.calls after does.leads in
-        attends-as (λ script. attendance text s script before)
-        (λ script. attended_here before (talk_part text s (script.taken, script.heard) before))
+        attends-as (λ script. attendance t s script before)
+        (λ script. attended_here before (talk_part t s (script.taken, script.heard) before))
         old mid after
         None (λ script. attended-here script here)
         (record {
@@ -373,14 +436,14 @@ module _ {L : Type 0} (step : L → Call → L → Type 0) where
 
     -- or it is closed
     pub attends-closed : (new : L) (why : Parting) → before.standing ≡ Here
-        → Does step (talk_part text s) old mid before after (Err why) → step mid (Closes 1) new
-        → Attends step (λ script. attendance text s script before) old new (emptied Leaving before)
+        → Does step (talk_part t s) old mid before after (Err why) → step mid (Closes 1) new
+        → Attends step (λ script. attendance t s script before) old new (emptied Leaving before)
         (Some (Closed why))
     attends-closed new why here does closes =
-        let part = talk_part text s does.answers before in
+        let part = talk_part t s does.answers before in
         let is = ended part.after part.calls after why does.leads in
-        attends-as (λ script. attendance text s script before)
-        (λ script. attended_here before (talk_part text s (script.taken, script.heard) before))
+        attends-as (λ script. attendance t s script before)
+        (λ script. attended_here before (talk_part t s (script.taken, script.heard) before))
         old new
         (emptied Leaving before) (Some (Closed why)) (λ script. attended-here script here)
         (record {
@@ -397,12 +460,11 @@ module _ {L : Type 0} (step : L → Call → L → Type 0) where
         })
 
     -- a process that has gone
-    pub attends-leaving : before.standing ≡ Leaving
-        → after ≡ (left_in (is_forgotten s) before).port
-        → Attends step (λ script. attendance text s script before) old old after None
+    pub attends-leaving : before.standing ≡ Leaving → after ≡ before
+        → Attends step (λ script. attendance t s script before) old old after None
     attends-leaving leaving is =
-        attends-as (λ script. attendance text s script before)
-        (λ script. left_in (is_forgotten s) before) old old after None
+        attends-as (λ script. attendance t s script before)
+        (λ script. left_alone before) old old after None
         (λ script. rw leaving refl)
         (record {
           script =

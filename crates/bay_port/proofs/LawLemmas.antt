@@ -1,101 +1,55 @@
 -- Lemmas on what holds of the port of a process.
-use Rattle.std.proofs.Common.{if◌then◌else◌, ◌≡◌, ◌≢◌, ℕ, zero, suc, ◌+◌, ◌<◌, Bool, ◌||◌, true, false, List, [], ◌∷◌, ◌++◌, length, take, drop, is_none, All, Option, None, Some, Result, Ok, Err, refl, sym, ap, ◌∙◌, subst, arith, append_assoc, append-nil, take-append-drop}
-use Rattle.std.proofs.lemmas.Iterator.Adapters.{position_from-zero}
-use Rattle.std.proofs.lemmas.List.Elements.{All-cons, All-nil}
-use Rattle.std.specs.List.{position_from}
+use Rattle.std.proofs.Common.{if◌then◌else◌, ◌≡◌, ℕ, ◌-◌, Bool, ◌||◌, true, false, nat_le, List, [], ◌∷◌, ◌++◌, take, drop, Option, None, Some, Result, Ok, Err, refl, sym, ap, ◌∙◌, append_assoc, append-nil, take-append-drop}
 use Rattle.std.specs.declared.net.socket_addr.SocketAddrV4.{SocketAddrV4}
 use Rattle.bay_device.specs.Device.{State}
 use Rattle.bay_lines.specs.Fronts.{Front, Waiting, Overlong, Whole, front}
-use Rattle.bay_port.specs.Attending.{Attended, all_told, AttendedPart, Script, accepted_in, attendance, first_part, taken_or_closed, welcomed, attended_here, behind, line_part, closed_or_kept, attended_as, left_in, offer_part, offered_of, on_heard, read_by, talk_part, told_to}
-use Rattle.bay_port.specs.Fit.{is_fit, is_told, is_waiting, is_wrong, line_or_none}
-use Rattle.bay_port.specs.Laws.{AreBad, AreFalse, IsReadable, IsSilent, TellsInOrder, hears_end, is_end, taken_of}
-use Rattle.bay_port.specs.Ports.{PortData, emptied, taken_as, taken_front}
+use Rattle.bay_port.specs.Attending.{Attended, all_told, AttendedPart, Script, accepted_in, attendance, attended_as, attended_here, behind, closed_or_kept, first_part, greet_part, line_in_front, line_judged, line_part, offer_part, offered_of, on_heard, quiet_part, read_by, taken_or_closed, talk_part, told_to, welcomed}
+use Rattle.bay_port.specs.Fit.{is_waiting}
+use Rattle.bay_port.specs.Laws.{IsReadable, IsSilent, TellsInOrder, hears_end, is_end, taken_of}
+use Rattle.bay_port.specs.Ports.{PortData, emptied, taken_as, taken_by, taken_front}
 use Rattle.bay_port.specs.Releases.{told_after}
-use Rattle.bay_port.specs.Sound.{first_on, first_sound, is_bad, is_forgotten, sound_from}
-use Rattle.bay_port.specs.Telling.{fits_in}
-use Rattle.bay_port.specs.declared.news.News.TheVariants.{Closed}
+use Rattle.bay_port.specs.Telling.{ToldTurn, fits_in}
+use Rattle.bay_port.specs.Watching.{Watched, answered, heard_at, judged, overlong}
+use Rattle.bay_port.specs.declared.news.News.TheVariants.{Closed, Opened}
 use Rattle.bay_port.specs.declared.news.Parting.{Parting}
+use Rattle.bay_port.specs.declared.news.Parting.TheVariants.{Silent}
 use Rattle.bay_port.specs.declared.port.Presence.{Presence}
 use Rattle.bay_port.specs.declared.port.Presence.TheVariants.{Away, Leaving, Here}
+use Rattle.bay_port.specs.declared.watching.LineWord.{LineWord}
 use Rattle.bay_serve.specs.Calls.{Call, Accepts, Reads, Writes, Closes, ReadOutcome, Octets, Silence, Over, Broken}
-use Rattle.bay_serve.specs.Served.{told_by, understood}
-use Rattle.bay_port.proofs.FitLemmas.{understood-told}
+use Rattle.bay_serve.specs.Served.{reported, told_by, understood}
+use Rattle.bay_port.proofs.AttendLemmas.{greet-calls}
+use Rattle.bay_port.proofs.FitLemmas.{judged-readable}
 
 -- ---- lines that are read
 
-front-readable : (s : State) (f : Front) (p : PortData) (line : List ℕ)
-    → (taken_front s f p).line ≡ Some line
-    → understood (told_by s line) ≡ Ok (taken_front s f p).event
-front-readable s Waiting p line e = absurd cc
-front-readable s Overlong p line e = absurd cc
-front-readable s (Whole text rest) p line e = by-fit (is_fit text) refl
-  where
-    by-told : (v : Bool) → is_told text ≡ v → (if v then Some text else None) ≡ Some line
-        → understood (told_by s line) ≡ Ok (told_by s text)
-    by-told true told is =
-        let same : text ≡ line = cc in
-        subst (λ l. understood (told_by s l) ≡ Ok (told_by s text)) same
-        (understood-told s text told)
-    by-told false told is = absurd cc
+by-readable : (watch : Option Watched) (s : State) (now : ℕ) (text rest : List ℕ) (p : PortData)
+    (line : List ℕ) (r : Result LineWord Parting) → judged watch s now text ≡ r
+    → (taken_by r text rest p).line ≡ Some line
+    → understood (told_by s line) ≡ Ok (reported (taken_by r text rest p).event)
+by-readable watch s now text rest p line (Err why) is e = absurd cc
+by-readable watch s now text rest p line (Ok word) is e =
+    judged-readable watch s now text line word is e
 
-    by-fit : (v : Bool) → is_fit text ≡ v
-        → understood (told_by s line) ≡ Ok (taken_front s (Whole text rest) p).event
-    by-fit true fit =
-        let is : line_or_none text ≡ Some line = rw fit at e in
-        rw fit (by-told (is_told text) refl is)
-    by-fit false fit = let none : None ≡ Some line = rw fit at e in absurd cc
+front-readable : (s : State) (now : ℕ) (f : Front) (p : PortData) (line : List ℕ)
+    → (taken_front s now f p).line ≡ Some line
+    → understood (told_by s line) ≡ Ok (reported (taken_front s now f p).event)
+front-readable s now Waiting p line e = absurd cc
+front-readable s now Overlong p line e = absurd cc
+front-readable s now (Whole text rest) p line e =
+    by-readable p.watch s now text rest p line (judged p.watch s now text) refl e
 
-taken-readable : (standing : Presence) (s : State) (p : PortData) (line : List ℕ)
-    → (taken_as standing s p).line ≡ Some line
-    → understood (told_by s line) ≡ Ok (taken_as standing s p).event
-taken-readable Away s p line e = absurd cc
-taken-readable Leaving s p line e = absurd cc
-taken-readable Here s p line e = front-readable s (front p.kept) p line e
+taken-readable : (standing : Presence) (s : State) (now : ℕ) (p : PortData) (line : List ℕ)
+    → (taken_as standing s now p).line ≡ Some line
+    → understood (told_by s line) ≡ Ok (reported (taken_as standing s now p).event)
+taken-readable Away s now p line e = absurd cc
+taken-readable Leaving s now p line e = absurd cc
+taken-readable Here s now p line e = front-readable s now (front p.kept) p line e
 
-pub is-readable : (s : State) (p : PortData) → IsReadable s p
-is-readable s p line e = taken-readable p.standing s p line e
+pub is-readable : (s : State) (now : ℕ) (p : PortData) → IsReadable s now p
+is-readable s now p line e = taken-readable p.standing s now p line e
 
--- ---- switches that are bad
-
-all-bad : (s : State) (k count : ℕ) → is_none (sound_from s k count) ≡ true
-    → (j : ℕ) → j < count → is_bad s (k + j) ≡ true
-all-bad s k zero e j lt = absurd (omega arith)
-all-bad s k (suc count) e j lt =
-    by_test (λ rest. all-bad s (k + 1) count rest) (is_bad s k) refl j lt
-  where
-    by_test : (is_none (sound_from s (k + 1) count) ≡ true
-        → (i : ℕ) → i < count → is_bad s (k + 1 + i) ≡ true)
-        → (v : Bool) → is_bad s k ≡ v → (j : ℕ) → j < suc count → is_bad s (k + j) ≡ true
-    by_test more true is zero lt =
-        let here : k + 0 ≡ k = omega arith in ap (is_bad s) here ∙ is
-    by_test more true is (suc i) lt =
-        let next : k + suc i ≡ k + 1 + i = omega arith in
-        ap (is_bad s) next ∙ more (rw is at e) i (omega arith)
-    by_test more false is j lt = let none : false ≡ true = rw is at e in absurd cc
-
-are-bad : (s : State) → is_none (first_sound s) ≡ true → AreBad s
-are-bad s e k lt =
-    let here : 0 + k ≡ k = omega arith in
-    ap (is_bad s) (sym here) ∙ all-bad s 0 (length s.switches) e k lt
-
-all-false : (i : ℕ) (values : List Bool)
-    → is_none (position_from (λ value. value) i values) ≡ true
-    → All (λ value. value ≡ false) values
-all-false i [] e = All-nil (λ value. value ≡ false)
-all-false i (true ∷ values) e = absurd cc
-all-false i (false ∷ values) e =
-    All-cons (λ value. value ≡ false) false values refl (all-false (i + 1) values e)
-
-are-forgotten : (s : State) → is_forgotten s ≡ true → AreBad s × AreFalse s
-are-forgotten s e = by-places (first_sound s) refl (first_on s) refl
-  where
-    by-places : (a : Option ℕ) → first_sound s ≡ a → (b : Option ℕ) → first_on s ≡ b
-        → AreBad s × AreFalse s
-    by-places None bad None off =
-        let none = sym (position_from-zero (λ value. value) s.input_values) ∙ off in
-        (are-bad s (ap is_none bad), all-false 0 s.input_values (ap is_none none))
-    by-places None bad (Some k) off = let none : false ≡ true = rw (bad, off) at e in absurd cc
-    by-places (Some k) bad b off = let none : false ≡ true = rw bad at e in absurd cc
+-- ---- a process that has gone
 
 closed-empty : (before : PortData) (r : Result PortData Parting) (calls : List Call)
     (why : Parting) → (closed_or_kept before r calls).news ≡ Some (Closed why)
@@ -109,59 +63,93 @@ welcomed-open : (before : PortData) (r : Result PortData Parting) (calls : List 
 welcomed-open before (Ok p) calls why e = cc
 welcomed-open before (Err gone) calls why e = cc
 
-accepted-open : (taken : Option (Option SocketAddrV4)) (heard : ReadOutcome × ReadOutcome)
-    (p : PortData)
-    (why : Parting) → (accepted_in taken heard p).news ≡ Some (Closed why) → ⊥
-accepted-open None heard p why e = cc
-accepted-open (Some None) heard p why e = cc
-accepted-open (Some (Some from)) heard p why e =
-    let part = first_part heard (emptied Here p) in welcomed-open p part.after part.calls why e
+accepted-open : (now : ℕ) (s : State) (taken : Option (Option SocketAddrV4))
+    (heard : ReadOutcome × ReadOutcome) (p : PortData) (why : Parting)
+    → (accepted_in now s taken heard p).news ≡ Some (Closed why) → ⊥
+accepted-open now s None heard p why e = cc
+accepted-open now s (Some None) heard p why e = cc
+accepted-open now s (Some (Some from)) heard p why e =
+    let part = first_part now s heard (emptied Here p) in
+    welcomed-open p part.after part.calls why e
 
 -- one that has gone while it waited
 record Untaken (p : PortData) (a : Attended) : Type 0 where
   news : a.news ≡ None
   port : a.port ≡ emptied Away p
 
-again-untaken : (before : PortData) (octets : List ℕ) (again : ReadOutcome)
-    → (let part = read_by again (record (emptied Here before) { kept = octets }) in
-    let calls = Reads 1 4096 (Octets octets) ∷ part.calls in hears_end calls ≡ true
-    → Untaken before (taken_or_closed before part.after calls))
-again-untaken before octets again = by-front (is_waiting (front octets)) refl
+-- a call that brought no end
+ends-none : (calls : List Call) (call : Call) → hears_end (call ∷ []) ≡ false
+    → hears_end (calls ++ call ∷ []) ≡ true → hears_end calls ≡ true
+ends-none [] call none ends = let no : true ≡ false = sym ends ∙ none in absurd cc
+ends-none (Accepts a taken ∷ calls) call none ends = ends-none calls call none ends
+ends-none (Reads a room heard ∷ calls) call none ends =
+    by-end (is_end heard) (ends-none calls call none) ends
   where
-    p : PortData
-    p = record (emptied Here before) { kept = octets }
+    by-end : (v : Bool) → (hears_end (calls ++ call ∷ []) ≡ true → hears_end calls ≡ true)
+        → (v || hears_end (calls ++ call ∷ [])) ≡ true → (v || hears_end calls) ≡ true
+    by-end true more e = refl
+    by-end false more e = more e
+ends-none (Writes a octets taken ∷ calls) call none ends = ends-none calls call none ends
+ends-none (Closes a ∷ calls) call none ends = ends-none calls call none ends
 
-    by-front : (v : Bool) → is_waiting (front octets) ≡ v
-        → (let part = read_by again p in
-        let calls = Reads 1 4096 (Octets octets) ∷ part.calls in hears_end calls ≡ true
-        → Untaken before (taken_or_closed before part.after calls))
-    by-front true e = rw e (by-again again)
+-- a read that brought an end
+read-ended : (before : PortData) (heard : ReadOutcome) (p : PortData) (calls : List Call)
+    → hears_end calls ≡ false → hears_end (calls ++ (read_by heard p).calls) ≡ true
+    → Untaken before
+    (taken_or_closed before (read_by heard p).after (calls ++ (read_by heard p).calls))
+read-ended before heard p calls none = by-front (is_waiting (front p.kept)) refl
+  where
+    by-heard : (h : ReadOutcome)
+        → (let part = on_heard h p (Reads 1 4096 h ∷ []) in
+        hears_end (calls ++ part.calls) ≡ true
+        → Untaken before (taken_or_closed before part.after (calls ++ part.calls)))
+    by-heard (Octets octets) ends =
+        let no : hears_end calls ≡ true = ends-none calls (Reads 1 4096 (Octets octets)) refl ends in
+        absurd cc
+    by-heard Silence ends =
+        let no : hears_end calls ≡ true = ends-none calls (Reads 1 4096 Silence) refl ends in
+        absurd cc
+    by-heard Over ends = record { news = refl; port = refl }
+    by-heard Broken ends = record { news = refl; port = refl }
+
+    by-front : (v : Bool) → is_waiting (front p.kept) ≡ v
+        → hears_end (calls ++ (read_by heard p).calls) ≡ true
+        → Untaken before
+        (taken_or_closed before (read_by heard p).after (calls ++ (read_by heard p).calls))
+    by-front true e = rw e (by-heard heard)
+    by-front false e = rw e (λ ends.
+        let no : hears_end calls ≡ true = ap hears_end (sym (append-nil calls)) ∙ ends in
+        absurd cc)
+
+-- what was done before a read, and the read
+behind-ended : (before : PortData) (r : Result PortData Parting) (calls : List Call)
+    (heard : ReadOutcome)
+    → (hears_end calls ≡ true → Untaken before (taken_or_closed before r calls))
+    → (let part = behind (record { after = r; calls = calls }) (read_by heard) in
+    hears_end part.calls ≡ true
+    → Untaken before (taken_or_closed before part.after part.calls))
+behind-ended before (Err why) calls heard first ends = record { news = refl; port = refl }
+behind-ended before (Ok p) calls heard first ends = by-calls (hears_end calls) refl
+  where
+    by-calls : (v : Bool) → hears_end calls ≡ v
+        → Untaken before
+        (taken_or_closed before (read_by heard p).after (calls ++ (read_by heard p).calls))
+    by-calls true e = let u = first e in absurd (opened u.news)
       where
-        by-again : (h : ReadOutcome)
-            → (let part = on_heard h p (Reads 1 4096 h ∷ []) in
-            let calls = Reads 1 4096 (Octets octets) ∷ part.calls in hears_end calls ≡ true
-            → Untaken before (taken_or_closed before part.after calls))
-        by-again (Octets more) ends = absurd cc
-        by-again Silence ends = absurd cc
-        by-again Over ends = record { news = refl; port = refl }
-        by-again Broken ends = record { news = refl; port = refl }
-    by-front false e = rw e (λ ends. absurd cc)
+        opened : Some Opened ≡ None → ⊥
+        opened is = cc
+    by-calls false e = read-ended before heard p calls e ends
 
-first-untaken : (before : PortData) (heard : ReadOutcome × ReadOutcome)
-    → hears_end (first_part heard (emptied Here before)).calls ≡ true
-    → Untaken before (welcomed before (first_part heard (emptied Here before)))
-first-untaken before heard = by-first heard.0 heard.1
-  where
-    by-first : (first again : ReadOutcome)
-        → hears_end (first_part (first, again) (emptied Here before)).calls ≡ true
-        → Untaken before (welcomed before (first_part (first, again) (emptied Here before)))
-    by-first (Octets octets) again ends = again-untaken before octets again ends
-    by-first Silence (Octets octets) ends = absurd cc
-    by-first Silence Silence ends = absurd cc
-    by-first Silence Over ends = record { news = refl; port = refl }
-    by-first Silence Broken ends = record { news = refl; port = refl }
-    by-first Over again ends = record { news = refl; port = refl }
-    by-first Broken again ends = record { news = refl; port = refl }
+first-untaken : (now : ℕ) (s : State) (before : PortData) (heard : ReadOutcome × ReadOutcome)
+    → hears_end (first_part now s heard (emptied Here before)).calls ≡ true
+    → Untaken before (welcomed before (first_part now s heard (emptied Here before)))
+first-untaken now s before heard =
+    let g = greet_part now s (emptied Here before) in
+    let a = behind g (read_by heard.0) in
+    behind-ended before a.after a.calls heard.1
+    (behind-ended before g.after g.calls heard.0
+    (λ ends. let no : false ≡ true =
+    ap hears_end (sym (greet-calls now s (emptied Here before))) ∙ ends in absurd cc))
 
 -- a closing ends nothing
 closes-nothing : (calls : List Call) → hears_end (calls ++ Closes 1 ∷ []) ≡ hears_end calls
@@ -176,44 +164,36 @@ welcomed-ends : (before : PortData) (r : Result PortData Parting) (calls : List 
 welcomed-ends before (Ok p) calls = refl
 welcomed-ends before (Err why) calls = closes-nothing calls
 
-accepted-untaken : (taken : Option (Option SocketAddrV4)) (heard : ReadOutcome × ReadOutcome)
-    (p : PortData)
-    → hears_end (accepted_in taken heard p).calls ≡ true → Untaken p (accepted_in taken heard p)
-accepted-untaken None heard p ends = absurd cc
-accepted-untaken (Some None) heard p ends = absurd cc
-accepted-untaken (Some (Some from)) heard p ends =
-    let part = first_part heard (emptied Here p) in
-    let u = first-untaken p heard (sym (welcomed-ends p part.after part.calls) ∙ ends) in
+accepted-untaken : (now : ℕ) (s : State) (taken : Option (Option SocketAddrV4))
+    (heard : ReadOutcome × ReadOutcome) (p : PortData)
+    → hears_end (accepted_in now s taken heard p).calls ≡ true
+    → Untaken p (accepted_in now s taken heard p)
+accepted-untaken now s None heard p ends = absurd cc
+accepted-untaken now s (Some None) heard p ends = absurd cc
+accepted-untaken now s (Some (Some from)) heard p ends =
+    let part = first_part now s heard (emptied Here p) in
+    let u = first-untaken now s p heard (sym (welcomed-ends p part.after part.calls) ∙ ends) in
     record { news = u.news; port = u.port }
 
-left-bad : (v : Bool) (p : PortData) → p.standing ≡ Leaving
-    → (left_in v p).port.standing ≢ Leaving → v ≡ true
-left-bad true p leaving other = refl
-left-bad false p leaving other = absurd (other leaving)
-
-closed-as : (standing : Presence) (text : List ℕ) (s : State) (script : Script) (p : PortData)
-    (why : Parting) → (attended_as standing text s script p).news ≡ Some (Closed why)
-    → (attended_as standing text s script p).port ≡ emptied Leaving p
-closed-as Away text s script p why e =
-    absurd (accepted-open script.accepted (script.heard, script.again) p why e)
-closed-as Leaving text s script p why e = absurd cc
-closed-as Here text s script p why e =
-    let part = talk_part text s (script.taken, script.heard) p in
+closed-as : (standing : Presence) (t : ToldTurn) (s : State) (script : Script) (p : PortData)
+    (why : Parting) → (attended_as standing t s script p).news ≡ Some (Closed why)
+    → (attended_as standing t s script p).port ≡ emptied Leaving p
+closed-as Away t s script p why e =
+    absurd (accepted-open t.now s script.accepted (script.heard, script.again) p why e)
+closed-as Leaving t s script p why e = absurd cc
+closed-as Here t s script p why e =
+    let part = talk_part t s (script.taken, script.heard) p in
     closed-empty p part.after part.calls why e
 
-pub is-silent : (text : List ℕ) (s : State) (script : Script) (p : PortData)
-    → IsSilent text s script p
-is-silent text s script p = record {
-  closed = λ why e. closed-as p.standing text s script p why e;
-  events = λ leaving. ap (λ standing. (taken_as standing s p).event) leaving;
-  calls = λ leaving. ap (λ standing. (attended_as standing text s script p).calls) leaving;
-  ends = λ leaving other.
-      are-forgotten s (left-bad (is_forgotten s) p leaving
-      (λ e. other (ap (λ standing. (attended_as standing text s script p).port.standing) leaving
-      ∙ e)));
+pub is-silent : (t : ToldTurn) (s : State) (now : ℕ) (script : Script) (p : PortData)
+    → IsSilent t s now script p
+is-silent t s now script p = record {
+  closed = λ why e. closed-as p.standing t s script p why e;
+  lost = λ leaving. ap (λ standing. taken_as standing s now p) leaving;
+  calls = λ leaving. ap (λ standing. (attended_as standing t s script p).calls) leaving;
   untaken = λ away ends.
-      let is = ap (λ standing. attended_as standing text s script p) away in
-      let u = accepted-untaken script.accepted (script.heard, script.again) p
+      let is = ap (λ standing. attended_as standing t s script p) away in
+      let u = accepted-untaken t.now s script.accepted (script.heard, script.again) p
       (ap (λ (a : Attended). hears_end a.calls) (sym is) ∙ ends) in
       (ap (λ (a : Attended). a.news) is ∙ u.news, ap (λ (a : Attended). a.port) is ∙ u.port);
 }
@@ -253,19 +233,20 @@ tells-behind all (Ok p) calls f t next =
       waits = n.waits;
     }
 
-tells-told : (text : List ℕ) (s : State) (p : PortData)
-    → Tells (p.queue ++ all_told text s p) (told_to text s p)
-tells-told text s p = by-room (fits_in p.queue all) refl
+tells-told : (t : ToldTurn) (s : State) (p : PortData)
+    → Tells (p.queue ++ all_told t s p) (told_to t s p)
+tells-told t s p = by-room (fits_in p.queue all) refl
   where
     all : List ℕ
-    all = all_told text s p
+    all = all_told t s p
 
-    by-room : (v : Bool) → fits_in p.queue all ≡ v → Tells (p.queue ++ all) (told_to text s p)
+    by-room : (v : Bool) → fits_in p.queue all ≡ v → Tells (p.queue ++ all) (told_to t s p)
     by-room true e = rw e (record {
       rest = p.queue ++ all;
       whole = refl;
       waits = λ q is.
-          let same : record p { queue = p.queue ++ all; told = told_after s p.told } ≡ q = cc in
+          let same : record p { queue = p.queue ++ all; told = told_after s p.told; watch = answered p.watch }
+          ≡ q = cc in
           ap (λ (d : PortData). d.queue) (sym same);
     })
     by-room false e =
@@ -316,27 +297,50 @@ tells-read heard p = by-front (is_waiting (front p.kept)) refl
       waits = λ q e. let same : p ≡ q = cc in ap (λ (d : PortData). d.queue) (sym same);
     })
 
-tells-checked : (p : PortData) → Tells p.queue (line_part p)
-tells-checked p = by-front (is_wrong (front p.kept)) refl
-  where
-    by-front : (v : Bool) → is_wrong (front p.kept) ≡ v → Tells p.queue (line_part p)
-    by-front true e = rw e (record { rest = p.queue; whole = refl; waits = λ q e. absurd cc })
-    by-front false e = rw e (record {
-      rest = p.queue;
-      whole = refl;
-      waits = λ q e. let same : p ≡ q = cc in ap (λ (d : PortData). d.queue) (sym same);
-    })
+tells-same : (p q : PortData) → p.queue ≡ q.queue → Tells p.queue (record { after = Ok q; calls = [] })
+tells-same p q is = record {
+  rest = p.queue;
+  whole = refl;
+  waits = λ r e. let same : q ≡ r = cc in ap (λ (d : PortData). d.queue) (sym same) ∙ sym is;
+}
 
-tells-talked : (text : List ℕ) (s : State) (answers : Option ℕ × ReadOutcome) (p : PortData)
-    → Tells (p.queue ++ all_told text s p) (talk_part text s answers p)
-tells-talked text s answers p =
-    let all = p.queue ++ all_told text s p in
-    let a = told_to text s p in
+tells-none : (p : PortData) (why : Parting)
+    → Tells p.queue (record { after = Err why; calls = [] })
+tells-none p why = record { rest = p.queue; whole = refl; waits = λ q e. absurd cc }
+
+tells-quiet : (now : ℕ) (watch : Option Watched) (p : PortData)
+    → Tells p.queue (quiet_part now watch p)
+tells-quiet now None p = tells-same p p refl
+tells-quiet now (Some w) p = by-span (nat_le (now - w.heard) w.duties.limit) refl
+  where
+    by-span : (v : Bool) → nat_le (now - w.heard) w.duties.limit ≡ v
+        → Tells p.queue (quiet_part now (Some w) p)
+    by-span true e = rw e (tells-same p p refl)
+    by-span false e = rw e (tells-none p Silent)
+
+tells-judged : (now : ℕ) (r : Result LineWord Parting) (p : PortData)
+    → Tells p.queue (line_judged now r p)
+tells-judged now (Err why) p = tells-none p why
+tells-judged now (Ok word) p = tells-same p (record p { watch = heard_at now p.watch }) refl
+
+tells-checked : (now : ℕ) (s : State) (p : PortData) → Tells p.queue (line_part now s p)
+tells-checked now s p = by-front (front p.kept)
+  where
+    by-front : (f : Front) → Tells p.queue (line_in_front now s f p)
+    by-front Waiting = tells-quiet now p.watch p
+    by-front Overlong = tells-none p (overlong p.watch p.kept)
+    by-front (Whole line rest) = tells-judged now (judged p.watch s now line) p
+
+tells-talked : (t : ToldTurn) (s : State) (answers : Option ℕ × ReadOutcome) (p : PortData)
+    → Tells (p.queue ++ all_told t s p) (talk_part t s answers p)
+tells-talked t s answers p =
+    let all = p.queue ++ all_told t s p in
+    let a = told_to t s p in
     let ta = tells-behind all a.after a.calls (offer_part answers.0)
     (record {
-      rest = (tells-told text s p).rest;
-      whole = (tells-told text s p).whole;
-      waits = (tells-told text s p).waits;
+      rest = (tells-told t s p).rest;
+      whole = (tells-told t s p).whole;
+      waits = (tells-told t s p).waits;
     })
     (λ q. tells-taken q.queue answers.0 q refl) in
     let b = behind a (offer_part answers.0) in
@@ -344,8 +348,8 @@ tells-talked text s answers p =
     (record { rest = ta.rest; whole = ta.whole; waits = ta.waits })
     (λ q. tells-read answers.1 q) in
     let c = behind b (read_by answers.1) in
-    tells-behind all c.after c.calls line_part
-    (record { rest = tb.rest; whole = tb.whole; waits = tb.waits }) tells-checked
+    tells-behind all c.after c.calls (line_part t.now s)
+    (record { rest = tb.rest; whole = tb.whole; waits = tb.waits }) (tells-checked t.now s)
 
 closed-tells : (all : List ℕ) (before : PortData) (r : Result PortData Parting)
     (calls : List Call) (rest : List ℕ) → all ≡ taken_of calls ++ rest
@@ -362,18 +366,18 @@ kept-waits : (before : PortData) (r : Result PortData Parting) (calls : List Cal
 kept-waits before (Ok p) calls rest waits e = waits p refl
 kept-waits before (Err why) calls rest waits e = absurd cc
 
-pub tells-in-order : (text : List ℕ) (s : State) (script : Script) (p : PortData)
-    → p.standing ≡ Here → TellsInOrder text s script p
-tells-in-order text s script p here =
-    let part = talk_part text s (script.taken, script.heard) p in
-    let t = tells-talked text s (script.taken, script.heard) p in
-    let is : attendance text s script p ≡ attended_here p part =
-    ap (λ standing. attended_as standing text s script p) here in
+pub tells-in-order : (t : ToldTurn) (s : State) (script : Script) (p : PortData)
+    → p.standing ≡ Here → TellsInOrder t s script p
+tells-in-order t s script p here =
+    let part = talk_part t s (script.taken, script.heard) p in
+    let told = tells-talked t s (script.taken, script.heard) p in
+    let is : attendance t s script p ≡ attended_here p part =
+    ap (λ standing. attended_as standing t s script p) here in
     record {
-      rest = t.rest;
-      whole = closed-tells (p.queue ++ all_told text s p) p part.after part.calls t.rest t.whole
-          ∙ ap (λ (a : Attended). taken_of a.calls ++ t.rest) (sym is);
+      rest = told.rest;
+      whole = closed-tells (p.queue ++ all_told t s p) p part.after part.calls told.rest told.whole
+          ∙ ap (λ (a : Attended). taken_of a.calls ++ told.rest) (sym is);
       waits = λ none. ap (λ (a : Attended). a.port.queue) is
-          ∙ kept-waits p part.after part.calls t.rest t.waits
+          ∙ kept-waits p part.after part.calls told.rest told.waits
           (ap (λ (a : Attended). a.news) (sym is) ∙ none);
     }

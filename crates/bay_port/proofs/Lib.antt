@@ -1,7 +1,10 @@
 pub mod AttendLemmas
+pub mod BoundLemmas
 pub mod FitLemmas
+pub mod IntroductionLemmas
+pub mod KeyLemmas
 pub mod LawLemmas
 pub mod ReleaseLemmas
-pub mod SoundLemmas
+pub mod SupervisionLemmas
 pub mod TellingLemmas
 pub mod UseLemmas

@@ -1,5 +1,5 @@
 -- Lemmas on the releases that a process is told.
-use Rattle.std.proofs.Common.{◌≡◌, ℕ, zero, suc, ◌+◌, ◌<◌, ◌==◌, Bool, if◌then◌else◌, true, false, List, [], ◌∷◌, ◌++◌, length, map, replicate, drop, get_or, add-one, nat_lt, slice_get, Option, None, Some, is_some, Result, Ok, Err, refl, sym, ap, ap₂, ◌∙◌, subst, arith, append_assoc, append-nil}
+use Rattle.std.proofs.Common.{◌≡◌, ℕ, zero, suc, ◌+◌, ◌-◌, ◌<◌, ◌==◌, nat_le, Bool, if◌then◌else◌, true, false, List, [], ◌∷◌, ◌++◌, length, map, replicate, drop, get_or, add-one, nat_lt, slice_get, Option, None, Some, is_some, Result, Ok, Err, refl, sym, ap, ap₂, ◌∙◌, subst, arith, append_assoc, append-nil}
 use Rattle.std.proofs.lemmas.Bool.{and_parts}
 use Rattle.std.proofs.Math.Seq.{drop-cons}
 use Rattle.std.proofs.lemmas.Bool.Decides.{nat_tests}
@@ -10,14 +10,16 @@ use Rattle.std.specs.declared.net.socket_addr.SocketAddrV4.{SocketAddrV4}
 use Rattle.bay_device.specs.Device.{State}
 use Rattle.bay_device.specs.LookUps.{enabled_of, may_close, may_open}
 use Rattle.bay_lines.specs.Fronts.{Front, Overlong, Waiting, Whole, front}
-use Rattle.bay_port.specs.Attending.{AttendedPart, Script, accepted_in, all_told, attended_as, behind, closed_or_kept, first_part, left_in, line_part, offer_part, offered_of, on_heard, read_by, taken_or_closed, talk_part, told_to}
-use Rattle.bay_port.specs.Fit.{is_fit, is_waiting, is_wrong}
-use Rattle.bay_port.specs.Ports.{PortData, emptied, bare, taken_as, taken_front}
+use Rattle.bay_port.specs.Attending.{AttendedPart, Script, accepted_in, all_told, attended_as, attendance, behind, closed_or_kept, first_part, greet_part, line_in_front, line_judged, line_part, offer_part, offered_of, on_heard, quiet_part, read_by, taken_or_closed, talk_part, told_to}
+use Rattle.bay_port.specs.Fit.{is_waiting}
+use Rattle.bay_port.specs.Ports.{PortData, emptied, bare, taken_as, taken_by, taken_front}
 use Rattle.bay_port.specs.Releases.{Release, is_same, last_said, nothing_told, release_part, releases_text, said_at, said_from, said_in, told_after}
-use Rattle.bay_port.specs.Sound.{is_forgotten}
-use Rattle.bay_port.specs.Telling.{fits_in}
+use Rattle.bay_port.specs.Telling.{ToldTurn, fits_in, greeting}
 use Rattle.bay_port.specs.Uses.{IsUpToDate, StaysHere, Use, Takes, Attends, after_uses, all_said, port_after, said_as, said_of}
+use Rattle.bay_port.specs.Watching.{Duties, Watched, answered, heard_at, judged, overlong}
 use Rattle.bay_port.specs.declared.news.Parting.{Parting}
+use Rattle.bay_port.specs.declared.news.Parting.TheVariants.{QueueFull, Silent}
+use Rattle.bay_port.specs.declared.watching.LineWord.{LineWord}
 use Rattle.bay_port.specs.declared.port.Presence.{Presence}
 use Rattle.bay_port.specs.declared.port.Presence.TheVariants.{Away, Leaving, Here}
 use Rattle.bay_serve.specs.Calls.{Call, ReadOutcome, Octets, Silence, Over, Broken}
@@ -203,15 +205,19 @@ has-behind : (told : Option (List (Option Release))) (r : Result PortData Partin
 has-behind told (Err why) calls f h next = has-closed why told
 has-behind told (Ok p) calls f h next = λ q e. next p q e ∙ h p refl
 
-has-told : (text : List ℕ) (s : State) (p : PortData)
-    → HasTold (told_after s p.told) (told_to text s p).after
-has-told text s p = by-room (fits_in p.queue (all_told text s p)) refl
+has-told : (t : ToldTurn) (s : State) (p : PortData)
+    → HasTold (told_after s p.told) (told_to t s p).after
+has-told t s p = by-room (fits_in p.queue (all_told t s p)) refl
   where
-    by-room : (v : Bool) → fits_in p.queue (all_told text s p) ≡ v
-        → HasTold (told_after s p.told) (told_to text s p).after
+    by-room : (v : Bool) → fits_in p.queue (all_told t s p) ≡ v
+        → HasTold (told_after s p.told) (told_to t s p).after
     by-room true e = rw e (λ q is.
-        let same : record p { queue = p.queue ++ all_told text s p; told = told_after s p.told } ≡ q
-        = cc in ap (λ (d : PortData). d.told) (sym same))
+        let same : record p {
+          queue = p.queue ++ all_told t s p;
+          told = told_after s p.told;
+          watch = answered p.watch;
+        } ≡ q = cc in
+        ap (λ (d : PortData). d.told) (sym same))
     by-room false e = rw e (λ q is. absurd cc)
 
 has-offered : (queue : List ℕ) (taken : Option ℕ) (p : PortData)
@@ -235,24 +241,51 @@ has-read heard p = by-front (is_waiting (front p.kept)) refl
     by-front true e = rw e (by-heard heard _)
     by-front false e = rw e (has-port p p.told refl)
 
-has-checked : (p : PortData) → HasTold p.told (line_part p).after
-has-checked p = by-front (is_wrong (front p.kept)) refl
+has-quiet : (now : ℕ) (watch : Option Watched) (p : PortData)
+    → HasTold p.told (quiet_part now watch p).after
+has-quiet now None p = has-port p p.told refl
+has-quiet now (Some w) p = by-span (nat_le (now - w.heard) w.duties.limit) refl
   where
-    by-front : (v : Bool) → is_wrong (front p.kept) ≡ v → HasTold p.told (line_part p).after
-    by-front true e = rw e (λ q is. absurd cc)
-    by-front false e = rw e (has-port p p.told refl)
+    by-span : (v : Bool) → nat_le (now - w.heard) w.duties.limit ≡ v
+        → HasTold p.told (quiet_part now (Some w) p).after
+    by-span true e = rw e (has-port p p.told refl)
+    by-span false e = rw e (has-closed Silent p.told)
 
-has-talked : (text : List ℕ) (s : State) (answers : Option ℕ × ReadOutcome) (p : PortData)
-    → HasTold (told_after s p.told) (talk_part text s answers p).after
-has-talked text s answers p =
+has-judged : (now : ℕ) (r : Result LineWord Parting) (p : PortData)
+    → HasTold p.told (line_judged now r p).after
+has-judged now (Err why) p = has-closed why p.told
+has-judged now (Ok word) p = has-port (record p { watch = heard_at now p.watch }) p.told refl
+
+has-checked : (now : ℕ) (s : State) (p : PortData) → HasTold p.told (line_part now s p).after
+has-checked now s p = by-front (front p.kept)
+  where
+    by-front : (f : Front) → HasTold p.told (line_in_front now s f p).after
+    by-front Waiting = has-quiet now p.watch p
+    by-front Overlong = has-closed (overlong p.watch p.kept) p.told
+    by-front (Whole line rest) = has-judged now (judged p.watch s now line) p
+
+has-greeted : (now : ℕ) (s : State) (p : PortData) → HasTold p.told (greet_part now s p).after
+has-greeted now s p = by-room (fits_in p.queue (greeting now s p.watch)) refl
+  where
+    by-room : (v : Bool) → fits_in p.queue (greeting now s p.watch) ≡ v
+        → HasTold p.told (greet_part now s p).after
+    by-room true e =
+        rw e (has-port
+        (record p { queue = p.queue ++ greeting now s p.watch; watch = heard_at now p.watch })
+        p.told refl)
+    by-room false e = rw e (has-closed QueueFull p.told)
+
+has-talked : (t : ToldTurn) (s : State) (answers : Option ℕ × ReadOutcome) (p : PortData)
+    → HasTold (told_after s p.told) (talk_part t s answers p).after
+has-talked t s answers p =
     let told = told_after s p.told in
-    let a = told_to text s p in
-    let ha = has-behind told a.after a.calls (offer_part answers.0) (has-told text s p)
+    let a = told_to t s p in
+    let ha = has-behind told a.after a.calls (offer_part answers.0) (has-told t s p)
     (λ q. has-offered q.queue answers.0 q) in
     let b = behind a (offer_part answers.0) in
     let hb = has-behind told b.after b.calls (read_by answers.1) ha (has-read answers.1) in
     let c = behind b (read_by answers.1) in
-    has-behind told c.after c.calls line_part hb has-checked
+    has-behind told c.after c.calls (line_part t.now s) hb (has-checked t.now s)
 
 -- ---- a use
 
@@ -271,57 +304,57 @@ come-known said p (Ok q) calls h told =
     subst (KnowsIn (said ++ [])) (sym (told q refl)) (knows-emptied said (said ++ []) p.told h)
 come-known said p (Err why) calls h told = knows-emptied said (said ++ []) p.told h
 
-away-known : (said : List (ℕ × Release)) (accepted : Option (Option SocketAddrV4))
-    (heard : ReadOutcome × ReadOutcome) (p : PortData) → KnowsIn said p.told
-    → KnowsIn (said ++ []) (accepted_in accepted heard p).port.told
-away-known said None heard p h = knows-same said p.told p.told h refl
-away-known said (Some None) heard p h = knows-same said p.told p.told h refl
-away-known said (Some (Some from)) heard p h =
+away-known : (said : List (ℕ × Release)) (now : ℕ) (s : State)
+    (accepted : Option (Option SocketAddrV4)) (heard : ReadOutcome × ReadOutcome) (p : PortData)
+    → KnowsIn said p.told
+    → KnowsIn (said ++ []) (accepted_in now s accepted heard p).port.told
+away-known said now s None heard p h = knows-same said p.told p.told h refl
+away-known said now s (Some None) heard p h = knows-same said p.told p.told h refl
+away-known said now s (Some (Some from)) heard p h =
     let q = emptied Here p in
-    let first = read_by heard.0 q in
-    let part = first_part heard q in
+    let g = greet_part now s q in
+    let a = behind g (read_by heard.0) in
+    let part = first_part now s heard q in
     come-known said p part.after part.calls h
-    (has-behind q.told first.after first.calls (read_by heard.1) (has-read heard.0 q)
+    (has-behind q.told a.after a.calls (read_by heard.1)
+    (has-behind q.told g.after g.calls (read_by heard.0) (has-greeted now s q) (has-read heard.0))
     (has-read heard.1))
 
-left-known : (said : List (ℕ × Release)) (forgotten : Bool) (p : PortData) → KnowsIn said p.told
-    → KnowsIn (said ++ []) (left_in forgotten p).port.told
-left-known said true p h = knows-emptied said (said ++ []) p.told h
-left-known said false p h = knows-same said p.told p.told h refl
-
-attended-known : (standing : Presence) (said : List (ℕ × Release)) (text : List ℕ) (s : State)
+attended-known : (standing : Presence) (said : List (ℕ × Release)) (t : ToldTurn) (s : State)
     (script : Script) (p : PortData) → KnowsIn said p.told
-    → KnowsIn (said ++ said_as standing s p) (attended_as standing text s script p).port.told
-attended-known Away said text s script p h =
-    away-known said script.accepted (script.heard, script.again) p h
-attended-known Leaving said text s script p h = left-known said (is_forgotten s) p h
-attended-known Here said text s script p h =
-    let part = talk_part text s (script.taken, script.heard) p in
-    here-known s said p part.after part.calls h
-    (has-talked text s (script.taken, script.heard) p)
+    → KnowsIn (said ++ said_as standing s p) (attended_as standing t s script p).port.told
+attended-known Away said t s script p h =
+    away-known said t.now s script.accepted (script.heard, script.again) p h
+attended-known Leaving said t s script p h = knows-same said p.told p.told h refl
+attended-known Here said t s script p h =
+    let part = talk_part t s (script.taken, script.heard) p in
+    here-known s said p part.after part.calls h (has-talked t s (script.taken, script.heard) p)
 
-front-told : (s : State) (f : Front) (p : PortData) → (taken_front s f p).port.told ≡ p.told
-front-told s Waiting p = refl
-front-told s Overlong p = refl
-front-told s (Whole line rest) p = by-fit (is_fit line) refl
-  where
-    by-fit : (v : Bool) → is_fit line ≡ v
-        → (taken_front s (Whole line rest) p).port.told ≡ p.told
-    by-fit true e = rw e refl
-    by-fit false e = rw e refl
+by-known : (said : List (ℕ × Release)) (r : Result LineWord Parting) (line rest : List ℕ)
+    (p : PortData) → (taken_by r line rest p).port.told ≡ p.told
+by-known said (Ok word) line rest p = refl
+by-known said (Err why) line rest p = refl
 
-taken-told : (standing : Presence) (s : State) (p : PortData)
-    → (taken_as standing s p).port.told ≡ p.told
-taken-told Away s p = refl
-taken-told Leaving s p = refl
-taken-told Here s p = front-told s (front p.kept) p
+front-known : (said : List (ℕ × Release)) (s : State) (now : ℕ) (f : Front) (p : PortData)
+    → (taken_front s now f p).port.told ≡ p.told
+front-known said s now Waiting p = refl
+front-known said s now Overlong p = refl
+front-known said s now (Whole line rest) p =
+    by-known said (judged p.watch s now line) line rest p
+
+taken-known : (standing : Presence) (said : List (ℕ × Release)) (s : State) (now : ℕ)
+    (p : PortData) → KnowsIn said p.told
+    → KnowsIn (said ++ []) (taken_as standing s now p).port.told
+taken-known Away said s now p h = knows-same said p.told p.told h refl
+taken-known Leaving said s now p h = knows-emptied said (said ++ []) p.told h
+taken-known Here said s now p h =
+    knows-same said p.told _ h (front-known said s now (front p.kept) p)
 
 use-known : (u : Use) (said : List (ℕ × Release)) (p : PortData) → KnowsIn said p.told
     → KnowsIn (said ++ said_of u p) (port_after u p).told
-use-known (Takes s) said p h =
-    knows-same said p.told (port_after (Takes s) p).told h (taken-told p.standing s p)
-use-known (Attends text s script) said p h =
-    attended-known p.standing said text s script p h
+use-known (Takes s now) said p h = taken-known p.standing said s now p h
+use-known (Attends t s script) said p h =
+    attended-known p.standing said t s script p h
 
 uses-known : (us : List Use) (said : List (ℕ × Release)) (p : PortData) → KnowsIn said p.told
     → KnowsIn (said ++ all_said us p) (after_uses us p).told
@@ -346,10 +379,11 @@ known-here : (s : State) (said : List (ℕ × Release)) (told : Option (List (Op
 known-here s said None h k r lt is = absurd h
 known-here s said (Some told) h k r lt is = said-known s said told h k r lt is
 
-pub is-up-to-date : (uses : List Use) (text : List ℕ) (s : State) (script : Script)
-    → StaysHere uses (bare true Away) → IsUpToDate uses text s script
-is-up-to-date uses text s script stays here none k lt within =
-    let p0 = bare true Away in
+pub is-up-to-date : (duties : Option Duties) (uses : List Use) (t : ToldTurn) (s : State)
+    (script : Script) → StaysHere uses (bare true duties Away)
+    → IsUpToDate duties uses t s script
+is-up-to-date duties uses t s script stays here none k lt within =
+    let p0 = bare true duties Away in
     let p = after_uses uses p0 in
     let start : KnowsIn [] p0.told = knows-nothing [] in
     let known : KnowsIn (all_said uses p0) p.told = uses-known uses [] p0 start in
@@ -358,6 +392,6 @@ is-up-to-date uses text s script stays here none k lt within =
     let is : enabled_of s k ≡ Some release =
     ap (λ v. if v then Some release else None) there in
     ap (last_said k None)
-    (one-more uses (Attends text s script) p0
+    (one-more uses (Attends t s script) p0
     ∙ ap (λ standing. all_said uses p0 ++ said_as standing s p) here)
     ∙ known-here s (all_said uses p0) p.told known k release lt is

@@ -1,5 +1,5 @@
 -- The lines that turns have of a process are those that its octets are cut into.
-use Rattle.std.proofs.Common.{◌≡◌, ℕ, if◌then◌else◌, Bool, true, false, List, [], ◌∷◌, ◌++◌, filter, drop, Option, Some, None, Result, Ok, Err, refl, sym, ap, ◌∙◌, subst, append_assoc, append-nil}
+use Rattle.std.proofs.Common.{◌≡◌, ℕ, ◌-◌, nat_le, if◌then◌else◌, Bool, true, false, List, [], ◌∷◌, ◌++◌, filter, drop, Option, Some, None, Result, Ok, Err, refl, sym, ap, ◌∙◌, subst, append_assoc, append-nil}
 use Rattle.std.specs.Option.{option_to_list}
 use Rattle.std.specs.declared.net.socket_addr.SocketAddrV4.{SocketAddrV4}
 use Rattle.bay_device.specs.Device.{State}
@@ -7,16 +7,18 @@ use Rattle.bay_lines.specs.Cuttings.{Comes, Cutting, LosesNothing, Move, all_of,
 use Rattle.bay_lines.specs.Cuttings as cuttings
 use Rattle.bay_lines.specs.Fronts.{Front, Overlong, Waiting, Whole, front}
 use Rattle.bay_lines.proofs.FrontLemmas.{nothing-is-lost}
-use Rattle.bay_serve.specs.Served.{told_by}
 use Rattle.bay_serve.specs.Calls.{Call, Accepts, Reads, Writes, Closes, ReadOutcome, Octets, Silence, Over, Broken}
-use Rattle.bay_port.specs.Attending.{Attended, all_told, AttendedPart, Script, accepted_in, attendance, first_part, taken_or_closed, attended_as, attended_here, behind, closed_or_kept, line_part, offer_part, offered_of, on_heard, read_by, talk_part, told_to}
-use Rattle.bay_port.specs.Fit.{is_fit, is_told, is_waiting, is_wrong, line_or_none}
-use Rattle.bay_port.specs.Ports.{PortData, Taken, emptied, bare, nothing_of, taken_as, taken_front, taken_line}
+use Rattle.bay_port.specs.Attending.{Attended, all_told, AttendedPart, Script, accepted_in, attendance, attended_as, attended_here, behind, closed_or_kept, first_part, greet_part, line_in_front, line_judged, line_part, offer_part, offered_of, on_heard, quiet_part, read_by, taken_or_closed, talk_part, told_to}
+use Rattle.bay_port.specs.Fit.{is_told, is_waiting, line_or_none}
+use Rattle.bay_port.specs.Ports.{PortData, Taken, emptied, bare, taken_as, taken_by, taken_front, taken_line}
 use Rattle.bay_port.specs.Releases.{told_after}
-use Rattle.bay_port.specs.Telling.{fits_in}
+use Rattle.bay_port.specs.Telling.{ToldTurn, fits_in, greeting}
 use Rattle.bay_port.specs.Uses.{LosesNoLine, StaysHere, Use, Takes, Attends, after_uses, all_given, all_had, given_of, octets_given, octets_in, port_after}
 use Rattle.bay_port.specs.declared.news.Parting.{Parting}
-use Rattle.bay_port.specs.declared.news.Parting.TheVariants.{Ended, QueueFull, LinkFailed}
+use Rattle.bay_port.specs.Watching.{Duties, Watched, answered, heard_at, judged, known_behind, overlong}
+use Rattle.bay_port.specs.declared.news.Parting.TheVariants.{Ended, QueueFull, LinkFailed, Silent}
+use Rattle.bay_port.specs.declared.watching.LineWord.{LineWord}
+use Rattle.bay_port.proofs.FitLemmas.{judged-line}
 use Rattle.bay_port.specs.declared.port.Presence.TheVariants.{Away, Here}
 
 -- ---- what is read is kept
@@ -55,17 +57,19 @@ keeps-behind kept (Ok p) calls f k next = λ q e.
     ∙ append_assoc kept (given_of calls) (given_of (f p).calls)
     ∙ ap (λ l. kept ++ l) (sym (given-append calls (f p).calls))
 
-keeps-told : (text : List ℕ) (s : State) (p : PortData)
-    → Keeps p.kept (told_to text s p).after (told_to text s p).calls
-keeps-told text s p = by-room (fits_in p.queue all) refl
+keeps-told : (t : ToldTurn) (s : State) (p : PortData)
+    → Keeps p.kept (told_to t s p).after (told_to t s p).calls
+keeps-told t s p = by-room (fits_in p.queue all) refl
   where
     all : List ℕ
-    all = all_told text s p
+    all = all_told t s p
 
     by-room : (v : Bool) → fits_in p.queue all ≡ v
-        → Keeps p.kept (told_to text s p).after (told_to text s p).calls
+        → Keeps p.kept (told_to t s p).after (told_to t s p).calls
     by-room true e =
-        rw e (keeps-port (record p { queue = p.queue ++ all; told = told_after s p.told }) p.kept
+        rw e (keeps-port
+        (record p { queue = p.queue ++ all; told = told_after s p.told; watch = answered p.watch })
+        p.kept
         [] refl refl)
     by-room false e = rw e (keeps-closed QueueFull p.kept [])
 
@@ -96,24 +100,54 @@ keeps-read heard p = by-front (is_waiting (front p.kept)) refl
     by-front true e = rw e (keeps-heard heard p)
     by-front false e = rw e (keeps-port p p.kept [] refl refl)
 
-keeps-checked : (p : PortData) → Keeps p.kept (line_part p).after (line_part p).calls
-keeps-checked p = by-front (is_wrong (front p.kept)) refl
+keeps-quiet : (now : ℕ) (watch : Option Watched) (p : PortData)
+    → Keeps p.kept (quiet_part now watch p).after (quiet_part now watch p).calls
+keeps-quiet now None p = keeps-port p p.kept [] refl refl
+keeps-quiet now (Some w) p = by-span (nat_le (now - w.heard) w.duties.limit) refl
   where
-    by-front : (v : Bool) → is_wrong (front p.kept) ≡ v
-        → Keeps p.kept (line_part p).after (line_part p).calls
-    by-front true e = rw e (keeps-closed _ p.kept [])
-    by-front false e = rw e (keeps-port p p.kept [] refl refl)
+    by-span : (v : Bool) → nat_le (now - w.heard) w.duties.limit ≡ v
+        → Keeps p.kept (quiet_part now (Some w) p).after (quiet_part now (Some w) p).calls
+    by-span true e = rw e (keeps-port p p.kept [] refl refl)
+    by-span false e = rw e (keeps-closed Silent p.kept [])
 
-keeps-talked : (text : List ℕ) (s : State) (answers : Option ℕ × ReadOutcome) (p : PortData)
-    → Keeps p.kept (talk_part text s answers p).after (talk_part text s answers p).calls
-keeps-talked text s answers p =
-    let a = told_to text s p in
-    let ka = keeps-behind p.kept a.after a.calls (offer_part answers.0) (keeps-told text s p)
+keeps-judged : (now : ℕ) (r : Result LineWord Parting) (p : PortData)
+    → Keeps p.kept (line_judged now r p).after (line_judged now r p).calls
+keeps-judged now (Err why) p = keeps-closed why p.kept []
+keeps-judged now (Ok word) p =
+    keeps-port (record p { watch = heard_at now p.watch }) p.kept [] refl refl
+
+keeps-checked : (now : ℕ) (s : State) (p : PortData)
+    → Keeps p.kept (line_part now s p).after (line_part now s p).calls
+keeps-checked now s p = by-front (front p.kept)
+  where
+    by-front : (f : Front)
+        → Keeps p.kept (line_in_front now s f p).after (line_in_front now s f p).calls
+    by-front Waiting = keeps-quiet now p.watch p
+    by-front Overlong = keeps-closed (overlong p.watch p.kept) p.kept []
+    by-front (Whole line rest) = keeps-judged now (judged p.watch s now line) p
+
+keeps-greeted : (now : ℕ) (s : State) (p : PortData)
+    → Keeps p.kept (greet_part now s p).after (greet_part now s p).calls
+keeps-greeted now s p = by-room (fits_in p.queue (greeting now s p.watch)) refl
+  where
+    by-room : (v : Bool) → fits_in p.queue (greeting now s p.watch) ≡ v
+        → Keeps p.kept (greet_part now s p).after (greet_part now s p).calls
+    by-room true e =
+        rw e (keeps-port
+        (record p { queue = p.queue ++ greeting now s p.watch; watch = heard_at now p.watch })
+        p.kept [] refl refl)
+    by-room false e = rw e (keeps-closed QueueFull p.kept [])
+
+keeps-talked : (t : ToldTurn) (s : State) (answers : Option ℕ × ReadOutcome) (p : PortData)
+    → Keeps p.kept (talk_part t s answers p).after (talk_part t s answers p).calls
+keeps-talked t s answers p =
+    let a = told_to t s p in
+    let ka = keeps-behind p.kept a.after a.calls (offer_part answers.0) (keeps-told t s p)
     (λ q. keeps-offered q.queue answers.0 q) in
     let b = behind a (offer_part answers.0) in
     let kb = keeps-behind p.kept b.after b.calls (read_by answers.1) ka (keeps-read answers.1) in
     let c = behind b (read_by answers.1) in
-    keeps-behind p.kept c.after c.calls line_part kb keeps-checked
+    keeps-behind p.kept c.after c.calls (line_part t.now s) kb (keeps-checked t.now s)
 
 -- where the process is still there, it was read into what is kept
 kept-here : (before : PortData) (r : Result PortData Parting) (calls : List Call)
@@ -124,17 +158,17 @@ kept-here : (before : PortData) (r : Result PortData Parting) (calls : List Call
 kept-here before (Ok q) calls kept k here = k q refl
 kept-here before (Err why) calls kept k here = absurd cc
 
-attends-keep : (text : List ℕ) (s : State) (script : Script) (p : PortData) → p.standing ≡ Here
-    → (attendance text s script p).port.standing ≡ Here
-    → (attendance text s script p).port.kept
-    ≡ p.kept ++ given_of (attendance text s script p).calls
-attends-keep text s script p here still =
-    let part = talk_part text s (script.taken, script.heard) p in
-    let is : attendance text s script p ≡ attended_here p part =
-    ap (λ standing. attended_as standing text s script p) here in
+pub attends-keep : (t : ToldTurn) (s : State) (script : Script) (p : PortData) → p.standing ≡ Here
+    → (attendance t s script p).port.standing ≡ Here
+    → (attendance t s script p).port.kept
+    ≡ p.kept ++ given_of (attendance t s script p).calls
+attends-keep t s script p here still =
+    let part = talk_part t s (script.taken, script.heard) p in
+    let is : attendance t s script p ≡ attended_here p part =
+    ap (λ standing. attended_as standing t s script p) here in
     subst (λ (a : Attended). a.port.standing ≡ Here → a.port.kept ≡ p.kept ++ given_of a.calls)
     (sym is)
-    (kept-here p part.after part.calls p.kept (keeps-talked text s (script.taken, script.heard) p))
+    (kept-here p part.after part.calls p.kept (keeps-talked t s (script.taken, script.heard) p))
     still
 
 -- what a process that is taken has sent meanwhile is kept
@@ -146,78 +180,73 @@ taken-keep : (before : PortData) (r : Result PortData Parting) (calls : List Cal
 taken-keep before (Ok q) calls kept k here = k q refl
 taken-keep before (Err why) calls kept k here = absurd cc
 
-comes-keep : (tells : Bool) (accepted : Option (Option SocketAddrV4))
-    (heard : ReadOutcome × ReadOutcome)
-    → (accepted_in accepted heard (bare tells Away)).port.standing ≡ Here
-    → (accepted_in accepted heard (bare tells Away)).port.kept
-    ≡ given_of (accepted_in accepted heard (bare tells Away)).calls
-comes-keep tells None heard here = absurd cc
-comes-keep tells (Some None) heard here = absurd cc
-comes-keep tells (Some (Some from)) heard here =
-    let p = emptied Here (bare tells Away) in
-    let first = read_by heard.0 p in
-    let part = first_part heard p in
-    taken-keep (bare tells Away) part.after part.calls []
-    (keeps-behind [] first.after first.calls (read_by heard.1) (keeps-read heard.0 p)
+pub comes-keep : (tells : Bool) (duties : Option Duties) (now : ℕ) (s : State)
+    (accepted : Option (Option SocketAddrV4)) (heard : ReadOutcome × ReadOutcome)
+    → (accepted_in now s accepted heard (bare tells duties Away)).port.standing ≡ Here
+    → (accepted_in now s accepted heard (bare tells duties Away)).port.kept
+    ≡ given_of (accepted_in now s accepted heard (bare tells duties Away)).calls
+comes-keep tells duties now s None heard here = absurd cc
+comes-keep tells duties now s (Some None) heard here = absurd cc
+comes-keep tells duties now s (Some (Some from)) heard here =
+    let p = emptied Here (bare tells duties Away) in
+    let g = greet_part now s p in
+    let a = behind g (read_by heard.0) in
+    let part = first_part now s heard p in
+    taken-keep (bare tells duties Away) part.after part.calls []
+    (keeps-behind [] a.after a.calls (read_by heard.1)
+    (keeps-behind [] g.after g.calls (read_by heard.0) (keeps-greeted now s p) (keeps-read heard.0))
     (keeps-read heard.1))
     here
 
 -- ---- uses are moves
 
--- what a turn takes of a line in front, by whether the line is fit
-abbrev fit_taken : State → Bool → List ℕ → List ℕ → PortData → Taken
-fit_taken s fit line rest p =
-    if fit then record {
-      event = told_by s line;
-      line = line_or_none line;
-      port = record p { kept = rest };
-    }
-    else nothing_of p
+abbrev pub judged_moves : Result LineWord Parting → List Move → List Move
+judged_moves (Ok word) moves = cuttings.Takes ∷ moves
+judged_moves (Err why) moves = moves
 
-abbrev fit_moves : Bool → List Move → List Move
-fit_moves fit moves = if fit then cuttings.Takes ∷ moves else moves
+abbrev pub move_of : Option Watched → State → ℕ → Front → List Move → List Move
+move_of watch s now Waiting moves = moves
+move_of watch s now Overlong moves = moves
+move_of watch s now (Whole line rest) moves = judged_moves (judged watch s now line) moves
 
-abbrev move_of : Front → List Move → List Move
-move_of Waiting moves = moves
-move_of Overlong moves = moves
-move_of (Whole line rest) moves = fit_moves (is_fit line) moves
+abbrev pub judged_cut : Result LineWord Parting → List ℕ → List ℕ → List ℕ → List Move → Cutting
+judged_cut (Ok word) line rest kept moves = with_line line (cutting_of moves rest)
+judged_cut (Err why) line rest kept moves = cutting_of moves kept
 
-abbrev fit_cut : Bool → List ℕ → List ℕ → List ℕ → List Move → Cutting
-fit_cut fit line rest kept moves =
-    if fit then with_line line (cutting_of moves rest) else cutting_of moves kept
+abbrev pub cut_of : Option Watched → State → ℕ → Front → List ℕ → List Move → Cutting
+cut_of watch s now Waiting kept moves = cutting_of moves kept
+cut_of watch s now Overlong kept moves = cutting_of moves kept
+cut_of watch s now (Whole line rest) kept moves =
+    judged_cut (judged watch s now line) line rest kept moves
 
-abbrev cut_of : Front → List ℕ → List Move → Cutting
-cut_of Waiting kept moves = cutting_of moves kept
-cut_of Overlong kept moves = cutting_of moves kept
-cut_of (Whole line rest) kept moves = fit_cut (is_fit line) line rest kept moves
-
-cut-is : (f : Front) (kept : List ℕ) (moves : List Move) → front kept ≡ f
-    → cutting_of (move_of f moves) kept ≡ cut_of f kept moves
-cut-is Waiting kept moves is = refl
-cut-is Overlong kept moves is = refl
-cut-is (Whole line rest) kept moves is = by-fit (is_fit line)
+pub cut-is : (watch : Option Watched) (s : State) (now : ℕ) (f : Front) (kept : List ℕ)
+    (moves : List Move) → front kept ≡ f
+    → cutting_of (move_of watch s now f moves) kept ≡ cut_of watch s now f kept moves
+cut-is watch s now Waiting kept moves is = refl
+cut-is watch s now Overlong kept moves is = refl
+cut-is watch s now (Whole line rest) kept moves is = by-word (judged watch s now line)
   where
-    by-fit : (fit : Bool)
-        → cutting_of (fit_moves fit moves) kept ≡ fit_cut fit line rest kept moves
-    by-fit true = ap (λ f. took f kept (cutting_of moves)) is
-    by-fit false = refl
+    by-word : (r : Result LineWord Parting)
+        → cutting_of (judged_moves r moves) kept ≡ judged_cut r line rest kept moves
+    by-word (Ok word) = ap (λ f. took f kept (cutting_of moves)) is
+    by-word (Err why) = refl
 
-moves_of : List Use → PortData → List Move
+unfoldable pub moves_of : List Use → PortData → List Move
 moves_of [] p = []
-moves_of (Takes s ∷ us) p =
-    move_of (front p.kept) (moves_of us (port_after (Takes s) p))
-moves_of (Attends text s script ∷ us) p =
-    Comes (octets_given (Attends text s script) p)
-    ∷ moves_of us (port_after (Attends text s script) p)
+moves_of (Takes s now ∷ us) p =
+    move_of p.watch s now (front p.kept) (moves_of us (port_after (Takes s now) p))
+moves_of (Attends t s script ∷ us) p =
+    Comes (octets_given (Attends t s script) p)
+    ∷ moves_of us (port_after (Attends t s script) p)
 
 -- What is kept, the lines that turns had, and what came are those of a cutting.
-record Follows (moves : List Move) (c : Cutting) (kept all : List ℕ) (had : List (List ℕ))
+pub record Follows (moves : List Move) (c : Cutting) (kept all : List ℕ) (had : List (List ℕ))
     : Type 0 where
-  keeps : c.kept ≡ kept
-  had_is : had ≡ filter is_told c.lines
-  all_is : all_of moves ≡ all
+  pub keeps : c.kept ≡ kept
+  pub had_is : had ≡ filter is_told c.lines
+  pub all_is : all_of moves ≡ all
 
-abbrev UseFollows : List Use → PortData → Type 0
+abbrev pub UseFollows : List Use → PortData → Type 0
 UseFollows us p =
     Follows (moves_of us p) (cutting_of (moves_of us p) p.kept) (after_uses us p).kept
     (all_given us p) (all_had us p)
@@ -238,54 +267,63 @@ record TakeFollows (c : Cutting) (moves : List Move) (us : List Use) (t : Taken)
   had_is : option_to_list t.line ++ all_had us t.port ≡ filter is_told c.lines
   all_is : all_of moves ≡ all_given us t.port
 
-takes-fit : (s : State) (fit : Bool) (line rest : List ℕ) (us : List Use) (p : PortData)
-    → UseFollows us (fit_taken s fit line rest p).port
-    → (let moves = moves_of us (fit_taken s fit line rest p).port in
-    TakeFollows (fit_cut fit line rest p.kept moves) (fit_moves fit moves) us
-    (fit_taken s fit line rest p))
-takes-fit s true line rest us p h =
-    let q : PortData = record p { kept = rest } in
+takes-judged : (watch : Option Watched) (s : State) (now : ℕ) (line rest : List ℕ)
+    (us : List Use) (p : PortData) (r : Result LineWord Parting) → judged watch s now line ≡ r
+    → UseFollows us (taken_by r line rest p).port
+    → (let moves = moves_of us (taken_by r line rest p).port in
+    TakeFollows (judged_cut r line rest p.kept moves) (judged_moves r moves) us
+    (taken_by r line rest p))
+takes-judged watch s now line rest us p (Ok word) is h =
+    let q : PortData = record p { kept = rest; watch = known_behind word p.watch } in
     record {
       keeps = h.keeps;
       had_is =
-          had-told line (all_had us q) (cutting_of (moves_of us q) rest).lines h.had_is;
+          ap (λ o. option_to_list o ++ all_had us q) (judged-line watch s now line word is)
+          ∙ had-told line (all_had us q) (cutting_of (moves_of us q) rest).lines h.had_is;
       all_is = h.all_is;
     }
-takes-fit s false line rest us p h =
+takes-judged watch s now line rest us p (Err why) is h =
     record { keeps = h.keeps; had_is = h.had_is; all_is = h.all_is }
 
-takes-follow : (s : State) (f : Front) (us : List Use) (p : PortData)
-    → UseFollows us (taken_front s f p).port
-    → (let moves = moves_of us (taken_front s f p).port in
-    TakeFollows (cut_of f p.kept moves) (move_of f moves) us (taken_front s f p))
-takes-follow s Waiting us p h = record { keeps = h.keeps; had_is = h.had_is; all_is = h.all_is }
-takes-follow s Overlong us p h = record { keeps = h.keeps; had_is = h.had_is; all_is = h.all_is }
-takes-follow s (Whole line rest) us p h = takes-fit s (is_fit line) line rest us p h
+takes-follow : (s : State) (now : ℕ) (f : Front) (us : List Use) (p : PortData)
+    → UseFollows us (taken_front s now f p).port
+    → (let moves = moves_of us (taken_front s now f p).port in
+    TakeFollows (cut_of p.watch s now f p.kept moves) (move_of p.watch s now f moves) us
+    (taken_front s now f p))
+takes-follow s now Waiting us p h =
+    record { keeps = h.keeps; had_is = h.had_is; all_is = h.all_is }
+takes-follow s now Overlong us p h =
+    record { keeps = h.keeps; had_is = h.had_is; all_is = h.all_is }
+takes-follow s now (Whole line rest) us p h =
+    takes-judged p.watch s now line rest us p (judged p.watch s now line) refl h
 
 uses-follow : (us : List Use) (p : PortData) → p.standing ≡ Here → StaysHere us p → UseFollows us p
 unfolding moves_of
 uses-follow [] p here stays = record { keeps = refl; had_is = refl; all_is = refl }
-uses-follow (Takes s ∷ us) p here stays =
+uses-follow (Takes s now ∷ us) p here stays =
     let f = front p.kept in
-    let is : taken_line s p ≡ taken_front s f p = ap (λ standing. taken_as standing s p) here in
-    let later : UseFollows us (taken_line s p).port =
-    uses-follow us (taken_line s p).port stays.0 stays.1 in
-    let moves = moves_of us (taken_line s p).port in
-    let t : TakeFollows (cut_of f p.kept moves) (move_of f moves) us (taken_line s p) =
+    let is : taken_line s now p ≡ taken_front s now f p =
+    ap (λ standing. taken_as standing s now p) here in
+    let later : UseFollows us (taken_line s now p).port =
+    uses-follow us (taken_line s now p).port stays.0 stays.1 in
+    let moves = moves_of us (taken_line s now p).port in
+    let t : TakeFollows (cut_of p.watch s now f p.kept moves) (move_of p.watch s now f moves) us
+    (taken_line s now p) =
     subst (λ (t : Taken). (let moves = moves_of us t.port in
-    TakeFollows (cut_of f p.kept moves) (move_of f moves) us t)) (sym is)
-    (takes-follow s f us p (subst (λ (t : Taken). UseFollows us t.port) is later)) in
-    let cut = cut-is f p.kept moves refl in
+    TakeFollows (cut_of p.watch s now f p.kept moves) (move_of p.watch s now f moves) us t))
+    (sym is)
+    (takes-follow s now f us p (subst (λ (t : Taken). UseFollows us t.port) is later)) in
+    let cut = cut-is p.watch s now f p.kept moves refl in
     record {
       keeps = ap (λ (c : Cutting). c.kept) cut ∙ t.keeps;
       had_is = t.had_is ∙ ap (λ (c : Cutting). filter is_told c.lines) (sym cut);
       all_is = t.all_is;
     }
-uses-follow (Attends text s script ∷ us) p here stays =
-    let u = Attends text s script in
+uses-follow (Attends t s script ∷ us) p here stays =
+    let u = Attends t s script in
     let q = port_after u p in
     let later : UseFollows us q = uses-follow us q stays.0 stays.1 in
-    let same = attends-keep text s script p here stays.0 in
+    let same = attends-keep t s script p here stays.0 in
     record {
       keeps = ap (λ k. (cutting_of (moves_of us q) k).kept) (sym same) ∙ later.keeps;
       had_is = later.had_is ∙ ap (λ k. filter is_told (cutting_of (moves_of us q) k).lines) same;
@@ -293,27 +331,29 @@ uses-follow (Attends text s script ∷ us) p here stays =
     }
 
 -- from the acceptance on
-starts-follow : (tells : Bool) (us : List Use) → StaysHere us (bare tells Away)
-    → UseFollows us (bare tells Away)
+pub starts-follow : (tells : Bool) (duties : Option Duties) (us : List Use)
+    → StaysHere us (bare tells duties Away) → UseFollows us (bare tells duties Away)
 unfolding moves_of
-starts-follow tells [] stays = record { keeps = refl; had_is = refl; all_is = refl }
-starts-follow tells (Takes s ∷ us) stays = absurd cc
-starts-follow tells (Attends text s script ∷ us) stays =
-    let u = Attends text s script in
-    let q = port_after u (bare tells Away) in
+starts-follow tells duties [] stays = record { keeps = refl; had_is = refl; all_is = refl }
+starts-follow tells duties (Takes s now ∷ us) stays = absurd cc
+starts-follow tells duties (Attends t s script ∷ us) stays =
+    let u = Attends t s script in
+    let p0 = bare tells duties Away in
+    let q = port_after u p0 in
     let later : UseFollows us q = uses-follow us q stays.0 stays.1 in
-    let same = comes-keep tells script.accepted (script.heard, script.again) stays.0 in
+    let same =
+    comes-keep tells duties t.now s script.accepted (script.heard, script.again) stays.0 in
     record {
       keeps = ap (λ k. (cutting_of (moves_of us q) k).kept) (sym same) ∙ later.keeps;
       had_is = later.had_is ∙ ap (λ k. filter is_told (cutting_of (moves_of us q) k).lines) same;
-      all_is = ap (λ l. octets_given u (bare tells Away) ++ l) later.all_is;
+      all_is = ap (λ l. octets_given u p0 ++ l) later.all_is;
     }
 
-pub loses-no-line : (tells : Bool) (us : List Use) → StaysHere us (bare tells Away)
-    → LosesNoLine tells us
-loses-no-line tells us stays =
-    let p = bare tells Away in
-    let f : UseFollows us p = starts-follow tells us stays in
+pub loses-no-line : (tells : Bool) (duties : Option Duties) (us : List Use)
+    → StaysHere us (bare tells duties Away) → LosesNoLine tells duties us
+loses-no-line tells duties us stays =
+    let p = bare tells duties Away in
+    let f : UseFollows us p = starts-follow tells duties us stays in
     let cut : LosesNothing (moves_of us p) = nothing-is-lost (moves_of us p) in
     record {
       lines = (cutting_of (moves_of us p) []).lines;

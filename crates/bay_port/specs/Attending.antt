@@ -1,21 +1,21 @@
 -- What is done with the connection of the process behind a turn: what it is told, and what it
 -- sends.
-use Rattle.std.specs.Prelude.{◌≡◌, ℕ, Bool, List, [], ◌∷◌, ◌++◌, drop, Option, None, Some, Result, Ok, Err, if◌then◌else◌}
+use Rattle.std.specs.Prelude.{◌≡◌, ℕ, ◌-◌, nat_le, Bool, List, [], ◌∷◌, ◌++◌, drop, Option, None, Some, Result, Ok, Err, if◌then◌else◌}
 use Rattle.std.specs.declared.net.socket_addr.SocketAddrV4.{SocketAddrV4}
 use Rattle.bay_device.specs.Device.{State}
-use Rattle.bay_lines.specs.Fronts.{front}
-use Rattle.bay_lines.specs.Shown.{shown_text}
-use Rattle.bay_port.specs.Fit.{is_waiting, is_wrong, line_or_all}
+use Rattle.bay_lines.specs.Fronts.{Front, Waiting, Overlong, Whole, front}
+use Rattle.bay_port.specs.Fit.{is_waiting}
 use Rattle.bay_port.specs.Ports.{PortData, emptied}
 use Rattle.bay_port.specs.Releases.{releases_text, said_in, told_after}
-use Rattle.bay_port.specs.Sound.{is_forgotten}
-use Rattle.bay_port.specs.Telling.{fits_in}
+use Rattle.bay_port.specs.Telling.{ToldTurn, alive_text, fits_in, greeting, lives_in, over_for, over_text}
+use Rattle.bay_port.specs.Watching.{Watched, answered, heard_at, judged, overlong}
 use Rattle.bay_port.specs.declared.news.News.{News}
 use Rattle.bay_port.specs.declared.news.News.TheVariants.{Opened, Closed}
 use Rattle.bay_port.specs.declared.news.Parting.{Parting}
-use Rattle.bay_port.specs.declared.news.Parting.TheVariants.{Ended, BadLine, QueueFull, LinkFailed}
+use Rattle.bay_port.specs.declared.news.Parting.TheVariants.{Ended, QueueFull, LinkFailed, Silent}
 use Rattle.bay_port.specs.declared.port.Presence.{Presence}
 use Rattle.bay_port.specs.declared.port.Presence.TheVariants.{Away, Leaving, Here}
+use Rattle.bay_port.specs.declared.watching.LineWord.{LineWord}
 use Rattle.bay_serve.specs.Calls.{Call, Accepts, Reads, Writes, Closes, ReadOutcome, Octets, Silence, Over, Broken, Talks}
 
 -- what the link answered: whether a connection was accepted, how many octets of a write were taken,
@@ -40,15 +40,22 @@ parting why calls = record { after = Err why; calls = calls }
 
 -- ---- the parts
 
--- what a turn tells, and then the releases that have changed
-abbrev pub all_told : List ℕ → State → PortData → List ℕ
-all_told text s p = text ++ releases_text s (said_in s p.told)
+-- that an operate is over, what a turn tells, the releases that have changed, and that the server
+-- lives
+abbrev pub all_told : ToldTurn → State → PortData → List ℕ
+all_told t s p =
+    over_text t.now s (over_for p.watch t.over) ++ t.text ++ releases_text s (said_in s p.told)
+    ++ alive_text t.now (lives_in p.watch)
 
 -- goes whole into the queue
-abbrev pub told_to : List ℕ → State → PortData → AttendedPart
-told_to text s p =
-    if fits_in p.queue (all_told text s p)
-    then going (record p { queue = p.queue ++ all_told text s p; told = told_after s p.told }) []
+abbrev pub told_to : ToldTurn → State → PortData → AttendedPart
+told_to t s p =
+    if fits_in p.queue (all_told t s p)
+    then going (record p {
+      queue = p.queue ++ all_told t s p;
+      told = told_after s p.told;
+      watch = answered p.watch;
+    }) []
     else parting QueueFull []
 
 -- how many octets the link took
@@ -76,12 +83,25 @@ abbrev pub read_by : ReadOutcome → PortData → AttendedPart
 read_by heard p =
     if is_waiting (front p.kept) then on_heard heard p (Reads 1 4096 heard ∷ []) else going p []
 
--- a line that can't be taken ends the connection, and is told
-abbrev pub line_part : PortData → AttendedPart
-line_part p =
-    if is_wrong (front p.kept)
-    then parting (BadLine (shown_text (line_or_all (front p.kept) p.kept))) []
-    else going p []
+-- a supervised process may be silent for so long
+abbrev pub quiet_part : ℕ → Option Watched → PortData → AttendedPart
+quiet_part now None p = going p []
+quiet_part now (Some w) p =
+    if nat_le (now - w.heard) w.duties.limit then going p [] else parting Silent []
+
+-- a line that can be taken tells that it lives; another ends the connection
+abbrev pub line_judged : ℕ → Result LineWord Parting → PortData → AttendedPart
+line_judged now (Err why) p = parting why []
+line_judged now (Ok word) p = going (record p { watch = heard_at now p.watch }) []
+
+abbrev pub line_in_front : ℕ → State → Front → PortData → AttendedPart
+line_in_front now s Waiting p = quiet_part now p.watch p
+line_in_front now s Overlong p = parting (overlong p.watch p.kept) []
+line_in_front now s (Whole line rest) p = line_judged now (judged p.watch s now line) p
+
+-- what stands in front is looked at
+abbrev pub line_part : ℕ → State → PortData → AttendedPart
+line_part now s p = line_in_front now s (front p.kept) p
 
 -- ---- one after the other
 
@@ -94,9 +114,10 @@ abbrev pub behind : AttendedPart → (PortData → AttendedPart) → AttendedPar
 behind part next = part_then part.after part.calls next
 
 -- The process is told, it is offered what waits, it is read, and its line is looked at
-abbrev pub talk_part : List ℕ → State → Option ℕ × ReadOutcome → PortData → AttendedPart
-talk_part text s answers p =
-    behind (behind (behind (told_to text s p) (offer_part answers.0)) (read_by answers.1)) line_part
+abbrev pub talk_part : ToldTurn → State → Option ℕ × ReadOutcome → PortData → AttendedPart
+talk_part t s answers p =
+    behind (behind (behind (told_to t s p) (offer_part answers.0)) (read_by answers.1))
+    (line_part t.now s)
 
 -- ---- behind a turn
 
@@ -118,10 +139,20 @@ closed_or_kept before (Err why) calls = record {
 abbrev pub attended_here : PortData → AttendedPart → Attended
 attended_here before part = closed_or_kept before part.after part.calls
 
--- a process that has come is read twice: one that has gone while it waited has left its last octets
--- and then its end
-abbrev pub first_part : ReadOutcome × ReadOutcome → PortData → AttendedPart
-first_part answers p = behind (read_by answers.0 p) (read_by answers.1)
+-- a process that has come is greeted, if it is supervised
+abbrev pub greet_part : ℕ → State → PortData → AttendedPart
+greet_part now s p =
+    if fits_in p.queue (greeting now s p.watch)
+    then going (record p {
+      queue = p.queue ++ greeting now s p.watch;
+      watch = heard_at now p.watch;
+    }) []
+    else parting QueueFull []
+
+-- and read twice: one that has gone while it waited has left its last octets and then its end
+abbrev pub first_part : ℕ → State → ReadOutcome × ReadOutcome → PortData → AttendedPart
+first_part now s answers p =
+    behind (behind (greet_part now s p) (read_by answers.0)) (read_by answers.1)
 
 -- it is taken, or closed where it has gone
 abbrev pub taken_or_closed : PortData → Result PortData Parting → List Call → Attended
@@ -136,28 +167,27 @@ abbrev pub with_call : Call → Attended → Attended
 with_call call a = record a { calls = call ∷ a.calls }
 
 -- a connection that waits is accepted
-abbrev pub accepted_in : Option (Option SocketAddrV4) → ReadOutcome × ReadOutcome → PortData
-    → Attended
-accepted_in None heard p = record { port = p; news = None; calls = Accepts 1 None ∷ [] }
-accepted_in (Some None) heard p =
+abbrev pub accepted_in : ℕ → State → Option (Option SocketAddrV4) → ReadOutcome × ReadOutcome
+    → PortData → Attended
+accepted_in now s None heard p = record { port = p; news = None; calls = Accepts 1 None ∷ [] }
+accepted_in now s (Some None) heard p =
     record { port = p; news = None; calls = Accepts 1 (Some None) ∷ [] }
-accepted_in (Some (Some from)) heard p =
-    with_call (Accepts 1 (Some (Some from))) (welcomed p (first_part heard (emptied Here p)))
+accepted_in now s (Some (Some from)) heard p =
+    with_call (Accepts 1 (Some (Some from))) (welcomed p (first_part now s heard (emptied Here p)))
 
--- once each switch is bad and each input FALSE another process may come
-abbrev pub left_in : Bool → PortData → Attended
-left_in forgotten p =
-    record { port = if forgotten then emptied Away p else p; news = None; calls = [] }
+-- nothing is done before a turn was told that the process is lost
+abbrev pub left_alone : PortData → Attended
+left_alone p = record { port = p; news = None; calls = [] }
 
-abbrev pub attended_as : Presence → List ℕ → State → Script → PortData → Attended
-attended_as Away text s script p = accepted_in script.accepted (script.heard, script.again) p
-attended_as Leaving text s script p = left_in (is_forgotten s) p
-attended_as Here text s script p =
-    attended_here p (talk_part text s (script.taken, script.heard) p)
+abbrev pub attended_as : Presence → ToldTurn → State → Script → PortData → Attended
+attended_as Away t s script p =
+    accepted_in t.now s script.accepted (script.heard, script.again) p
+attended_as Leaving t s script p = left_alone p
+attended_as Here t s script p = attended_here p (talk_part t s (script.taken, script.heard) p)
 
--- What is done behind a turn that told this text, by the device after it.
-abbrev pub attendance : List ℕ → State → Script → PortData → Attended
-attendance text s script p = attended_as p.standing text s script p
+-- What is done behind a turn that told this, by the device after it.
+abbrev pub attendance : ToldTurn → State → Script → PortData → Attended
+attendance t s script p = attended_as p.standing t s script p
 
 -- ---- as code does it
 

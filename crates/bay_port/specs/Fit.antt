@@ -1,5 +1,6 @@
--- The line that a turn can take.
-use Rattle.std.specs.Prelude.{◌≡◌, ℕ, Bool, true, false, not, List, [], ◌∷◌, length, Option, None, Some, is_some, if◌then◌else◌}
+-- Lines of a process, by what they tell alone.
+use Rattle.std.specs.Prelude.{◌≡◌, Bool, true, false, List, length, Option, None, Some, is_some, if◌then◌else◌}
+use Rattle.std.specs.Prelude.{ℕ}
 use Rattle.bay_lines.specs.Fronts.{Front, Waiting, Overlong, Whole, LiesIn, front, front_view}
 use Rattle.bay_lines.specs.declared.front.Found.{Found}
 use Rattle.bay_serve.specs.Served.{line_of}
@@ -7,23 +8,6 @@ use Rattle.bay_serve.specs.Served.{line_of}
 -- a line tells of a contact, an input or a measure
 abbrev pub is_told : List ℕ → Bool
 is_told line = is_some (line_of line)
-
--- an empty line says nothing, and is taken too
-abbrev pub is_fit : List ℕ → Bool
-is_fit [] = true
-is_fit (b ∷ bs) = is_told (b ∷ bs)
-
--- a line can't be taken: it is too long, or can't be read
-abbrev pub is_wrong : Front → Bool
-is_wrong Waiting = false
-is_wrong Overlong = true
-is_wrong (Whole line rest) = not (is_fit line)
-
--- the line that stands in front, or all that does
-abbrev pub line_or_all : Front → List ℕ → List ℕ
-line_or_all Waiting xs = xs
-line_or_all Overlong xs = xs
-line_or_all (Whole line rest) xs = line
 
 -- there is no whole line
 abbrev pub is_waiting : Front → Bool

@@ -1,22 +1,14 @@
 -- What holds of the port of a process, turn after turn.
-use Rattle.std.specs.Prelude.{◌≡◌, ◌≢◌, ℕ, ◌<◌, Bool, ◌||◌, true, false, All, List, [], ◌∷◌, ◌++◌, length, take, None, Some, Ok}
+use Rattle.std.specs.Prelude.{◌≡◌, ℕ, Bool, ◌||◌, true, false, List, [], ◌∷◌, ◌++◌, take, None, Some, Ok}
 use Rattle.bay_device.specs.Device.{State}
 use Rattle.bay_port.specs.Attending.{Script, all_told, attendance}
-use Rattle.bay_port.specs.Ports.{PortData, emptied, taken_line}
-use Rattle.bay_port.specs.Sound.{forgetting, is_bad}
+use Rattle.bay_port.specs.Ports.{PortData, emptied, lost_of, taken_line}
+use Rattle.bay_port.specs.Telling.{ToldTurn}
 use Rattle.bay_port.specs.declared.news.News.TheVariants.{Closed}
 use Rattle.bay_port.specs.declared.news.Parting.{Parting}
 use Rattle.bay_port.specs.declared.port.Presence.TheVariants.{Away, Leaving}
 use Rattle.bay_serve.specs.Calls.{Call, Accepts, Reads, Writes, Closes, ReadOutcome, Octets, Silence, Over, Broken}
-use Rattle.bay_serve.specs.Served.{told_by, understood}
-
--- each switch is bad
-abbrev pub AreBad : State → Type 0
-AreBad s = (k : ℕ) → k < length s.switches → is_bad s k ≡ true
-
--- each input is FALSE
-abbrev pub AreFalse : State → Type 0
-AreFalse s = All (λ value. value ≡ false) s.input_values
+use Rattle.bay_serve.specs.Served.{reported, told_by, understood}
 
 -- the end of what a process sends, or a failure
 abbrev pub is_end : ReadOutcome → Bool
@@ -33,26 +25,23 @@ hears_end (Reads a room heard ∷ calls) = is_end heard || hears_end calls
 hears_end (Writes a octets taken ∷ calls) = hears_end calls
 hears_end (Closes a ∷ calls) = hears_end calls
 
--- Behind a closing nothing is kept, and nothing counts as told. Then a turn is given nothing by the
--- port but that the first switch which is not bad is so, or, where each is bad, that the first input
--- which is TRUE is FALSE; the link is not asked; and that ends only where each switch is bad and
--- each input FALSE. Of a process that has gone while it waited nothing is kept or told.
-pub record IsSilent (text : List ℕ) (s : State) (script : Script) (p : PortData) : Type 0 where
-  pub closed : (why : Parting) → (attendance text s script p).news ≡ Some (Closed why)
-      → (attendance text s script p).port ≡ emptied Leaving p
-  pub events : p.standing ≡ Leaving
-      → (taken_line s p).event ≡ forgetting s
-  pub calls : p.standing ≡ Leaving → (attendance text s script p).calls ≡ []
-  pub ends : p.standing ≡ Leaving → (attendance text s script p).port.standing ≢ Leaving
-      → AreBad s × AreFalse s
-  pub untaken : p.standing ≡ Away → hears_end (attendance text s script p).calls ≡ true
-      → ((attendance text s script p).news ≡ None)
-      × ((attendance text s script p).port ≡ emptied Away p)
+-- Behind a closing nothing is kept, and nothing counts as told. The next turn is given by the port
+-- that the process is lost, and no line; the link is not asked before. Of a process that has gone
+-- while it waited nothing is kept or told.
+pub record IsSilent (t : ToldTurn) (s : State) (now : ℕ) (script : Script) (p : PortData)
+    : Type 0 where
+  pub closed : (why : Parting) → (attendance t s script p).news ≡ Some (Closed why)
+      → (attendance t s script p).port ≡ emptied Leaving p
+  pub lost : p.standing ≡ Leaving → taken_line s now p ≡ lost_of p
+  pub calls : p.standing ≡ Leaving → (attendance t s script p).calls ≡ []
+  pub untaken : p.standing ≡ Away → hears_end (attendance t s script p).calls ≡ true
+      → ((attendance t s script p).news ≡ None)
+      × ((attendance t s script p).port ≡ emptied Away p)
 
 -- a line that the port has can be read, and tells of what the turn is given
-abbrev pub IsReadable : State → PortData → Type 0
-IsReadable s p = (line : List ℕ) → (taken_line s p).line ≡ Some line
-    → understood (told_by s line) ≡ Ok (taken_line s p).event
+abbrev pub IsReadable : State → ℕ → PortData → Type 0
+IsReadable s now p = (line : List ℕ) → (taken_line s now p).line ≡ Some line
+    → understood (told_by s line) ≡ Ok (reported (taken_line s now p).event)
 
 -- what the link took of octets that were offered
 abbrev pub taken_of : List Call → List ℕ
@@ -63,13 +52,11 @@ taken_of (Writes a octets None ∷ calls) = taken_of calls
 taken_of (Writes a octets (Some n) ∷ calls) = take n octets ++ taken_of calls
 taken_of (Closes a ∷ calls) = taken_of calls
 
--- Of a process that is there the link takes what waited, then what the turn told, and then the
--- releases that have changed, in order; what it does not take still waits, or is lost where the
+-- Of a process that is there the link takes what waited, then what is told of the turn, in order; what it does not take still waits, or is lost where the
 -- connection is closed.
-pub record TellsInOrder (text : List ℕ) (s : State) (script : Script) (p : PortData)
+pub record TellsInOrder (t : ToldTurn) (s : State) (script : Script) (p : PortData)
     : Type 0 where
   pub rest : List ℕ
-  pub whole : p.queue ++ all_told text s p
-      ≡ taken_of (attendance text s script p).calls ++ rest
-  pub waits : (attendance text s script p).news ≡ None
-      → (attendance text s script p).port.queue ≡ rest
+  pub whole : p.queue ++ all_told t s p ≡ taken_of (attendance t s script p).calls ++ rest
+  pub waits : (attendance t s script p).news ≡ None
+      → (attendance t s script p).port.queue ≡ rest

@@ -1,7 +1,10 @@
 -- What a process is told of a turn.
-use Rattle.std.specs.Prelude.{◌≡◌, ℕ, ◌+◌, nat_le, Bool, true, List, [], ◌∷◌, ◌++◌, length, Option, None, Some}
+use Rattle.std.specs.Prelude.{◌≡◌, ℕ, ◌+◌, nat_le, Bool, false, true, List, [], ◌∷◌, ◌++◌, codes, length, slice_get, Option, None, Some, if◌then◌else◌}
 use Rattle.std.specs.Borrow.{Bor}
+use Rattle.std.specs.Fmt.{decimal}
 use Rattle.bay_device.specs.Device.{State}
+use Rattle.bay_nodes.specs.declared.switch.Switch.{Switch}
+use Rattle.bay_port.specs.Watching.{Watched}
 use Rattle.bay_report.specs.Lines.{commands_text, refusal_line}
 use Rattle.bay_serve.specs.declared.told.Turn.{Turn}
 
@@ -13,6 +16,50 @@ refusal_text now (Some code) = refusal_line now code
 -- the refusal and the commands, as they are printed, by the device after the turn
 abbrev pub told_text : ℕ → Turn → State → List ℕ
 told_text now turn s = refusal_text now turn.refused ++ commands_text now s turn.commands
+
+-- ---- what only a supervised process is told
+
+-- a turn: its moment, what is printed of it, and the switch whose operate was over in it
+pub record ToldTurn : Type 0 where
+  pub now : ℕ
+  pub text : List ℕ
+  pub over : Option ℕ
+
+abbrev pub told_turn : ℕ → Turn → State → ToldTurn
+told_turn now turn s = record { now = now; text = told_text now turn s; over = turn.over }
+
+-- that the operate of the switch with this id is over
+abbrev pub over_line : ℕ → List ℕ → List ℕ
+over_line now id = decimal now ++ codes " over " ++ id ++ codes "\n"
+
+abbrev pub over_part : ℕ → Option Switch → List ℕ
+over_part now None = []
+over_part now (Some switch) = over_line now switch.id
+
+abbrev pub over_text : ℕ → State → Option ℕ → List ℕ
+over_text now s None = []
+over_text now s (Some k) = over_part now (slice_get s.switches k)
+
+abbrev pub over_for : Option Watched → Option ℕ → Option ℕ
+over_for None over = None
+over_for (Some w) over = over
+
+-- that the server lives, where the turn had that the process does
+abbrev pub lives_in : Option Watched → Bool
+lives_in None = false
+lives_in (Some w) = w.lives
+
+abbrev pub alive_text : ℕ → Bool → List ℕ
+alive_text now lives = if lives then decimal now ++ codes " alive\n" else []
+
+-- how it is greeted: what it owes, and the bay that it is asked for
+abbrev pub greeting : ℕ → State → Option Watched → List ℕ
+greeting now s None = []
+greeting now s (Some w) =
+    decimal now ++ codes " process " ++ decimal w.duties.limit ++ codes " " ++ s.domain ++ codes " "
+    ++ s.revision ++ codes "\n"
+
+-- ---- the queue
 
 -- a queue of 65,536 octets has room for a text too
 abbrev pub fits_in : List ℕ → List ℕ → Bool

@@ -1,5 +1,5 @@
 -- The lines that turns have of a process, from when it is accepted, over all uses of its port.
-use Rattle.std.specs.Prelude.{◌≡◌, ℕ, ◌<◌, Bool, true, List, [], ◌∷◌, ◌++◌, length, filter, None, Some}
+use Rattle.std.specs.Prelude.{◌≡◌, ℕ, ◌<◌, Bool, true, List, [], ◌∷◌, ◌++◌, length, filter, None, Some, Option}
 use Rattle.std.specs.Option.{option_to_list}
 use Rattle.bay_device.specs.Device.{State}
 use Rattle.bay_device.specs.LookUps.{may_open, may_close}
@@ -9,26 +9,28 @@ use Rattle.bay_port.specs.Attending.{Script, attendance}
 use Rattle.bay_port.specs.Fit.{is_told}
 use Rattle.bay_port.specs.Ports.{PortData, bare, taken_line}
 use Rattle.bay_port.specs.Releases.{Release, last_said, said_in}
+use Rattle.bay_port.specs.Telling.{ToldTurn}
+use Rattle.bay_port.specs.Watching.{Duties}
 use Rattle.bay_port.specs.declared.port.Presence.{Presence}
 use Rattle.bay_port.specs.declared.port.Presence.TheVariants.{Away, Leaving, Here}
 
--- The port is used: a turn takes its line, or its connection is attended to behind a turn that told
--- this text.
+-- The port is used: a turn takes its line at a moment, or its connection is attended to behind a turn
+-- that told this.
 pub data Use : Type 0 where
-  Takes : State → Use
-  Attends : List ℕ → State → Script → Use
+  Takes : State → ℕ → Use
+  Attends : ToldTurn → State → Script → Use
 
 -- ---- one use
 
 -- the port behind it
 abbrev pub port_after : Use → PortData → PortData
-port_after (Takes s) p = (taken_line s p).port
-port_after (Attends text s script) p = (attendance text s script p).port
+port_after (Takes s now) p = (taken_line s now p).port
+port_after (Attends t s script) p = (attendance t s script p).port
 
 -- the line that the turn has
 abbrev pub line_had : Use → PortData → List (List ℕ)
-line_had (Takes s) p = option_to_list (taken_line s p).line
-line_had (Attends text s script) p = []
+line_had (Takes s now) p = option_to_list (taken_line s now p).line
+line_had (Attends t s script) p = []
 
 abbrev pub octets_in : ReadOutcome → List ℕ
 octets_in (Octets octets) = octets
@@ -45,8 +47,8 @@ given_of (Writes a octets taken ∷ calls) = given_of calls
 given_of (Closes a ∷ calls) = given_of calls
 
 abbrev pub octets_given : Use → PortData → List ℕ
-octets_given (Takes s) p = []
-octets_given (Attends text s script) p = given_of (attendance text s script p).calls
+octets_given (Takes s now) p = []
+octets_given (Attends t s script) p = given_of (attendance t s script p).calls
 
 -- ---- one use after the other
 
@@ -69,13 +71,13 @@ StaysHere (u ∷ us) p = ((port_after u p).standing ≡ Here) × StaysHere us (p
 
 -- What the link gave, as the process was accepted and since, is lines, each with its end, and then
 -- what is kept. Turns had these lines, in order, but for those that tell nothing, as an empty one.
-pub record LosesNoLine (tells : Bool) (uses : List Use) : Type 0 where
+pub record LosesNoLine (tells : Bool) (duties : Option Duties) (uses : List Use) : Type 0 where
   pub lines : List (List ℕ)
   pub text : List ℕ
   pub are : AreLines lines text
-  pub given : all_given uses (bare tells Away)
-      ≡ text ++ (after_uses uses (bare tells Away)).kept
-  pub had : all_had uses (bare tells Away) ≡ filter is_told lines
+  pub given : all_given uses (bare tells duties Away)
+      ≡ text ++ (after_uses uses (bare tells duties Away)).kept
+  pub had : all_had uses (bare tells duties Away) ≡ filter is_told lines
 
 -- ---- releases
 
@@ -86,8 +88,8 @@ said_as Leaving s p = []
 said_as Here s p = said_in s p.told
 
 abbrev pub said_of : Use → PortData → List (ℕ × Release)
-said_of (Takes s) p = []
-said_of (Attends text s script) p = said_as p.standing s p
+said_of (Takes s now) p = []
+said_of (Attends t s script) p = said_as p.standing s p
 
 abbrev pub all_said : List Use → PortData → List (ℕ × Release)
 all_said [] p = []
@@ -95,9 +97,9 @@ all_said (u ∷ us) p = said_of u p ++ all_said us (port_after u p)
 
 -- A process that was there before a turn, and has been told of releases, was told last of each
 -- switch what its release is.
-abbrev pub IsUpToDate : List Use → List ℕ → State → Script → Type 0
-IsUpToDate uses text s script = (after_uses uses (bare true Away)).standing ≡ Here
-    → (attendance text s script (after_uses uses (bare true Away))).news ≡ None
+abbrev pub IsUpToDate : Option Duties → List Use → ToldTurn → State → Script → Type 0
+IsUpToDate duties uses t s script = (after_uses uses (bare true duties Away)).standing ≡ Here
+    → (attendance t s script (after_uses uses (bare true duties Away))).news ≡ None
     → (k : ℕ) → k < 32 → k < length s.switches
-    → last_said k None (all_said (uses ++ Attends text s script ∷ []) (bare true Away))
+    → last_said k None (all_said (uses ++ Attends t s script ∷ []) (bare true duties Away))
     ≡ Some (may_open s k, may_close s k)

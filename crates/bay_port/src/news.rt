@@ -15,10 +15,16 @@ pub enum Parting {
     QueueFull,
     /// A read or a write of the connection failed.
     LinkFailed,
+    /// The first line of a supervised process is not that of this bay with its key.
+    Foreign,
+    /// The moment of a line is too far from the server's.
+    Untimely,
+    /// No whole line came for as long as a supervised process may be silent.
+    Silent,
 }
 
 impl Parting {
-    /// Returns the number of the reason: 0, 120, 130 or 131.
+    /// Returns the number of the reason: 0, 120, or 130 to 134.
     pub fn code(&self) -> u8
         ensures { result ≡ code_of self.now }
     {
@@ -27,6 +33,9 @@ impl Parting {
             Parting::BadLine(_) => 120,
             Parting::QueueFull => 130,
             Parting::LinkFailed => 131,
+            Parting::Foreign => 132,
+            Parting::Untimely => 133,
+            Parting::Silent => 134,
         }
     }
 }

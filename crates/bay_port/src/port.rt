@@ -1,23 +1,23 @@
 // What is kept of the process.
-ghost use Rattle.std.specs.Prelude.{◌≡◌, [], is_some, false, not, IfOk, if◌then◌else◌};
+ghost use Rattle.std.specs.Prelude.{◌≡◌, false, None, IfOk, option_map};
 ghost use Rattle.bay_serve.specs.Calls.{Called};
-ghost use Rattle.bay_port.specs.Attending.{Does, Leads, first_part, line_part, offer_part, read_by, told_to};
-ghost use Rattle.bay_port.specs.Ports.{bare, shown_line, taken_front, taken_line};
-ghost use Rattle.bay_lines.specs.Fronts.{front};
+ghost use Rattle.bay_port.specs.Attending.{Does, Leads, first_part, greet_part, line_part, offer_part, quiet_part, read_by, told_to};
+ghost use Rattle.bay_port.specs.Ports.{StaysBound, begun, emptied, shown_line, taken_front, taken_line, taken_loss};
 ghost use Rattle.bay_port.specs.Ports as spec;
-ghost use Rattle.bay_port.specs.Telling.{told_text};
+ghost use Rattle.bay_lines.specs.Fronts.{front};
+ghost use Rattle.bay_port.specs.Telling.{lives_in, told_turn};
+ghost use Rattle.bay_port.specs.Watching.{answered, event_in, heard_at, line_in, unheard};
 
-use crate::fit::is_fit;
 use crate::news::Parting;
 use crate::releases::{ToldReleases, put_releases, told_if};
-use crate::sound::forgetting;
-use crate::telling::{Queue, put_told};
+use crate::telling::{Queue, put_alive, put_greeting, put_over, put_told};
+use crate::watching::{Duties, LineWord, Watched, judge, overlong};
 use bay_device::device::Device;
 use bay_lines::front::{Found, line_in_front};
 use bay_lines::kept::BoundedBuffer;
 use bay_lines::shown::Shown;
 use bay_serve::link::{Arrival, Link};
-use bay_serve::process::{ProcessEvent, read_process_event};
+use bay_serve::process::ProcessEvent;
 use bay_serve::told::Turn;
 use std::alloc::{AllocError, Global};
 use std::marker::Model;
@@ -36,35 +36,58 @@ pub const PROCESS: u16 = 1;
 pub enum Presence {
     /// It is not connected, and may come.
     Away,
-    /// It has gone; some switches may not be bad yet, and some inputs not FALSE.
+    /// It has gone, or has not come yet, and no turn was told that it is lost.
     Leaving,
     /// It is connected.
     Here,
 }
 
-/// What a turn is given of the process: an event, if there is one, and the line that tells of it, as
-/// a log shows it.
+/// What a turn is given of the process: whether it is lost, an event, if there is one, and the line
+/// that tells of it, as a log shows it.
 #[derive(Drop)]
 pub struct GivenEvent {
+    pub is_lost: bool,
     pub event: Option<ProcessEvent>,
     pub shown: Shown,
 }
 
 impl GivenEvent {
-    // Creates an event without a line.
-    fn alone(event: Option<ProcessEvent>) -> GivenEvent
-        ensures event { result.event ≡ event }
-        ensures shown { result.shown ≡ [] }
+    // Nothing is given, or that the process is lost.
+    fn none(is_lost: bool) -> GivenEvent
+        ensures lost { result.is_lost ≡ is_lost }
+        ensures event { result.event ≡ None }
+        ensures shown { result.shown ≡ shown_line None }
     {
         GivenEvent {
-            event,
+            is_lost,
+            event: None,
             shown: Shown::new(b""),
+        }
+    }
+
+    // Gives what a line reports, if anything.
+    fn of(word: LineWord, line: &[u8]) -> GivenEvent
+        ensures lost { result.is_lost ≡ false }
+        ensures event { result.event ≡ event_in word }
+        ensures shown { result.shown ≡ shown_line (line_in word line.now) }
+    {
+        let event = word.event();
+        let shown = if event.is_some() {
+            Shown::new(line)
+        } else {
+            Shown::new(b"")
+        };
+        GivenEvent {
+            is_lost: false,
+            event,
+            shown,
         }
     }
 }
 
 /// The port of a process: its state, what it has sent that no turn has taken, what is still to be
-/// sent to it, and which releases it was told last. The end of a line is looked for once.
+/// sent to it, which releases it was told last, and what is known of it if it is supervised. The end
+/// of a line is looked for once.
 #[derive(Drop)]
 pub struct Port {
     standing: Presence,
@@ -72,6 +95,7 @@ pub struct Port {
     found: Found,
     queue: Queue,
     told: Option<ToldReleases>,
+    watch: Option<Watched>,
 }
 
 impl Model for Port {
@@ -80,27 +104,54 @@ impl Model for Port {
     ghost Value = { PortData };
 
     ghost view = { λ p. record
-        { standing = p.standing; kept = p.kept; queue = p.queue; told = p.told } };
+        { standing = p.standing; kept = p.kept; queue = p.queue; told = p.told; watch = p.watch } };
 
     ghost use Rattle.bay_port.specs.Fit.{IsInFront};
 
     ghost invariant = { λ p. IsInFront p.kept p.found };
 }
 
+// Returns the state in which a port begins.
+fn first_standing(duties: &Option<Duties>) -> Presence
+    ensures { result ≡ spec.first_standing duties.now }
+{
+    match duties {
+        Some(_) => Presence::Leaving,
+        None => Presence::Away,
+    }
+}
+
+// Nothing is known yet of a process, if it is supervised.
+fn watch_for(duties: Option<Duties>) -> Option<Watched>
+    ensures { result ≡ option_map unheard duties }
+{
+    match duties {
+        Some(duties) => Some(Watched::new(duties)),
+        None => None,
+    }
+}
+
 impl Port {
     /// Creates a port to which a process may come, which is told of releases if `tells_releases` is
-    /// true. Allocates the room for what is kept and what is to be sent.
-    pub fn new(alloc: Global, tells_releases: bool) -> Result<Self, AllocError>
-        ensures { IfOk result (λ port. port ≡ bare tells_releases Presence.Away) }
+    /// true, and is supervised if it owes anything. Allocates the room for what is kept and what is to
+    /// be sent.
+    pub fn new(
+        alloc: Global,
+        tells_releases: bool,
+        duties: Option<Duties>,
+    ) -> Result<Self, AllocError>
+        ensures { IfOk result (λ port. port ≡ begun tells_releases duties) }
     {
         let kept = BoundedBuffer::new(alloc)?;
         let queue = BoundedBuffer::new(alloc)?;
+        let standing = first_standing(&duties);
         Ok(Port {
-            standing: Presence::Away,
+            standing,
             kept,
             found: Found::Waiting,
             queue,
             told: told_if(tells_releases),
+            watch: watch_for(duties),
         })
     }
 
@@ -111,83 +162,114 @@ impl Port {
         self.standing
     }
 
-    /// Whether the process has gone, and some switches may not be bad or some inputs not FALSE yet.
-    pub fn is_leaving(&self) -> bool
-        ensures { result ≡ spec.is_leaving self.now.standing }
-    {
-        self.standing == Presence::Leaving
-    }
-
     /// Returns how many octets are kept, and how many are waiting to be sent.
     pub fn sizes(&self) -> (usize, usize) {
         (self.kept.as_slice().len(), self.queue.as_slice().len())
     }
 
-    /// Whether a process is told of releases.
-    pub(crate) fn tells_releases(&self) -> bool
-        ensures { result ≡ is_some self.now.told }
-    {
-        self.told.is_some()
-    }
-
-    /// Sets the state of the process, and whether it is told of releases. Drops everything that is
-    /// kept or waiting to be sent, and forgets which releases were told.
-    pub(crate) fn stand(&mut self, standing: Presence, tells_releases: bool)
-        ensures { self.new ≡ bare tells_releases standing }
+    /// Sets the state of the process. Drops everything that is kept or waiting to be sent, and forgets
+    /// which releases were told and what is known of the process.
+    pub(crate) fn stand(&mut self, standing: Presence)
+        ensures { self.new ≡ emptied standing self.old }
     {
         self.standing = standing;
         self.kept.clear();
         self.found = Found::Waiting;
         self.queue.clear();
-        self.told = told_if(tells_releases);
+        self.told = told_if(self.told.is_some());
+        if let Some(watch) = &mut self.watch {
+            watch.forget();
+        }
     }
 
-    // Takes the first line of what was sent, if there is one. An invalid one stays.
-    fn take_front(&mut self, device: &Device) -> GivenEvent
+    // Takes the first line of what was sent, if there is one. One that ends the connection stays.
+    fn take_front(&mut self, device: &Device, now: u64) -> GivenEvent
+        ensures lost { result.is_lost
+            ≡ (taken_front device.now now (front self.old.kept) self.old).is_lost }
         ensures event { result.event
-            ≡ (taken_front device.now (front self.old.kept) self.old).event }
+            ≡ (taken_front device.now now (front self.old.kept) self.old).event }
         ensures shown { result.shown
-            ≡ shown_line (taken_front device.now (front self.old.kept) self.old).line }
-        ensures port { self.new ≡ (taken_front device.now (front self.old.kept) self.old).port }
+            ≡ shown_line (taken_front device.now now (front self.old.kept) self.old).line }
+        ensures port { self.new
+            ≡ (taken_front device.now now (front self.old.kept) self.old).port }
     {
         match self.found {
-            Found::Waiting => GivenEvent::alone(None),
-            Found::Overlong => GivenEvent::alone(None),
+            Found::Waiting => GivenEvent::none(false),
+            Found::Overlong => GivenEvent::none(false),
             Found::Whole { line, end } => {
                 let text = &self.kept.as_slice()[..line];
-                let event = read_process_event(device, text);
-                if event.is_none() && !text.is_empty() {
-                    return GivenEvent::alone(None);
-                }
-                let shown = Shown::new(text);
+                let Ok(word) = judge(&self.watch, device, now, text) else {
+                    return GivenEvent::none(false);
+                };
+                let given = GivenEvent::of(word, text);
                 self.kept.drop_front(end);
                 self.found = line_in_front(self.kept.as_slice());
-                GivenEvent { event, shown }
+                if let Some(watch) = &mut self.watch {
+                    watch.know(word);
+                }
+                given
             }
         }
     }
 
-    /// Takes what the port has for a turn.
-    pub fn take_line(&mut self, device: &Device) -> GivenEvent
-        ensures event { result.event ≡ (taken_line device.now self.old).event }
-        ensures shown { result.shown ≡ shown_line (taken_line device.now self.old).line }
-        ensures port { self.new ≡ (taken_line device.now self.old).port }
+    /// Takes what the port has for a turn at a moment: a line, or that the process is lost.
+    pub fn take_line(&mut self, device: &Device, now: u64) -> GivenEvent
+        ensures lost { result.is_lost ≡ (taken_line device.now now self.old).is_lost }
+        ensures event { result.event ≡ (taken_line device.now now self.old).event }
+        ensures shown { result.shown ≡ shown_line (taken_line device.now now self.old).line }
+        ensures port { self.new ≡ (taken_line device.now now self.old).port }
     {
         match self.standing {
-            Presence::Away => GivenEvent::alone(None),
-            Presence::Leaving => GivenEvent::alone(forgetting(device)),
-            Presence::Here => self.take_front(device),
+            Presence::Away => GivenEvent::none(false),
+            Presence::Leaving => {
+                self.stand(Presence::Away);
+                GivenEvent::none(true)
+            }
+            Presence::Here => self.take_front(device, now),
         }
     }
 
-    /// Puts what a turn reports into the queue as a whole, and then the releases that have changed,
-    /// if the process is told of them.
-    pub(crate) fn tell(&mut self, device: &Device, moment: u64, turn: &Turn) -> Result<(), Parting>
-        ensures { Leads (told_to (told_text moment turn.now device.now) device.now self.old).after
-            self.new result }
+    /// Takes only that the process is lost, for a turn that has a line of a trace. Returns whether it
+    /// is.
+    pub fn take_loss(&mut self) -> bool
+        ensures lost { result ≡ (taken_loss self.old).is_lost }
+        ensures port { self.new ≡ (taken_loss self.old).port }
     {
-        if put_told(&mut self.queue, device, moment, turn)
+        let is_lost = self.standing == Presence::Leaving;
+        if is_lost {
+            self.stand(Presence::Away);
+        }
+        is_lost
+    }
+
+    // Returns whether the process is to be answered that the server lives, and forgets that.
+    fn answer(&mut self) -> bool
+        ensures lives { result ≡ lives_in self.old.watch }
+        ensures after { self.new ≡ record self.old { watch = answered self.old.watch } }
+        ensures bound { StaysBound self.old self.new }
+    {
+        match &mut self.watch {
+            Some(watch) => watch.answer(),
+            None => false,
+        }
+    }
+
+    /// Puts what a process is told of a turn into the queue as a whole.
+    pub(crate) fn tell(&mut self, device: &Device, moment: u64, turn: &Turn) -> Result<(), Parting>
+        ensures leads { Leads (told_to (told_turn moment turn.now device.now) device.now self.old).after
+            self.new result }
+        ensures bound { StaysBound self.old self.new }
+    {
+        let over = if self.watch.is_some() {
+            turn.over
+        } else {
+            None
+        };
+        let lives = self.answer();
+        if put_over(&mut self.queue, device, moment, over)
+            && put_told(&mut self.queue, device, moment, turn)
             && put_releases(&mut self.queue, device, &mut self.told)
+            && put_alive(&mut self.queue, moment, lives)
         {
             Ok(())
         } else {
@@ -195,10 +277,34 @@ impl Port {
         }
     }
 
+    /// Greets a process that was accepted, if it is supervised.
+    pub(crate) fn greet(&mut self, device: &Device, moment: u64) -> Result<(), Parting>
+        ensures leads { Leads (greet_part moment device.now self.old).after self.new result }
+        ensures bound { StaysBound self.old self.new }
+    {
+        if put_greeting(&mut self.queue, device, moment, &self.watch) {
+            self.hear(moment);
+            Ok(())
+        } else {
+            Err(Parting::QueueFull)
+        }
+    }
+
+    // The process was heard at a moment.
+    fn hear(&mut self, moment: u64)
+        ensures after { self.new ≡ record self.old { watch = heard_at moment self.old.watch } }
+        ensures bound { StaysBound self.old self.new }
+    {
+        if let Some(watch) = &mut self.watch {
+            watch.hear(moment);
+        }
+    }
+
     /// Offers what is waiting to be sent, if there is anything.
     pub(crate) fn offer<L: Link>(&mut self, link: &mut L) -> Result<(), Parting>
-        ensures { Does (Called L.does L.failures) offer_part link.old link.new self.old self.new
-            result }
+        ensures does { Does (Called L.does L.failures) offer_part link.old link.new self.old
+            self.new result }
+        ensures bound { StaysBound self.old self.new }
     {
         if self.queue.as_slice().is_empty() {
             return Ok(());
@@ -214,8 +320,9 @@ impl Port {
 
     /// Reads the process once, if no whole line is kept.
     pub(crate) fn read<L: Link>(&mut self, link: &mut L) -> Result<(), Parting>
-        ensures { Does (Called L.does L.failures) read_by link.old link.new self.old self.new
+        ensures does { Does (Called L.does L.failures) read_by link.old link.new self.old self.new
             result }
+        ensures bound { StaysBound self.old self.new }
     {
         if self.found != Found::Waiting {
             return Ok(());
@@ -233,30 +340,46 @@ impl Port {
         }
     }
 
-    /// Reads a process that was accepted. Reads it twice, since one that has gone while it waited
-    /// has left its last octets and then its end.
-    pub(crate) fn read_first<L: Link>(&mut self, link: &mut L) -> Result<(), Parting>
-        ensures { Does (Called L.does L.failures) first_part link.old link.new self.old self.new
-            result }
+    /// Greets and reads a process that was accepted. Reads it twice, since one that has gone while it
+    /// waited has left its last octets and then its end.
+    pub(crate) fn begin<L: Link>(
+        &mut self,
+        link: &mut L,
+        device: &Device,
+        moment: u64,
+    ) -> Result<(), Parting>
+        ensures does { Does (Called L.does L.failures) (first_part moment device.now) link.old
+            link.new self.old self.new result }
+        ensures bound { StaysBound self.old self.new }
     {
+        self.greet(device, moment)?;
         self.read(link)?;
         self.read(link)
     }
 
-    /// Checks the first line, if there is one. A line that is wrong is told.
-    pub(crate) fn check(&self) -> Result<(), Parting>
-        ensures { Leads (line_part self.now).after self.now result }
+    // Checks that the process has not been silent for too long.
+    fn check_silence(&self, moment: u64) -> Result<(), Parting>
+        ensures { Leads (quiet_part moment self.now.watch self.now).after self.now result }
+    {
+        match &self.watch {
+            Some(watch) if !watch.is_quiet_enough(moment) => Err(Parting::Silent),
+            _ => Ok(()),
+        }
+    }
+
+    /// Checks the first line, if there is one, and otherwise the time since the last. Why the
+    /// connection ends is told.
+    pub(crate) fn check(&mut self, device: &Device, moment: u64) -> Result<(), Parting>
+        ensures leads { Leads (line_part moment device.now self.old).after self.new result }
+        ensures bound { StaysBound self.old self.new }
     {
         match self.found {
-            Found::Waiting => Ok(()),
-            Found::Overlong => Err(Parting::BadLine(Shown::new(self.kept.as_slice()))),
+            Found::Waiting => self.check_silence(moment),
+            Found::Overlong => Err(overlong(&self.watch, self.kept.as_slice())),
             Found::Whole { line, .. } => {
-                let text = &self.kept.as_slice()[..line];
-                if is_fit(text) {
-                    Ok(())
-                } else {
-                    Err(Parting::BadLine(Shown::new(text)))
-                }
+                judge(&self.watch, device, moment, &self.kept.as_slice()[..line])?;
+                self.hear(moment);
+                Ok(())
             }
         }
     }

@@ -1,8 +1,10 @@
 // What a process is told of a turn is put into its queue.
-ghost use Rattle.std.specs.Prelude.{◌≡◌};
+ghost use Rattle.std.specs.Prelude.{◌≡◌, slice_get};
 ghost use Rattle.bay_report.specs.Lines.{command_line, command_text, commands_text, refusal_line};
-ghost use Rattle.bay_port.specs.Telling.{PutsWhole, refusal_text, text_of, told_text};
+ghost use Rattle.bay_port.specs.Telling.{PutsWhole, alive_text, greeting, over_line, over_text, refusal_text, text_of, told_text};
+ghost use Rattle.bay_port.specs.Telling as spec;
 
+use crate::watching::Watched;
 use bay_device::device::Device;
 use bay_lines::kept::BoundedBuffer;
 use bay_nodes::switch::Operation;
@@ -108,4 +110,82 @@ pub fn put_told(queue: &mut Queue, device: &Device, moment: u64, turn: &Turn) ->
         return false;
     }
     put_commands(queue, device, moment, turn.commands.as_slice())
+}
+
+// Appends that the operate of the switch with this id is over.
+fn put_over_line(queue: &mut Queue, moment: u64, id: &str) -> bool
+    ensures { PutsWhole queue.old (over_line moment id.now) queue.new result }
+{
+    let mut moments = Buffer::new();
+    put_parts(
+        queue,
+        &[
+            moments.format(moment).as_bytes(),
+            b" over ",
+            id.as_bytes(),
+            b"\n",
+        ],
+    )
+}
+
+// Appends that the operate of the switch at an index is over.
+fn put_over_of(queue: &mut Queue, device: &Device, moment: u64, switch: usize) -> bool
+    ensures { PutsWhole queue.old
+        (spec.over_part moment (slice_get device.now.switches switch)) queue.new result }
+{
+    match device.id(switch) {
+        Some(id) => put_over_line(queue, moment, id),
+        None => put_parts(queue, &[]),
+    }
+}
+
+/// Appends that the operate of a switch is over, if one is. Returns false if there is not room for
+/// it.
+pub fn put_over(queue: &mut Queue, device: &Device, moment: u64, over: Option<usize>) -> bool
+    ensures { PutsWhole queue.old (over_text moment device.now over) queue.new result }
+{
+    match over {
+        Some(switch) => put_over_of(queue, device, moment, switch),
+        None => put_parts(queue, &[]),
+    }
+}
+
+/// Appends that the server lives, if that is to be told. Returns false if there is not room for it.
+pub fn put_alive(queue: &mut Queue, moment: u64, lives: bool) -> bool
+    ensures { PutsWhole queue.old (alive_text moment lives) queue.new result }
+{
+    if !lives {
+        return put_parts(queue, &[]);
+    }
+    let mut moments = Buffer::new();
+    put_parts(queue, &[moments.format(moment).as_bytes(), b" alive\n"])
+}
+
+/// Appends how a process is greeted, if it is supervised. Returns false if there is not room for it.
+pub fn put_greeting(
+    queue: &mut Queue,
+    device: &Device,
+    moment: u64,
+    watch: &Option<Watched>,
+) -> bool
+    ensures { PutsWhole queue.old (greeting moment device.now watch.now) queue.new result }
+{
+    let Some(watch) = watch else {
+        return put_parts(queue, &[]);
+    };
+    let mut moments = Buffer::new();
+    let mut limits = Buffer::new();
+    put_parts(
+        queue,
+        &[
+            moments.format(moment).as_bytes(),
+            b" process ",
+            limits.format(watch.limit_ms()).as_bytes(),
+            b" ",
+            device.domain().as_bytes(),
+            b" ",
+            device.revision().as_bytes(),
+            b"\n",
+        ],
+    )
 }

@@ -4,14 +4,15 @@ use Rattle.bay_port.proofs.attending.accept.Goals as goal
 
 pub returns-in-Ok-Some : goal.returns-in-Ok-Some
 returns-in-Ok-Some g c =
-    accepts-one _ _ _ _ _ _ _ _ (rw c.in-Ok-Some.field-0-is at c.in-Ok-Some.ensures.call)
-    c.welcome.ensures
+    accepts-one _ c.args.moment c.args.device.now _ _ _ _ _ _ _
+    (rw c.in-Ok-Some.field-0-is at c.in-Ok-Some.ensures.call) c.welcome.ensures
 
 pub returns-in-Ok-None : goal.returns-in-Ok-None
 returns-in-Ok-None g c =
-    accepts-none _ _ _ _ (Some None) refl
+    accepts-none _ c.args.moment c.args.device.now _ _ _ (Some None) refl
     (rw c.in-Ok-None.field-0-is at c.in-Ok-None.ensures.call)
 
 pub returns-in-Err : goal.returns-in-Err
 returns-in-Err g c =
-    accepts-none _ _ _ _ None refl (rw c.in-Err.is at c.accept.ensures.call)
+    accepts-none _ c.args.moment c.args.device.now _ _ _ None refl
+    (rw c.in-Err.is at c.accept.ensures.call)

@@ -1,35 +1,51 @@
 use Rattle.std.proofs.lemmas.Result.{err_from_is_err_and}
 use Rattle.bay_port.proofs.AttendLemmas.{talks-unoffered, talks-unread, talks-untold, talks-whole}
-use Rattle.bay_port.specs.Telling.{told_text}
+use Rattle.bay_port.specs.Telling.{told_turn}
+use Rattle.bay_port.proofs.BoundLemmas.{bound-trans}
 use Rattle.bay_port.proofs.attending.talk.Goals as goal
 
-pub returns-in_err-tell : goal.returns-in_err-tell
-returns-in_err-tell g c =
+pub returns-in_err-tell-clause-does : goal.returns-in_err-tell-clause-does
+returns-in_err-tell-clause-does g c =
     let p = err_from_is_err_and c.from_residual.result c.from_residual.ensures.1 in
-    let text = told_text c.args.moment c.args.turn.now c.args.device.now in
-    rw (p.1, p.2) (talks-untold _ text c.args.device.now _ _ _ _ c.in_err-tell.ensures)
+    let text = told_turn c.args.moment c.args.turn.now c.args.device.now in
+    rw (p.1, p.2) (talks-untold _ text c.args.device.now _ _ _ _ c.in_err-tell.ensures.leads)
 
-pub returns-in_err-offer : goal.returns-in_err-offer
-returns-in_err-offer g c =
+pub returns-in_err-offer-clause-does : goal.returns-in_err-offer-clause-does
+returns-in_err-offer-clause-does g c =
     let p =
     err_from_is_err_and c.from_residual-in_err-offer.result c.from_residual-in_err-offer.ensures.1
     in
-    let text = told_text c.args.moment c.args.turn.now c.args.device.now in
+    let text = told_turn c.args.moment c.args.turn.now c.args.device.now in
     rw (p.1, p.2)
-    (talks-unoffered _ text c.args.device.now _ _ _ c.in_ok-tell.ensures _ _ _
-    c.in_err-offer.ensures)
+    (talks-unoffered _ text c.args.device.now _ _ _ c.in_ok-tell.ensures.leads _ _ _
+    c.in_err-offer.ensures.does)
 
-pub returns-in_err-read : goal.returns-in_err-read
-returns-in_err-read g c =
+pub returns-in_err-read-clause-does : goal.returns-in_err-read-clause-does
+returns-in_err-read-clause-does g c =
     let p =
     err_from_is_err_and c.from_residual-in_err-read.result c.from_residual-in_err-read.ensures.1 in
-    let text = told_text c.args.moment c.args.turn.now c.args.device.now in
+    let text = told_turn c.args.moment c.args.turn.now c.args.device.now in
     rw (p.1, p.2)
-    (talks-unread _ text c.args.device.now _ _ _ c.in_ok-tell.ensures _ _ c.in_ok-offer.ensures _ _
-    _ c.in_err-read.ensures)
+    (talks-unread _ text c.args.device.now _ _ _ c.in_ok-tell.ensures.leads _ _ c.in_ok-offer.ensures.does _ _
+    _ c.in_err-read.ensures.does)
 
-pub returns : goal.returns
-returns g c =
-    let text = told_text c.args.moment c.args.turn.now c.args.device.now in
-    talks-whole _ text c.args.device.now _ _ _ c.in_ok-tell.ensures _ _ c.in_ok-offer.ensures _ _ _
-    _ c.in_ok-read.ensures c.check.ensures
+pub returns-clause-does : goal.returns-clause-does
+returns-clause-does g c =
+    let text = told_turn c.args.moment c.args.turn.now c.args.device.now in
+    talks-whole _ text c.args.device.now _ _ _ c.in_ok-tell.ensures.leads _ _ c.in_ok-offer.ensures.does _ _ _
+    _ c.in_ok-read.ensures.does c.check.ensures.leads
+
+pub returns-in_err-offer-clause-bound : goal.returns-in_err-offer-clause-bound
+returns-in_err-offer-clause-bound g c =
+    bound-trans _ _ _ c.in_ok-tell.ensures.bound c.in_err-offer.ensures.bound
+
+pub returns-in_err-read-clause-bound : goal.returns-in_err-read-clause-bound
+returns-in_err-read-clause-bound g c =
+    bound-trans _ _ _ c.in_ok-tell.ensures.bound
+    (bound-trans _ _ _ c.in_ok-offer.ensures.bound c.in_err-read.ensures.bound)
+
+pub returns-clause-bound : goal.returns-clause-bound
+returns-clause-bound g c =
+    bound-trans _ _ _ c.in_ok-tell.ensures.bound
+    (bound-trans _ _ _ c.in_ok-offer.ensures.bound
+    (bound-trans _ _ _ c.in_ok-read.ensures.bound c.check.ensures.bound))

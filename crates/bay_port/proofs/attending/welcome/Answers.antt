@@ -1,13 +1,19 @@
+use Rattle.std.proofs.Common.{ap, ◌∙◌}
 use Rattle.bay_port.proofs.AttendLemmas.{welcomes-gone, welcomes-taken}
+use Rattle.bay_port.proofs.BoundLemmas.{emptied-same, emptied-twice}
+use Rattle.bay_port.specs.Ports.{emptied}
+use Rattle.bay_port.specs.declared.port.Presence.TheVariants.{Away, Here}
 use Rattle.bay_port.proofs.attending.welcome.Goals as goal
 
 pub returns-in-Ok : goal.returns-in-Ok
 returns-in-Ok g c =
-    welcomes-taken _ _ _ c.args.port.now _
-    (rw (c.stand.ensures, c.tells_releases-tells.ensures) at c.in-Ok.ensures)
+    welcomes-taken _ c.args.moment c.args.device.now _ _ c.args.port.now _
+    (rw c.stand.ensures at c.in-Ok.ensures.does)
 
 pub returns-in-Err : goal.returns-in-Err
 returns-in-Err g c =
-    rw (c.stand-in-Err.ensures, c.tells_releases-tells.ensures)
-    (welcomes-gone _ _ _ _ c.args.port.now _ _
-    (rw (c.stand.ensures, c.tells_releases-tells.ensures) at c.in-Err.ensures) c.close.ensures)
+    let same = c.stand-in-Err.ensures ∙ emptied-same Away _ _ c.in-Err.ensures.bound
+    ∙ ap (emptied Away) c.stand.ensures ∙ emptied-twice Away Here c.args.port.now in
+    rw same
+    (welcomes-gone _ c.args.moment c.args.device.now _ _ _ c.args.port.now _ _
+    (rw c.stand.ensures at c.in-Err.ensures.does) c.close.ensures)

@@ -4,8 +4,8 @@ use Rattle.bay_port.specs.Ports.{PortData}
 use Rattle.bay_port.proofs.AttendLemmas.{offers-some}
 use Rattle.bay_port.proofs.port.Port.offer.Goals as goal
 
-pub returns-in-Ok : goal.returns-in-Ok
-returns-in-Ok g c =
+pub returns-in-Ok-clause-does : goal.returns-in-Ok-clause-does
+returns-in-Ok-clause-does g c =
     let before : PortData = c.args.self.now in
     let some : (length before.queue == 0) ≡ false = search rules in
     let call : Called g.L.Link.does g.L.Link.failures c.args.link.now

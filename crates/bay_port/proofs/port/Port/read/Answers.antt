@@ -7,8 +7,8 @@ use Rattle.bay_port.specs.Ports.{PortData}
 use Rattle.bay_port.proofs.AttendLemmas.{reads-some}
 use Rattle.bay_port.proofs.port.Port.read.Goals as goal
 
-pub returns-in-Ok-Bytes : goal.returns-in-Ok-Bytes
-returns-in-Ok-Bytes g c =
+pub returns-in-Ok-Bytes-clause-does : goal.returns-in-Ok-Bytes-clause-does
+returns-in-Ok-Bytes-clause-does g c =
     let before : PortData = c.args.self.now in
     let octets = take c.in-Ok-Bytes.count c.read.new.room in
     let waits : is_waiting (front before.kept) ≡ true = search rules in

@@ -1,0 +1,614 @@
+-- Lemmas on what holds of a supervised process.
+use Rattle.std.proofs.Common.{◌≡◌, ℕ, ◌+◌, ◌-◌, ◌≤◌, Bool, ◌&&◌, true, false, nat_le, drop, if◌then◌else◌, List, [], ◌∷◌, ◌++◌, Option, None, Some, option_map, Result, Ok, Err, refl, sym, ap, ◌∙◌, subst, arith}
+use Rattle.std.proofs.lemmas.Bool.{and_parts}
+use Rattle.std.proofs.lemmas.Bool.Decides.{nat_tests}
+use Rattle.std.specs.declared.net.socket_addr.SocketAddrV4.{SocketAddrV4}
+use Rattle.bay_device.specs.Device.{State}
+use Rattle.bay_lines.specs.Cuttings.{AreLines, Cutting, LosesNothing, cutting_of}
+use Rattle.bay_lines.specs.Fronts.{Front, Waiting, Overlong, Whole, front}
+use Rattle.bay_lines.proofs.FrontLemmas.{nothing-is-lost}
+use Rattle.bay_serve.specs.Calls.{Call, ReadOutcome, Octets, Silence, Over, Broken}
+use Rattle.bay_port.specs.Introduction.{introduced_at}
+use Rattle.bay_serve.specs.Supervised.{timed_line_of}
+use Rattle.bay_serve.specs.declared.process.ProcessEvent.{ProcessEvent}
+use Rattle.bay_serve.specs.declared.supervised.TimedLine.{TimedLine}
+use Rattle.bay_port.specs.Attending.{Attended, AttendedPart, Script, accepted_in, all_told, attendance, attended_as, attended_here, behind, closed_or_kept, first_part, greet_part, line_in_front, line_judged, line_part, offer_part, offered_of, on_heard, quiet_part, read_by, taken_or_closed, talk_part, told_to}
+use Rattle.bay_port.specs.Fit.{is_waiting}
+use Rattle.bay_port.specs.Ports.{PortData, Taken, bare, emptied, taken_as, taken_by, taken_front, taken_line}
+use Rattle.bay_port.specs.Releases.{told_after}
+use Rattle.bay_port.specs.Supervision.{AreOf, IsOfThisBay, IsOnTime}
+use Rattle.bay_port.specs.Telling.{ToldTurn, fits_in, greeting}
+use Rattle.bay_port.specs.Uses.{StaysHere, Use, Takes, Attends, after_uses, octets_given, port_after}
+use Rattle.bay_port.proofs.UseLemmas.{attends-keep, comes-keep, cut-is, cut_of, judged_cut, moves_of, starts-follow}
+use Rattle.bay_port.specs.Watching.{Duties, Watched, answered, event_in, heard_at, introduction, is_timely, judged, known_behind, known_by, overlong, report, timely, unheard, word_of}
+use Rattle.bay_port.specs.declared.news.Parting.{Parting}
+use Rattle.bay_port.specs.declared.news.Parting.TheVariants.{Ended, QueueFull, LinkFailed, Silent}
+use Rattle.bay_port.specs.declared.port.Presence.{Presence}
+use Rattle.bay_port.specs.declared.port.Presence.TheVariants.{Away, Leaving, Here}
+use Rattle.bay_port.specs.declared.watching.LineWord.{LineWord}
+use Rattle.bay_port.specs.declared.watching.LineWord.TheVariants.{Blank, Reports, Introduces, Lives}
+
+-- ---- no old word
+
+timely-near : (limit now moment : ℕ) (word is : LineWord) → timely limit now moment word ≡ Ok is
+    → is_timely limit now moment ≡ true
+timely-near limit now moment word is e = by-time (is_timely limit now moment) refl
+  where
+    by-time : (v : Bool) → is_timely limit now moment ≡ v → is_timely limit now moment ≡ true
+    by-time true t = t
+    by-time false t = let none : Err _ ≡ Ok is = rw t at e in absurd cc
+
+timely-word : (limit now moment : ℕ) (word is : LineWord) → timely limit now moment word ≡ Ok is
+    → word ≡ is
+timely-word limit now moment word is e =
+    let near = timely-near limit now moment word is e in
+    let same : (let r : Result LineWord Parting = Ok word in r) ≡ Ok is = rw near at e in cc
+
+-- a line that reports what happened
+record ReportsOf (s : State) (now : ℕ) (w : Watched) (line : List ℕ) (event : ProcessEvent)
+    : Type 0 where
+  introduced : w.introduced ≡ true
+  timed : TimedLine
+  reads : timed_line_of s line ≡ Some timed
+  event_is : timed.event ≡ Some event
+  near : is_timely w.duties.limit now timed.moment ≡ true
+
+word-event : (event : Option ProcessEvent) → event_in (word_of event) ≡ event
+word-event None = refl
+word-event (Some event) = refl
+
+report-of : (s : State) (now : ℕ) (w : Watched) (line : List ℕ) (word : LineWord)
+    (event : ProcessEvent) → w.introduced ≡ true
+    → report line w.duties now (timed_line_of s line) ≡ Ok word → event_in word ≡ Some event
+    → ReportsOf s now w line event
+report-of s now w line word event known e is = by-line (timed_line_of s line) refl e
+  where
+    by-line : (o : Option TimedLine) → timed_line_of s line ≡ o
+        → report line w.duties now o ≡ Ok word → ReportsOf s now w line event
+    by-line None read r = absurd cc
+    by-line (Some timed) read r =
+        let same = timely-word w.duties.limit now timed.moment (word_of timed.event) word r in
+        record {
+          introduced = known;
+          timed = timed;
+          reads = read;
+          event_is = sym (word-event timed.event) ∙ ap event_in same ∙ is;
+          near = timely-near w.duties.limit now timed.moment (word_of timed.event) word r;
+        }
+
+introduction-none : (duties : Duties) (now : ℕ) (o : Option ℕ) (word : LineWord)
+    (event : ProcessEvent) → introduction duties now o ≡ Ok word → event_in word ≡ Some event → ⊥
+introduction-none duties now None word event e is = absurd cc
+introduction-none duties now (Some moment) word event e is =
+    let same = timely-word duties.limit now moment Introduces word e in
+    let none : None ≡ Some event = ap event_in same ∙ is in cc
+
+judged-of : (s : State) (now : ℕ) (w : Watched) (line : List ℕ) (word : LineWord)
+    (event : ProcessEvent) → judged (Some w) s now line ≡ Ok word → event_in word ≡ Some event
+    → ReportsOf s now w line event
+judged-of s now w line word event e is = by-known w.introduced refl
+  where
+    by-known : (v : Bool) → w.introduced ≡ v → ReportsOf s now w line event
+    by-known true known = report-of s now w line word event known (rw known at e) is
+    by-known false known =
+        absurd (introduction-none w.duties now
+        (introduced_at w.duties.key s.domain s.revision line) word event (rw known at e) is)
+
+by-on-time : (s : State) (now : ℕ) (p : PortData) (w : Watched) (event : ProcessEvent)
+    (line rest : List ℕ) (r : Result LineWord Parting) → front p.kept ≡ Whole line rest
+    → judged (Some w) s now line ≡ r → (taken_by r line rest p).event ≡ Some event
+    → IsOnTime s now p w event
+by-on-time s now p w event line rest (Err why) there is e = absurd cc
+by-on-time s now p w event line rest (Ok word) there is e =
+    let r = judged-of s now w line word event is e in
+    let both = and_parts (nat_le (now - r.timed.moment) w.duties.limit)
+    (nat_le (r.timed.moment - now) w.duties.limit) r.near in
+    let old = both.0 in
+    let early = both.1 in
+    record {
+      introduced = r.introduced;
+      line = line;
+      rest = rest;
+      there = there;
+      timed = r.timed;
+      reads = r.reads;
+      event_is = r.event_is;
+      not_old = grind (arith, nat_tests);
+      not_early = grind (arith, nat_tests);
+    }
+
+front-on-time : (s : State) (now : ℕ) (p : PortData) (w : Watched) (event : ProcessEvent)
+    (f : Front) → front p.kept ≡ f → p.watch ≡ Some w
+    → (taken_front s now f p).event ≡ Some event → IsOnTime s now p w event
+front-on-time s now p w event Waiting there watched e = absurd cc
+front-on-time s now p w event Overlong there watched e = absurd cc
+front-on-time s now p w event (Whole line rest) there watched e =
+    by-on-time s now p w event line rest (judged p.watch s now line) there
+    (ap (λ o. judged o s now line) (sym watched)) e
+
+as-on-time : (standing : Presence) (s : State) (now : ℕ) (p : PortData) (w : Watched)
+    (event : ProcessEvent) → p.watch ≡ Some w → (taken_as standing s now p).event ≡ Some event
+    → IsOnTime s now p w event
+as-on-time Away s now p w event watched e = absurd cc
+as-on-time Leaving s now p w event watched e = absurd cc
+as-on-time Here s now p w event watched e =
+    front-on-time s now p w event (front p.kept) refl watched e
+
+pub is-on-time : (s : State) (now : ℕ) (p : PortData) (w : Watched) (event : ProcessEvent)
+    → p.watch ≡ Some w → (taken_line s now p).event ≡ Some event → IsOnTime s now p w event
+is-on-time s now p w event watched e = as-on-time p.standing s now p w event watched e
+
+-- ---- what is known of a process while it is there
+
+-- what is known stays, but for when it was heard and whether it said that it lives
+record SameWatch (w : Watched) (watch : Option Watched) : Type 0 where
+  later : Watched
+  is : watch ≡ Some later
+  introduced : later.introduced ≡ w.introduced
+  duties : later.duties ≡ w.duties
+
+same-watch : (w : Watched) (watch : Option Watched) → watch ≡ Some w → SameWatch w watch
+same-watch w watch is = record { later = w; is = is; introduced = refl; duties = refl }
+
+heard-watch : (now : ℕ) (w : Watched) (watch : Option Watched) → SameWatch w watch
+    → SameWatch w (heard_at now watch)
+heard-watch now w watch h = record {
+  later = record h.later { heard = now };
+  is = ap (heard_at now) h.is;
+  introduced = h.introduced;
+  duties = h.duties;
+}
+
+-- unless a part led to a closing
+abbrev Steady : Watched → Result PortData Parting → Type 0
+Steady w r = (q : PortData) → r ≡ Ok q → SameWatch w q.watch
+
+steady-port : (w : Watched) (p : PortData) → SameWatch w p.watch → Steady w (Ok p)
+steady-port w p h q e =
+    let is : p ≡ q = cc in subst (λ (d : PortData). SameWatch w d.watch) is h
+
+steady-closed : (w : Watched) (why : Parting) → Steady w (Err why)
+steady-closed w why q e = absurd cc
+
+steady-behind : (w : Watched) (r : Result PortData Parting) (calls : List Call)
+    (f : PortData → AttendedPart) → Steady w r
+    → ((p : PortData) → SameWatch w p.watch → Steady w (f p).after)
+    → (let b : AttendedPart = behind (record { after = r; calls = calls }) f in Steady w b.after)
+steady-behind w (Err why) calls f h next = steady-closed w why
+steady-behind w (Ok p) calls f h next = next p (h p refl)
+
+steady-told : (w : Watched) (t : ToldTurn) (s : State) (p : PortData) → SameWatch w p.watch
+    → Steady w (told_to t s p).after
+steady-told w t s p h = by-room (fits_in p.queue (all_told t s p)) refl
+  where
+    told : PortData
+    told = record p {
+      queue = p.queue ++ all_told t s p;
+      told = told_after s p.told;
+      watch = answered p.watch;
+    }
+
+    by-room : (v : Bool) → fits_in p.queue (all_told t s p) ≡ v → Steady w (told_to t s p).after
+    by-room true e = rw e (steady-port w told (record {
+      later = record h.later { lives = false };
+      is = ap answered h.is;
+      introduced = h.introduced;
+      duties = h.duties;
+    }))
+    by-room false e = rw e (steady-closed w QueueFull)
+
+steady-offered : (w : Watched) (queue : List ℕ) (taken : Option ℕ) (p : PortData)
+    → SameWatch w p.watch → Steady w (offered_of queue taken p).after
+steady-offered w [] taken p h = steady-port w p h
+steady-offered w (b ∷ bs) None p h = steady-closed w LinkFailed
+steady-offered w (b ∷ bs) (Some n) p h =
+    steady-port w (record p { queue = drop n p.queue }) h
+
+steady-read : (w : Watched) (heard : ReadOutcome) (p : PortData) → SameWatch w p.watch
+    → Steady w (read_by heard p).after
+steady-read w heard p h = by-front (is_waiting (front p.kept)) refl
+  where
+    by-heard : (o : ReadOutcome) (calls : List Call) → Steady w (on_heard o p calls).after
+    by-heard (Octets octets) calls =
+        steady-port w (record p { kept = p.kept ++ octets }) h
+    by-heard Silence calls = steady-port w p h
+    by-heard Over calls = steady-closed w Ended
+    by-heard Broken calls = steady-closed w LinkFailed
+
+    by-front : (v : Bool) → is_waiting (front p.kept) ≡ v → Steady w (read_by heard p).after
+    by-front true e = rw e (by-heard heard _)
+    by-front false e = rw e (steady-port w p h)
+
+steady-quiet : (w : Watched) (now : ℕ) (watch : Option Watched) (p : PortData)
+    → SameWatch w p.watch → Steady w (quiet_part now watch p).after
+steady-quiet w now None p h = steady-port w p h
+steady-quiet w now (Some v) p h = by-span (nat_le (now - v.heard) v.duties.limit) refl
+  where
+    by-span : (b : Bool) → nat_le (now - v.heard) v.duties.limit ≡ b
+        → Steady w (quiet_part now (Some v) p).after
+    by-span true e = rw e (steady-port w p h)
+    by-span false e = rw e (steady-closed w Silent)
+
+steady-judged : (w : Watched) (now : ℕ) (r : Result LineWord Parting) (p : PortData)
+    → SameWatch w p.watch → Steady w (line_judged now r p).after
+steady-judged w now (Err why) p h = steady-closed w why
+steady-judged w now (Ok word) p h =
+    steady-port w (record p { watch = heard_at now p.watch }) (heard-watch now w p.watch h)
+
+steady-checked : (w : Watched) (now : ℕ) (s : State) (p : PortData) → SameWatch w p.watch
+    → Steady w (line_part now s p).after
+steady-checked w now s p h = by-front (front p.kept)
+  where
+    by-front : (f : Front) → Steady w (line_in_front now s f p).after
+    by-front Waiting = steady-quiet w now p.watch p h
+    by-front Overlong = steady-closed w (overlong p.watch p.kept)
+    by-front (Whole line rest) = steady-judged w now (judged p.watch s now line) p h
+
+steady-greeted : (w : Watched) (now : ℕ) (s : State) (p : PortData) → SameWatch w p.watch
+    → Steady w (greet_part now s p).after
+steady-greeted w now s p h = by-room (fits_in p.queue (greeting now s p.watch)) refl
+  where
+    greeted : PortData
+    greeted =
+        record p { queue = p.queue ++ greeting now s p.watch; watch = heard_at now p.watch }
+
+    by-room : (v : Bool) → fits_in p.queue (greeting now s p.watch) ≡ v
+        → Steady w (greet_part now s p).after
+    by-room true e = rw e (steady-port w greeted (heard-watch now w p.watch h))
+    by-room false e = rw e (steady-closed w QueueFull)
+
+steady-talked : (w : Watched) (t : ToldTurn) (s : State) (answers : Option ℕ × ReadOutcome)
+    (p : PortData) → SameWatch w p.watch → Steady w (talk_part t s answers p).after
+steady-talked w t s answers p h =
+    let a = told_to t s p in
+    let b = behind a (offer_part answers.0) in
+    let c = behind b (read_by answers.1) in
+    steady-behind w c.after c.calls (line_part t.now s)
+    (steady-behind w b.after b.calls (read_by answers.1)
+    (steady-behind w a.after a.calls (offer_part answers.0) (steady-told w t s p h)
+    (λ q k. steady-offered w q.queue answers.0 q k))
+    (λ q k. steady-read w answers.1 q k))
+    (λ q k. steady-checked w t.now s q k)
+
+steady-begun : (w : Watched) (now : ℕ) (s : State) (answers : ReadOutcome × ReadOutcome)
+    (p : PortData) → SameWatch w p.watch → Steady w (first_part now s answers p).after
+steady-begun w now s answers p h =
+    let a = greet_part now s p in
+    let b = behind a (read_by answers.0) in
+    steady-behind w b.after b.calls (read_by answers.1)
+    (steady-behind w a.after a.calls (read_by answers.0) (steady-greeted w now s p h)
+    (λ q k. steady-read w answers.0 q k))
+    (λ q k. steady-read w answers.1 q k)
+
+here-same : (w : Watched) (before : PortData) (r : Result PortData Parting) (calls : List Call)
+    → Steady w r → (closed_or_kept before r calls).port.standing ≡ Here
+    → SameWatch w (closed_or_kept before r calls).port.watch
+here-same w before (Ok q) calls h here = h q refl
+here-same w before (Err why) calls h here = absurd cc
+
+come-same : (w : Watched) (before : PortData) (r : Result PortData Parting) (calls : List Call)
+    → Steady w r → (taken_or_closed before r calls).port.standing ≡ Here
+    → SameWatch w (taken_or_closed before r calls).port.watch
+come-same w before (Ok q) calls h here = h q refl
+come-same w before (Err why) calls h here = absurd cc
+
+-- behind a turn, while it is there
+attended-same : (w : Watched) (t : ToldTurn) (s : State) (script : Script) (p : PortData)
+    → p.standing ≡ Here → p.watch ≡ Some w → (attendance t s script p).port.standing ≡ Here
+    → SameWatch w (attendance t s script p).port.watch
+attended-same w t s script p here is still =
+    let part = talk_part t s (script.taken, script.heard) p in
+    let whole : attendance t s script p ≡ attended_here p part =
+    ap (λ standing. attended_as standing t s script p) here in
+    subst (λ (a : Attended). a.port.standing ≡ Here → SameWatch w a.port.watch) (sym whole)
+    (here-same w p part.after part.calls
+    (steady-talked w t s (script.taken, script.heard) p (same-watch w p.watch is))) still
+
+accepted-same : (w : Watched) (now : ℕ) (s : State) (taken : Option (Option SocketAddrV4))
+    (heard : ReadOutcome × ReadOutcome) (p : PortData) → p.standing ≡ Away
+    → (emptied Here p).watch ≡ Some w → (accepted_in now s taken heard p).port.standing ≡ Here
+    → SameWatch w (accepted_in now s taken heard p).port.watch
+accepted-same w now s None heard p away is here =
+    let no : Away ≡ Here = sym away ∙ here in absurd cc
+accepted-same w now s (Some None) heard p away is here =
+    let no : Away ≡ Here = sym away ∙ here in absurd cc
+accepted-same w now s (Some (Some from)) heard p away is here =
+    let part = first_part now s heard (emptied Here p) in
+    come-same w p part.after part.calls
+    (steady-begun w now s heard (emptied Here p) (same-watch w (emptied Here p).watch is)) here
+
+-- ---- whose process it is
+
+-- the first of lines says whose process it is
+record Starts (key domain revision : List ℕ) (lines : List (List ℕ)) : Type 0 where
+  first : List ℕ
+  rest : List (List ℕ)
+  is : lines ≡ first ∷ rest
+  moment : ℕ
+  introduces : introduced_at key domain revision first ≡ Some moment
+
+-- it is watched, and where it has said whose it is the lines begin with that
+record Begins (duties : Duties) (domain revision : List ℕ) (lines : List (List ℕ))
+    (watch : Option Watched) : Type 0 where
+  later : Watched
+  is : watch ≡ Some later
+  owes : later.duties ≡ duties
+  starts : later.introduced ≡ true → Starts duties.key domain revision lines
+
+-- what is watched stays so
+record StaysWatched (duties : Duties) (watch : Option Watched) : Type 0 where
+  later : Watched
+  is : watch ≡ Some later
+  owes : later.duties ≡ duties
+
+known-duties : (word : LineWord) (w : Watched) → (known_by word w).duties ≡ w.duties
+known-duties Blank w = refl
+known-duties (Reports event) w = refl
+known-duties Introduces w = refl
+known-duties Lives w = refl
+
+by-watched : (w : Watched) (r : Result LineWord Parting) (line rest : List ℕ) (p : PortData)
+    → p.watch ≡ Some w → StaysWatched w.duties (taken_by r line rest p).port.watch
+by-watched w (Err why) line rest p is = record { later = w; is = is; owes = refl }
+by-watched w (Ok word) line rest p is = record {
+  later = known_by word w;
+  is = ap (known_behind word) is;
+  owes = known-duties word w;
+}
+
+front-watched : (w : Watched) (s : State) (now : ℕ) (f : Front) (p : PortData)
+    → p.watch ≡ Some w → StaysWatched w.duties (taken_front s now f p).port.watch
+front-watched w s now Waiting p is = record { later = w; is = is; owes = refl }
+front-watched w s now Overlong p is = record { later = w; is = is; owes = refl }
+front-watched w s now (Whole line rest) p is =
+    by-watched w (judged p.watch s now line) line rest p is
+
+use-watched : (w : Watched) (u : Use) (p : PortData) → p.standing ≡ Here → p.watch ≡ Some w
+    → (port_after u p).standing ≡ Here → StaysWatched w.duties (port_after u p).watch
+use-watched w (Takes s now) p here is still =
+    subst (λ (t : Taken). StaysWatched w.duties t.port.watch)
+    (sym (ap (λ standing. taken_as standing s now p) here))
+    (front-watched w s now (front p.kept) p is)
+use-watched w (Attends t s script) p here is still =
+    let h = attended-same w t s script p here is still in
+    record { later = h.later; is = h.is; owes = h.duties }
+
+uses-watched : (w : Watched) (us : List Use) (p : PortData) → p.standing ≡ Here
+    → p.watch ≡ Some w → StaysHere us p → StaysWatched w.duties (after_uses us p).watch
+uses-watched w [] p here is stays = record { later = w; is = is; owes = refl }
+uses-watched w (u ∷ us) p here is stays =
+    let h = use-watched w u p here is stays.0 in
+    let more = uses-watched h.later us (port_after u p) stays.0 h.is stays.1 in
+    record { later = more.later; is = more.is; owes = more.owes ∙ h.owes }
+
+introduction-starts : (duties : Duties) (s : State) (now : ℕ) (domain revision line : List ℕ)
+    (lines : List (List ℕ)) (word : LineWord) (o : Option ℕ)
+    → introduced_at duties.key domain revision line ≡ o
+    → introduction duties now o ≡ Ok word → Starts duties.key domain revision (line ∷ lines)
+introduction-starts duties s now domain revision line lines word None read e = absurd cc
+introduction-starts duties s now domain revision line lines word (Some moment) read e =
+    record { first = line; rest = lines; is = refl; moment = moment; introduces = read }
+
+judged-starts : (w : Watched) (s : State) (now : ℕ) (domain revision line : List ℕ)
+    (lines : List (List ℕ)) (word : LineWord) → w.introduced ≡ false → s.domain ≡ domain
+    → s.revision ≡ revision → judged (Some w) s now line ≡ Ok word
+    → Starts w.duties.key domain revision (line ∷ lines)
+judged-starts w s now domain revision line lines word new d r e =
+    let o = introduced_at w.duties.key s.domain s.revision line in
+    let is : introduction w.duties now o ≡ Ok word = rw new at e in
+    subst (λ x. Starts w.duties.key domain x (line ∷ lines)) r
+    (subst (λ x. Starts w.duties.key x s.revision (line ∷ lines)) d
+    (introduction-starts w.duties s now s.domain s.revision line lines word o refl is))
+
+module _ (w : Watched) (domain revision : List ℕ) (new : w.introduced ≡ false) where
+  abbrev UsesBegin : List Use → PortData → List (List ℕ) → Type 0
+  UsesBegin us p lines = Begins w.duties domain revision lines (after_uses us p).watch
+
+  -- a line was taken, and then the other uses
+  taken-begin : (s : State) (now : ℕ) (us : List Use) (p : PortData) (line rest : List ℕ)
+      (r : Result LineWord Parting) → p.standing ≡ Here → p.watch ≡ Some w
+      → judged (Some w) s now line ≡ r → s.domain ≡ domain → s.revision ≡ revision
+      → StaysHere us (taken_by r line rest p).port
+      → (StaysHere us p → UsesBegin us p (cutting_of (moves_of us p) p.kept).lines)
+      → (let q = (taken_by r line rest p).port in
+      UsesBegin us q (judged_cut r line rest p.kept (moves_of us q)).lines)
+  taken-begin s now us p line rest (Err why) here is e d v stays more = more stays
+  taken-begin s now us p line rest (Ok word) here is e d v stays more =
+      let q = (taken_by (Ok word) line rest p).port in
+      let k = uses-watched (known_by word w) us q here (ap (known_behind word) is) stays in
+      record {
+        later = k.later;
+        is = k.is;
+        owes = k.owes ∙ known-duties word w;
+        starts = λ i.
+            judged-starts w s now domain revision line (cutting_of (moves_of us q) rest).lines word
+            new d v e;
+      }
+
+  front-begin : (s : State) (now : ℕ) (us : List Use) (p : PortData) (f : Front)
+      → p.standing ≡ Here → p.watch ≡ Some w → s.domain ≡ domain → s.revision ≡ revision
+      → StaysHere us (taken_front s now f p).port
+      → (StaysHere us p → UsesBegin us p (cutting_of (moves_of us p) p.kept).lines)
+      → (let q = (taken_front s now f p).port in
+      UsesBegin us q (cut_of p.watch s now f p.kept (moves_of us q)).lines)
+  front-begin s now us p Waiting here is d v stays more = more stays
+  front-begin s now us p Overlong here is d v stays more = more stays
+  front-begin s now us p (Whole line rest) here is d v stays more =
+      taken-begin s now us p line rest (judged p.watch s now line) here is
+      (ap (λ o. judged o s now line) (sym is)) d v stays more
+
+-- turns and what is done behind them lead on from a process that has not said whose it is
+begins-uses : (w : Watched) (domain revision : List ℕ) (us : List Use) (p : PortData)
+    → w.introduced ≡ false → p.standing ≡ Here → p.watch ≡ Some w → StaysHere us p
+    → AreOf domain revision us
+    → Begins w.duties domain revision (cutting_of (moves_of us p) p.kept).lines
+    (after_uses us p).watch
+unfolding moves_of
+begins-uses w domain revision [] p new here is stays of = record {
+  later = w;
+  is = is;
+  owes = refl;
+  starts = λ e. absurd (let no : false ≡ true = sym new ∙ e in cc);
+}
+begins-uses w domain revision (Takes s now ∷ us) p new here is stays of =
+    let f = front p.kept in
+    let whole : taken_line s now p ≡ taken_front s now f p =
+    ap (λ standing. taken_as standing s now p) here in
+    let begun = front-begin w domain revision new s now us p f here is of.0 of.1
+    (subst (λ (t : Taken). StaysHere us t.port) whole stays.1)
+    (λ again. begins-uses w domain revision us p new here is again of.2) in
+    subst (λ (c : Cutting). Begins w.duties domain revision c.lines
+    (after_uses us (taken_line s now p).port).watch)
+    (sym (cut-is p.watch s now f p.kept (moves_of us (taken_line s now p).port) refl))
+    (subst (λ (t : Taken). Begins w.duties domain revision
+    (cut_of p.watch s now f p.kept (moves_of us t.port)).lines (after_uses us t.port).watch)
+    (sym whole) begun)
+begins-uses w domain revision (Attends t s script ∷ us) p new here is stays of =
+    let u = Attends t s script in
+    let q = port_after u p in
+    let h = attended-same w t s script p here is stays.0 in
+    let more = begins-uses h.later domain revision us q (h.introduced ∙ new) stays.0 h.is stays.1
+    of in
+    let kept = attends-keep t s script p here stays.0 in
+    let at : Begins h.later.duties domain revision
+    (cutting_of (moves_of us q) (p.kept ++ octets_given u p)).lines (after_uses us q).watch =
+    subst (λ k. Begins h.later.duties domain revision (cutting_of (moves_of us q) k).lines
+    (after_uses us q).watch) kept more in
+    subst (λ d. Begins d domain revision
+    (cutting_of (moves_of us q) (p.kept ++ octets_given u p)).lines (after_uses us q).watch)
+    h.duties at
+
+-- from the acceptance on
+begins-away : (tells : Bool) (duties : Duties) (domain revision : List ℕ) (us : List Use)
+    → StaysHere us (bare tells (Some duties) Away) → AreOf domain revision us
+    → Begins duties domain revision
+    (cutting_of (moves_of us (bare tells (Some duties) Away)) []).lines
+    (after_uses us (bare tells (Some duties) Away)).watch
+unfolding moves_of
+begins-away tells duties domain revision [] stays of = record {
+  later = unheard duties;
+  is = refl;
+  owes = refl;
+  starts = λ e. absurd cc;
+}
+begins-away tells duties domain revision (Takes s now ∷ us) stays of = absurd cc
+begins-away tells duties domain revision (Attends t s script ∷ us) stays of =
+    let u = Attends t s script in
+    let p0 = bare tells (Some duties) Away in
+    let q = port_after u p0 in
+    let w = unheard duties in
+    let h = accepted-same w t.now s script.accepted (script.heard, script.again) p0 refl refl
+    stays.0 in
+    let more = begins-uses h.later domain revision us q h.introduced stays.0 h.is stays.1 of in
+    let kept =
+    comes-keep tells (Some duties) t.now s script.accepted (script.heard, script.again) stays.0 in
+    let at : Begins h.later.duties domain revision
+    (cutting_of (moves_of us q) (octets_given u p0)).lines (after_uses us q).watch =
+    subst (λ k. Begins h.later.duties domain revision (cutting_of (moves_of us q) k).lines
+    (after_uses us q).watch) kept more in
+    subst (λ d. Begins d domain revision
+    (cutting_of (moves_of us q) (octets_given u p0)).lines (after_uses us q).watch) h.duties at
+
+pub is-of-this-bay : (tells : Bool) (duties : Duties) (domain revision : List ℕ) (us : List Use)
+    (s : State) (now : ℕ) (event : ProcessEvent) → StaysHere us (bare tells (Some duties) Away)
+    → AreOf domain revision us
+    → (taken_line s now (after_uses us (bare tells (Some duties) Away))).event ≡ Some event
+    → IsOfThisBay tells duties domain revision us
+is-of-this-bay tells duties domain revision us s now event stays of e =
+    let p0 = bare tells (Some duties) Away in
+    let p = after_uses us p0 in
+    let b = begins-away tells duties domain revision us stays of in
+    let on = is-on-time s now p b.later event b.is e in
+    let starts = b.starts on.introduced in
+    let f = starts-follow tells (Some duties) us stays in
+    let cut : LosesNothing (moves_of us p0) = nothing-is-lost (moves_of us p0) in
+    record {
+      first = starts.first;
+      lines = starts.rest;
+      text = cut.text;
+      rest = p.kept;
+      are = subst (λ ls. AreLines ls cut.text) starts.is cut.lines;
+      given = sym f.all_is ∙ cut.whole ∙ ap (λ l. cut.text ++ l) f.keeps;
+      moment = starts.moment;
+      introduces = starts.introduces;
+    }
+
+-- ---- silence
+
+-- unless a part led to a closing, it was heard at most so long ago
+abbrev Heard : ℕ → Result PortData Parting → Type 0
+Heard now r = (q : PortData) (w : Watched) → r ≡ Ok q → q.watch ≡ Some w
+    → now - w.heard ≤ w.duties.limit
+
+heard-quiet : (now : ℕ) (p : PortData) (watch : Option Watched) → p.watch ≡ watch
+    → Heard now (quiet_part now watch p).after
+heard-quiet now p None is = λ q w e watched.
+    let same : p ≡ q = cc in
+    let none : None ≡ Some w =
+    sym is ∙ ap (λ (d : PortData). d.watch) same ∙ watched in absurd cc
+heard-quiet now p (Some v) is = by-span (nat_le (now - v.heard) v.duties.limit) refl
+  where
+    by-span : (b : Bool) → nat_le (now - v.heard) v.duties.limit ≡ b
+        → Heard now (quiet_part now (Some v) p).after
+    by-span true few = rw few (λ q w e watched.
+        let same : p ≡ q = cc in
+        let one : Some v ≡ Some w =
+        sym is ∙ ap (λ (d : PortData). d.watch) same ∙ watched in
+        let both : v ≡ w = cc in
+        let le : now - v.heard ≤ v.duties.limit = grind (arith, nat_tests) in
+        subst (λ (x : Watched). now - x.heard ≤ x.duties.limit) both le)
+    by-span false few = rw few (λ q w e watched. absurd cc)
+
+heard-judged : (now : ℕ) (r : Result LineWord Parting) (p : PortData)
+    → Heard now (line_judged now r p).after
+heard-judged now (Err why) p = λ q w e watched. absurd cc
+heard-judged now (Ok word) p = λ q w e watched. by-watch q w e watched p.watch refl
+  where
+    by-watch : (q : PortData) (w : Watched)
+        → (let r : Result PortData Parting = Ok (record p { watch = heard_at now p.watch }) in r)
+        ≡ Ok q → q.watch ≡ Some w → (o : Option Watched) → p.watch ≡ o
+        → now - w.heard ≤ w.duties.limit
+    by-watch q w e watched None is =
+        let same : record p { watch = heard_at now p.watch } ≡ q = cc in
+        let none : None ≡ Some w =
+        sym (ap (heard_at now) is) ∙ ap (λ (d : PortData). d.watch) same ∙ watched in absurd cc
+    by-watch q w e watched (Some v) is =
+        let same : record p { watch = heard_at now p.watch } ≡ q = cc in
+        let one : Some (record v { heard = now }) ≡ Some w =
+        sym (ap (heard_at now) is) ∙ ap (λ (d : PortData). d.watch) same ∙ watched in
+        let both : record v { heard = now } ≡ w = cc in
+        subst (λ (x : Watched). now - x.heard ≤ x.duties.limit) both (omega arith)
+
+heard-checked : (now : ℕ) (s : State) (p : PortData) → Heard now (line_part now s p).after
+heard-checked now s p = by-front (front p.kept)
+  where
+    by-front : (f : Front) → Heard now (line_in_front now s f p).after
+    by-front Waiting = heard-quiet now p p.watch refl
+    by-front Overlong = λ q w e watched. absurd cc
+    by-front (Whole line rest) = heard-judged now (judged p.watch s now line) p
+
+heard-behind : (now : ℕ) (s : State) (r : Result PortData Parting) (calls : List Call)
+    → (let b : AttendedPart = behind (record { after = r; calls = calls }) (line_part now s) in
+    Heard now b.after)
+heard-behind now s (Err why) calls = λ q w e watched. absurd cc
+heard-behind now s (Ok p) calls = heard-checked now s p
+
+here-heard : (now : ℕ) (before : PortData) (r : Result PortData Parting) (calls : List Call)
+    → Heard now r → (closed_or_kept before r calls).port.standing ≡ Here → (w : Watched)
+    → (closed_or_kept before r calls).port.watch ≡ Some w → now - w.heard ≤ w.duties.limit
+here-heard now before (Ok q) calls h here w is = h q w refl is
+here-heard now before (Err why) calls h here w is = absurd cc
+
+-- a process that is still there behind a turn was heard
+pub is-heard : (t : ToldTurn) (s : State) (script : Script) (p : PortData) (w : Watched)
+    → p.standing ≡ Here → (attendance t s script p).port.standing ≡ Here
+    → (attendance t s script p).port.watch ≡ Some w → t.now - w.heard ≤ w.duties.limit
+is-heard t s script p w here =
+    let part = talk_part t s (script.taken, script.heard) p in
+    let whole : attendance t s script p ≡ attended_here p part =
+    ap (λ standing. attended_as standing t s script p) here in
+    let c = behind (behind (told_to t s p) (offer_part script.taken)) (read_by script.heard) in
+    subst (λ (a : Attended). a.port.standing ≡ Here → a.port.watch ≡ Some w
+    → t.now - w.heard ≤ w.duties.limit) (sym whole)
+    (λ still is.
+    here-heard t.now p part.after part.calls (heard-behind t.now s c.after c.calls) still w is)
