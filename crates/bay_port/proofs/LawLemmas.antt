@@ -316,7 +316,7 @@ tells-quiet now (Some w) p = by-span (nat_le (now - w.heard) w.duties.limit) ref
     by-span : (v : Bool) → nat_le (now - w.heard) w.duties.limit ≡ v
         → Tells p.queue (quiet_part now (Some w) p)
     by-span true e = rw e (tells-same p p refl)
-    by-span false e = rw e (tells-none p Silent)
+    by-span false e = rw e (tells-none p (Silent w.duties.limit))
 
 tells-judged : (now : ℕ) (r : Result LineWord Parting) (p : PortData)
     → Tells p.queue (line_judged now r p)

@@ -249,7 +249,7 @@ has-quiet now (Some w) p = by-span (nat_le (now - w.heard) w.duties.limit) refl
     by-span : (v : Bool) → nat_le (now - w.heard) w.duties.limit ≡ v
         → HasTold p.told (quiet_part now (Some w) p).after
     by-span true e = rw e (has-port p p.told refl)
-    by-span false e = rw e (has-closed Silent p.told)
+    by-span false e = rw e (has-closed (Silent w.duties.limit) p.told)
 
 has-judged : (now : ℕ) (r : Result LineWord Parting) (p : PortData)
     → HasTold p.told (line_judged now r p).after

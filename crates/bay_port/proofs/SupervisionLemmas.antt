@@ -227,7 +227,7 @@ steady-quiet w now (Some v) p h = by-span (nat_le (now - v.heard) v.duties.limit
     by-span : (b : Bool) → nat_le (now - v.heard) v.duties.limit ≡ b
         → Steady w (quiet_part now (Some v) p).after
     by-span true e = rw e (steady-port w p h)
-    by-span false e = rw e (steady-closed w Silent)
+    by-span false e = rw e (steady-closed w (Silent v.duties.limit))
 
 steady-judged : (w : Watched) (now : ℕ) (r : Result LineWord Parting) (p : PortData)
     → SameWatch w p.watch → Steady w (line_judged now r p).after

@@ -108,7 +108,7 @@ keeps-quiet now (Some w) p = by-span (nat_le (now - w.heard) w.duties.limit) ref
     by-span : (v : Bool) → nat_le (now - w.heard) w.duties.limit ≡ v
         → Keeps p.kept (quiet_part now (Some w) p).after (quiet_part now (Some w) p).calls
     by-span true e = rw e (keeps-port p p.kept [] refl refl)
-    by-span false e = rw e (keeps-closed Silent p.kept [])
+    by-span false e = rw e (keeps-closed (Silent w.duties.limit) p.kept [])
 
 keeps-judged : (now : ℕ) (r : Result LineWord Parting) (p : PortData)
     → Keeps p.kept (line_judged now r p).after (line_judged now r p).calls

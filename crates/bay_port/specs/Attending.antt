@@ -87,7 +87,7 @@ read_by heard p =
 abbrev pub quiet_part : ℕ → Option Watched → PortData → AttendedPart
 quiet_part now None p = going p []
 quiet_part now (Some w) p =
-    if nat_le (now - w.heard) w.duties.limit then going p [] else parting Silent []
+    if nat_le (now - w.heard) w.duties.limit then going p [] else parting (Silent w.duties.limit) []
 
 -- a line that can be taken tells that it lives; another ends the connection
 abbrev pub line_judged : ℕ → Result LineWord Parting → PortData → AttendedPart

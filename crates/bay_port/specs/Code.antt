@@ -10,4 +10,4 @@ code_of QueueFull = 130
 code_of LinkFailed = 131
 code_of Foreign = 132
 code_of Untimely = 133
-code_of Silent = 134
+code_of (Silent limit) = 134

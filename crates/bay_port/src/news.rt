@@ -19,8 +19,8 @@ pub enum Parting {
     Foreign,
     /// The moment of a line is too far from the server's.
     Untimely,
-    /// No whole line came for as long as a supervised process may be silent.
-    Silent,
+    /// No whole line came for so many milliseconds, as long as a supervised process may be silent.
+    Silent(u32),
 }
 
 impl Parting {
@@ -35,7 +35,7 @@ impl Parting {
             Parting::LinkFailed => 131,
             Parting::Foreign => 132,
             Parting::Untimely => 133,
-            Parting::Silent => 134,
+            Parting::Silent(_) => 134,
         }
     }
 }

@@ -362,7 +362,9 @@ impl Port {
         ensures { Leads (quiet_part moment self.now.watch self.now).after self.now result }
     {
         match &self.watch {
-            Some(watch) if !watch.is_quiet_enough(moment) => Err(Parting::Silent),
+            Some(watch) if !watch.is_quiet_enough(moment) => {
+                Err(Parting::Silent(watch.limit_ms()))
+            }
             _ => Ok(()),
         }
     }
