@@ -12,6 +12,8 @@
     hangs QA1=2 by t1
     blocked QA1=0|3
     release QB1 close many
+    lost QB1 open blocked
+    lost QB1 close hangs by t1
 
 A rule with a time that holds names the timer that bears it. A line of rules that is about opening
 and closing has two answers. In a case a switch has its
@@ -21,7 +23,8 @@ those in which it depends on what stands behind `by`, and those in which it is n
 variables, timers, and measures with which the program calculates in a way that is not followed;
 nothing stands there if it calculates so with the values of the case. The word before a case may be
 left out where `by` tells the first two apart, and cases in which it is not given need not be
-told."""
+told. The lines `lost` say the same of one case, that the process is lost: each position is bad and
+each input 0, and a measure has any value. A bayctl older than 1.2.0 prints none."""
 import re
 from dataclasses import dataclass, field
 
@@ -83,12 +86,24 @@ class Release:
         (self.blocked if state == BLOCKED else self.cases).append(case)
 
 
+@dataclass(frozen=True)
+class Lost:
+    """Whether a switch may be opened or closed while the process is lost: RELEASED, BLOCKED, or
+    HANGS with that on which it hangs."""
+    name: str
+    way: int
+    state: str
+    kept: tuple = ()
+
+
 @dataclass
 class Answer:
-    """All that bayctl says: of each rule, and of each release."""
+    """All that bayctl says: of each rule, of each release, and of each while the process is lost.
+    """
     report: str
     rules: list[Proof] = field(default_factory=list)
     releases: list[Release] = field(default_factory=list)
+    lost: list[Lost] = field(default_factory=list)
 
     def of_line(self, line: int) -> Proof | None:
         """The answer on a line of rules: the worst, where it has several."""
@@ -118,6 +133,9 @@ def read(printed: str, keys: set) -> Answer:
                 release.take(line, line.split(), keys)
             found.releases.append(release)
             at += 1 + count
+        elif words[0] == 'lost':
+            found.lost.append(lost_of(lines[at], words[1:], keys))
+            at += 1
         else:
             raise Bad(lines[at])
     return found
@@ -147,6 +165,18 @@ def release_of(line: str, words: list[str], keys: set) -> tuple[Release, int]:
         release.is_known = False
         return release, 0
     return release, count_of(line, words[2])
+
+
+def lost_of(line: str, words: list[str], keys: set) -> Lost:
+    """What is said of a release while the process is lost."""
+    if len(words) < 3 or words[1] not in WAYS or (SWITCH, raised(words[0])) not in keys:
+        raise Bad(line)
+    name, way, (state, *rest) = raised(words[0]), WAYS.index(words[1]), words[2:]
+    if state == HANGS and rest[:1] == ['by']:
+        return Lost(name, way, state, tuple(rest[1:]) or (COMPUTED,))
+    if state not in (RELEASED, BLOCKED) or rest:
+        raise Bad(line)
+    return Lost(name, way, state)
 
 
 def count_of(line: str, word: str) -> int:

@@ -10,7 +10,7 @@ from common import moments
 from common.ending import DONE
 from common.texts import counted, in_line
 
-from . import verdicts
+from . import proving, verdicts
 from .judging import released, uncovered
 from .matrix import draw_parts
 from .things import WAYS
@@ -109,7 +109,7 @@ class Report:
         style = STYLE % f'Bay {bay["domain"]}, {self.day}'
         parts = [f'<h1>{escaped(title)}</h1>', self.verdict(), self.what_was_read(),
                  self.signatures(), self.how(), self.rules(), self.conditions(),
-                 self.uncovered(), self.matrix()]
+                 self.lost(), self.uncovered(), self.matrix()]
         return ('<!DOCTYPE html>\n<html lang="en"><head><meta charset="utf-8">'
                 '<meta name="viewport" content="width=device-width">'
                 f'<title>{escaped(title)}</title><style>{style}</style></head>\n<body>\n'
@@ -195,6 +195,19 @@ class Report:
                if self.audit.answer else 'as it was tried, once timers have run out')
         return (f'<h2>Derived conditions</h2><p class="quiet">When each release is given, in the '
                 f'fewest words: {how}.</p>' + table(['!Release', 'is given when'], rows))
+
+    def lost(self) -> str:
+        """What is released while the process is lost, where bayctl tells it."""
+        rows = [(f'<b>{escaped(name)}</b>', *map(escaped, told))
+                for name, *told in proving.lost_table(self.audit.answer, self.bay.file)]
+        if not rows:
+            return ''
+        warnings = ''.join(f'<p class="bad"><b>Warning:</b> {escaped(it)}.</p>'
+                           for it in verdicts.lost_warnings(self.audit))
+        return ('<h2>When the process is lost</h2><p class="quiet">What is released while each '
+                'position is bad and each input 0, with any measures: as it is proved, in every '
+                'state of the program.</p>'
+                + table(['!Switch', *WAYS], rows) + warnings)
 
     def uncovered(self) -> str:
         bare = uncovered(self.audit)

@@ -9,7 +9,7 @@ from common.ending import Failed
 from common.positions import POSITIONS
 from common.texts import raised
 
-from .answers import LEAST, MOST, Answer, Case, Release
+from .answers import LEAST, MOST, WAYS, Answer, Case, Release
 from .replaying import scans_of
 from .things import Bay, Thing, all_things
 
@@ -114,6 +114,15 @@ def derived(release: Release, bay_file: dict) -> Derived:
 
     groups = dict.fromkeys(case.kept for case in release.cases if case.kept)
     return Derived(condition(()), [(kept, condition(kept)) for kept in groups])
+
+
+def lost_table(answer: Answer | None, bay_file: dict) -> list[tuple[str, str, str]]:
+    """What is told of opening and of closing each switch while the process is lost; nothing where
+    bayctl does not tell it."""
+    told = {(it.name, it.way): f'hangs on {", ".join(it.kept)}' if it.kept else it.state
+            for it in (answer.lost if answer else [])}
+    return [(switch['id'], *(told.get((raised(switch['id']), way), '') for way in range(len(WAYS))))
+            for switch in bay_file['switch'] if told]
 
 
 def conditions(answer: Answer, bay_file: dict) -> dict[tuple[str, int], Derived | None]:

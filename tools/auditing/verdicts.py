@@ -1,7 +1,7 @@
 """What is said of an audit: of each rule, and of all; what is proved, and what was only tried."""
 from bay.rules import MEASURE
 from common.ending import DONE, FOUND, PARTLY
-from common.texts import counted
+from common.texts import counted, raised
 
 from . import answers, proving
 from .judging import Audit, Finding
@@ -23,6 +23,16 @@ def restrictions(audit: Audit) -> list[str]:
     can try all."""
     return [f'{it.name} only {"|".join(it.words())}' for it in audit.bay.things
             if it.is_told and (it.kind == MEASURE or it.is_restricted())]
+
+
+def lost_warnings(audit: Audit) -> list[str]:
+    """What may be done while nothing is known of the switchgear, but for opening a breaker."""
+    switches = {raised(it['id']): it for it in audit.bay.file['switch']}
+    return [f'{switches[it.name]["id"]} may be {DONE_WAYS[it.way]} while the process is lost: each '
+            'position is bad and each input 0'
+            for it in (audit.answer.lost if audit.answer else [])
+            if it.state == answers.RELEASED and not (
+                switches[it.name]['kind'] == 'breaker' and answers.WAYS[it.way] == 'open')]
 
 
 def ways_told(rule, words: tuple, joint: str) -> str:

@@ -39,6 +39,10 @@ release QC1 close cases=3
 QA1=1 VT_DEAD=1 M1_AA=0
 hangs QA1=1 M1_AA=-2147483648..-1|6..2147483647 by t1 LOCK
 blocked QA1=0|2|3
+lost QA1 open released
+lost QA1 close blocked
+lost QC1 open hangs by t1 LOCK
+lost QC1 close released
 '''
 
 
@@ -84,6 +88,15 @@ class Answers(unittest.TestCase):
         self.assertIn(f'holds, unless {COMPUTED} breaks it with M1_AA 3',
                       verdicts.lines_of(audit, audit.findings[0])[1])
 
+    def test_what_is_released_while_the_process_is_lost(self):
+        found = read(ANSWER, KEYS)
+        self.assertEqual([(it.name, it.way, it.state, it.kept) for it in found.lost], [
+            ('QA1', 0, 'released', ()), ('QA1', 1, 'blocked', ()),
+            ('QC1', 0, 'hangs', ('t1', 'LOCK')), ('QC1', 1, 'released', ())])
+        one, = read(LOADED + 'lost QC1 open hangs by\n', KEYS).lost
+        self.assertEqual(one.kept, (COMPUTED,))
+        self.assertEqual(read(LOADED, KEYS).lost, [])
+
     def test_lines_that_are_none_of_an_answer(self):
         for odd in ('', 'load refused 53\n', LOADED + 'rules\n', LOADED + 'rule x holds cases=1\n',
                     LOADED + 'rule 1 holds\n', LOADED + 'rule 1 holds cases=1 by\n',
@@ -99,6 +112,11 @@ class Answers(unittest.TestCase):
                     LOADED + 'release QA1 open cases=1\nreleased QA1=0 by t1\n',
                     LOADED + 'release QA1 open cases=1\nreleased QA1=0 by\n',
                     LOADED + 'release QA1 open cases=1\nperhaps QA1=0\n',
+                    LOADED + 'lost QX open released\n', LOADED + 'lost QA1 shut released\n',
+                    LOADED + 'lost QA1 open\n', LOADED + 'lost QA1 open perhaps\n',
+                    LOADED + 'lost QA1 open hangs\n', LOADED + 'lost QA1 open hangs t1\n',
+                    LOADED + 'lost QA1 open blocked by t1\n',
+                    LOADED + 'lost QA1 open released QA1=3\n',
                     LOADED + 'rule 1 many\n\n'):
             with self.assertRaises(Bad, msg=odd):
                 read(odd, KEYS)
@@ -146,7 +164,9 @@ class Asking(Tools):
                '[[input]]\nname = "VT_DEAD"\n')
         words = [self.file('bay', bay), self.file('logic', 'PROGRAM p\nEND_PROGRAM\n')]
         rules = 'always QA1 open when VT_DEAD\nnever QC1 close when QA1 not open\n'
-        printed = LOADED + 'rule 1 holds cases=2\nrule 2 broken QA1=0\n'
+        printed = LOADED + ('rule 1 holds cases=2\nrule 2 broken QA1=0\n'
+                            'lost QA1 open released\nlost QA1 close blocked\n'
+                            'lost QC1 open released\nlost QC1 close hangs by t1\n')
         found = self.call_tool('audit', *words, self.file('rules', rules), '--bayctl',
                                self.bayctl(printed, 4))
         self.assertEqual((found.status, found.out.splitlines()[:5]), (1, [
@@ -155,6 +175,12 @@ class Asking(Tools):
             '    proved: in every state of the program with QA1 intermediate',
             '    tried: broken in 6 of 6 combinations, first by QA1 intermediate, VT_DEAD 0',
             '    replay broken_2.scenario, which shows it']), found)
+        at = found.out.splitlines().index(
+            'When the process is lost (each position is bad, each input 0):')
+        self.assertEqual(found.out.splitlines()[at + 1:at + 5], [
+            '         open      close', '    QA1  released  blocked',
+            '    QC1  released  hangs on t1', 'WARNING: QC1 may be opened while the process is '
+            'lost: each position is bad and each input 0'])
         scenario = (self.folder / 'broken_2.scenario').read_text()
         self.assertTrue(scenario.endswith('%%\n0 contact QA1 0\n0 contact QC1 1\n'
                                           '0 input VT_DEAD 0\n0 scan\n'))
@@ -180,6 +206,10 @@ class Warned(Tools):
         self.assertEqual(found.never, {('QA1', 'opened'), ('QA1', 'closed'), ('QC1', 'opened')})
         self.assertEqual(found.points, {'QA1_POS', 'QA1_OPEN', 'QA1_CLOSED', 'VT_DEAD', 'M1_AA'})
         self.assertEqual(found.kept, {'T1'})
+
+
+def page_of(found):
+    return Report(found, {}, __file__, 0).page()
 
 
 class Verdicts(unittest.TestCase):
@@ -259,8 +289,29 @@ class Verdicts(unittest.TestCase):
         with mock.patch.multiple('auditing.judging', USUAL=4, WHOLE=4, SAMPLED=5):
             self.assertEqual(len(proved(rules, answer, is_table_asked=True).table), 5)
 
+    def test_what_is_released_while_the_process_is_lost(self):
+        found = proved(RULES, ANSWER)
+        self.assertEqual(proving.lost_table(found.answer, FILE), [
+            ('QA1', 'released', 'blocked'), ('QC1', 'hangs on t1, LOCK', 'released')])
+        self.assertEqual(verdicts.lost_warnings(found), [
+            'QC1 may be closed while the process is lost: each position is bad and each input 0'])
+        self.assertIn('<h2>When the process is lost</h2>', page_of(found))
+        self.assertIn('QC1 may be closed while the process is lost', page_of(found))
+        breaker = proved('always QA1 open\n', LOADED + 'rule 1 holds cases=1\n'
+                         'lost QA1 open released\nlost QA1 close released\n'
+                         'lost QC1 open released\n')
+        self.assertEqual([it.split(' while')[0] for it in verdicts.lost_warnings(breaker)],
+                         ['QA1 may be closed', 'QC1 may be opened'])
+
+    def test_a_bayctl_that_does_not_tell_it(self):
+        for found in (audited('always QA1 open\n'),
+                      proved('always QA1 open\n', LOADED + 'rule 1 holds cases=1\n')):
+            self.assertEqual(proving.lost_table(found.answer, FILE), [])
+            self.assertEqual(verdicts.lost_warnings(found), [])
+            self.assertNotIn('process is lost', page_of(found))
+
     def test_the_report(self):
-        page = Report(proved(RULES, ANSWER), {}, __file__, 0).page()
+        page = page_of(proved(RULES, ANSWER))
         for told in ('proved: QA1 may always be opened', '<span class="mark good">PROVED</span>',
                      'holds, unless t1 breaks it with VT_DEAD 0; tried in 4', 'NOT PASSED: of 5',
                      '(hangs on t1, LOCK)', '<b>Proved</b>: bayctl runs', 'as it is proved'):

@@ -1,17 +1,19 @@
 -- What a case leaves open has each process of the case.
-use Rattle.std.proofs.Common.{◌≡◌, ℕ, ℤ, pos, negsuc, ◌+ℤ◌, Bool, true, false, not, ◌&&◌, ◌||◌, cond, nat_eq, List, [], ◌∷◌, map, Some, refl, ap, sym, ◌∙◌, arith}
+use Rattle.std.proofs.Common.{◌≡◌, ℕ, zero, suc, ◌<◌, ℤ, pos, negsuc, ◌+ℤ◌, Bool, true, false, not, ◌&&◌, ◌||◌, cond, nat_eq, List, [], ◌∷◌, ◌++◌, length, map, Some, refl, ap, sym, ◌∙◌, arith}
 use Rattle.std.specs.Prelude.{◌≤ℤ◌, int_le, fold}
 use Rattle.std.specs.Bool.{beq}
 use Rattle.std.specs.List.{list_all}
 use Rattle.std.proofs.lemmas.Bool.{and_from, and_parts, not-true}
 use Rattle.std.proofs.lemmas.Bool.Decides.{nat_tests}
 use Rattle.std.proofs.lemmas.Int.{ints}
+use Rattle.std.proofs.lemmas.List.Folds.{list_all-append}
 use Rattle.bay_base.specs.declared.point.MeterField.{MeterField}
 use Rattle.bay_base.specs.declared.point.MeterField.TheVariants.{TotW, TotVAr, Hz, PhaseA, PhaseB, PhaseC}
 use Rattle.bay_base.specs.declared.point.Source.{Source}
 use Rattle.bay_base.specs.declared.point.Source.TheVariants as source
 use Rattle.bay_base.specs.declared.point.SwitchPoint.{SwitchPoint}
 use Rattle.bay_base.specs.declared.point.SwitchPoint.TheVariants.{Position, Open, Closed, EnableOpen, EnableClose}
+use Rattle.bay_config.specs.declared.bay.Bay.{Bay}
 use Rattle.bay_process.specs.Values.{position_value}
 use Rattle.bay_rules.specs.Process.{Process, same_position}
 use Rattle.bay_tree.specs.declared.leaf.Dbpos.{Dbpos}
@@ -19,8 +21,8 @@ use Rattle.bay_tree.specs.declared.leaf.Dbpos.TheVariants.{Intermediate, Off, On
 use Rattle.bay_tree.specs.declared.leaf.Leaf.TheVariants as leaf
 use Rattle.il_image.specs.declared.value.Value.TheVariants.{Truth}
 use Rattle.il_range.specs.Ranges.{AreIn, IsIn}
-use Rattle.bay_audit.specs.Cases.{allows, answer_of, example_of, grants, high_after, high_by, high_of, input_may, is_in, is_of_field, low_after, low_by, low_of, lowered, may_be, meets, position_range, raised, range_of, same_field, test_allows, test_grants, truth_range}
-use Rattle.bay_audit.specs.Process.{IsProcess, process_value}
+use Rattle.bay_audit.specs.Cases.{allows, answer_of, bad_positions, example_of, false_inputs, grants, high_after, high_by, high_of, input_may, is_in, is_of_field, lost_case, low_after, low_by, low_of, lowered, may_be, meets, position_range, raised, range_of, same_field, test_allows, test_grants, truth_range}
+use Rattle.bay_audit.specs.Process.{IsLost, IsProcess, process_value}
 use Rattle.bay_audit.specs.declared.case.TestAnswer.{TestAnswer}
 use Rattle.bay_audit.specs.declared.case.Test.{Test}
 use Rattle.bay_audit.specs.declared.case.Test.TheVariants as test
@@ -247,6 +249,39 @@ module _ (p : Process) (is : IsProcess p) (case : List TestAnswer) (h : is_in ca
       → AreIn (map (process_value p) reads) (map (range_of case) reads)
   ranges-have [] = tt
   ranges-have (s ∷ reads) = (range-has s, ranges-have reads)
+
+-- ---- the case of a process that is lost
+
+module _ (p : Process) where
+  in-more : (case : List TestAnswer) (l : TestAnswer) → is_in case p ≡ true → meets p l ≡ true
+      → is_in (case ++ l ∷ []) p ≡ true
+  in-more case l inside meet =
+      list_all-append (meets p) case (l ∷ [])
+      ∙ and_from (is_in case p) (meets p l && true) inside (and_from (meets p l) true meet refl)
+
+  bad-in : (n : ℕ) → ((k : ℕ) → k < n → p.position k ≡ Bad) → is_in (bad_positions n) p ≡ true
+  bad-in zero h = refl
+  bad-in (suc n) h =
+      in-more (bad_positions n) (record { test = test.Position n Bad; value = true })
+      (bad-in n (λ k less. h k (omega (arith, less))))
+      (ap (λ d. beq (same_position Bad d) true) (h n (omega arith)))
+
+  false-in : (n : ℕ) → ((k : ℕ) → k < n → p.input k ≡ false) → is_in (false_inputs n) p ≡ true
+  false-in zero h = refl
+  false-in (suc n) h =
+      in-more (false_inputs n) (record { test = test.Input n; value = false })
+      (false-in n (λ k less. h k (omega (arith, less))))
+      (ap (λ b. beq b false) (h n (omega arith)))
+
+  -- a process that is lost is one of the case
+  pub lost-in : (bay : Bay) → IsLost bay p
+      → is_in (lost_case (length bay.switches) (length bay.inputs)) p ≡ true
+  lost-in bay lost =
+      list_all-append (meets p) (bad_positions (length bay.switches))
+      (false_inputs (length bay.inputs))
+      ∙ and_from (is_in (bad_positions (length bay.switches)) p)
+      (is_in (false_inputs (length bay.inputs)) p) (bad-in (length bay.switches) lost.positions)
+      (false-in (length bay.inputs) lost.inputs)
 
 -- ---- a process of a case
 

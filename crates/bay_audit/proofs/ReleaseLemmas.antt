@@ -1,10 +1,14 @@
 -- The cases of a release.
-use Rattle.std.proofs.Common.{◌≡◌, ℕ, ◌+◌, Bool, true, false, cond, List, [], ◌∷◌, ◌++◌, map, Result, Ok, sym, ap, subst, ◌∙◌, add-one, append_assoc, arith}
+use Rattle.std.proofs.Common.{◌≡◌, ℕ, ◌+◌, true, false, cond, List, [], ◌∷◌, ◌++◌, length, map, Result, Ok, sym, ap, subst, ◌∙◌, add-one, append_assoc, arith}
 use Rattle.std.proofs.lemmas.List.{map-append}
 use Rattle.std.proofs.lemmas.List.Sums.{sum_by-append}
+use Rattle.bay_config.specs.declared.bay.Bay.{Bay}
 use Rattle.bay_rules.specs.Process.{Process}
-use Rattle.bay_audit.specs.Cases.{is_in}
-use Rattle.bay_audit.specs.Rules.{AreReleases, AreTold, IsRelease, IsToldOf, IsTurn, IsVerdict, BoundProgram, case_count, demand, told_count, way_of, ways}
+use Rattle.bay_audit.specs.Cases.{is_in, lost_case}
+use Rattle.bay_audit.specs.Process.{IsLost}
+use Rattle.bay_audit.specs.Rules.{AreReleases, AreTold, IsDecision, IsRelease, IsToldFor, IsToldOf, IsTurn, IsVerdict, BoundProgram, case_count, demand, told_count, way_of, ways}
+use Rattle.bay_audit.specs.declared.answer.Decision.{Decision}
+use Rattle.bay_audit.specs.declared.answer.Decision.TheVariants.{Obeyed, Missed}
 use Rattle.bay_audit.specs.declared.answer.Release.{Release}
 use Rattle.bay_audit.specs.declared.answer.CaseRelease.{CaseRelease}
 use Rattle.bay_audit.specs.declared.answer.CaseRelease.TheVariants.{Released, Refused, Hangs}
@@ -13,6 +17,8 @@ use Rattle.bay_audit.specs.declared.answer.Verdict.{Verdict}
 use Rattle.bay_audit.specs.declared.answer.Verdict.TheVariants as verdict
 use Rattle.bay_audit.specs.declared.case.TestAnswer.{TestAnswer}
 use Rattle.bay_audit.specs.declared.case.Test.{Test}
+use Rattle.bay_audit.specs.declared.demand.Demand.{Demand}
+use Rattle.bay_audit.proofs.CaseLemmas.{lost-in}
 use Rattle.bay_audit.proofs.SearchLemmas.{count-last, count-two, one_if, part, parts-count}
 use Rattle.bay_nodes.specs.declared.switch.Operation.{Operation}
 use Rattle.bay_nodes.specs.declared.switch.Operation.TheVariants as operations
@@ -34,6 +40,28 @@ module _ (g : BoundProgram) (k : ℕ) (operation : Operation) where
   verdict-told case (verdict.Open kept) told is turn =
       let same : told ≡ Hangs kept = cc in subst (IsToldOf g k operation case) (sym same) tt
   verdict-told case (verdict.Split test) told is turn = absurd cc
+
+  -- what a pass decides of the case of a process that is lost
+  module _ (bay : Bay) (d : Demand) (case : List TestAnswer) (x : Decision)
+      (demands : d ≡ demand k operation)
+      (lost : case ≡ lost_case (length bay.switches) (length bay.inputs))
+      (is : IsDecision g d case x) where
+    decided : (y : Decision) → x ≡ y → IsDecision g (demand k operation) case y
+    decided y same =
+        subst (IsDecision g (demand k operation) case) same
+        (subst (λ (e : Demand). IsDecision g e case x) demands is)
+
+    inside : (p : Process) → IsLost bay p → is_in case p ≡ true
+    inside p gone =
+        subst (λ (c : List TestAnswer). is_in c p ≡ true) (sym lost) (lost-in p bay gone)
+
+    pub lost-released : x ≡ Obeyed → IsToldFor (IsLost bay) g k operation Released
+    lost-released e p ip gone machine now slots timers image kept leaves =
+        decided Obeyed e p ip (inside p gone) machine now slots timers image kept tt leaves
+
+    pub lost-refused : x ≡ Missed → IsToldFor (IsLost bay) g k operation Refused
+    lost-refused e p ip gone machine now slots timers image kept leaves =
+        decided Missed e p ip (inside p gone) machine now slots timers image kept tt leaves
 
   pub told-more : (cases : List ToldCase) (c : ToldCase) → AreTold g k operation cases
       → IsToldOf g k operation c.case c.told → AreTold g k operation (cases ++ c ∷ [])
@@ -66,10 +94,10 @@ one-split cases left case test p one =
 
 -- ---- several releases
 
-pub releases-more : (g : BoundProgram) (releases : List Release) (r : Release) → AreReleases g releases
-    → IsRelease g r → AreReleases g (releases ++ r ∷ [])
-releases-more g [] r all one = (one, tt)
-releases-more g (q ∷ releases) r all one = (all.0, releases-more g releases r all.1 one)
+pub releases-more : (bay : Bay) (g : BoundProgram) (releases : List Release) (r : Release)
+    → AreReleases bay g releases → IsRelease bay g r → AreReleases bay g (releases ++ r ∷ [])
+releases-more bay g [] r all one = (one, tt)
+releases-more bay g (q ∷ releases) r all one = (all.0, releases-more bay g releases r all.1 one)
 
 pub ways-more : (releases : List Release) (a b : Release) (k : ℕ)
     → map way_of releases ≡ ways k → way_of a ≡ (k, operations.Open)

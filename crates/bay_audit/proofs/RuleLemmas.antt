@@ -21,13 +21,14 @@ use Rattle.il_scan.specs.Scans as scans
 use Rattle.bay_audit.specs.Cases.{is_in, range_of}
 use Rattle.bay_audit.specs.Conditions.{asked_of, includes, opposite, outlook_of}
 use Rattle.bay_audit.specs.Process.{IsProcess, process_value}
-use Rattle.bay_audit.specs.Rules.{Comes, IsMissed, BoundProgram, decide, goal_range, idle_range, is_asked, is_kept, is_lost, is_obeyed, range_at, range_there, reaches, releasing_point}
+use Rattle.bay_audit.specs.Rules.{Comes, IsMissed, IsDecision, BoundProgram, decide, goal_range, idle_range, is_asked, is_kept, is_missed, is_obeyed, range_at, range_there, reaches, releasing_point}
 use Rattle.bay_audit.specs.declared.demand.Demand.{Demand}
 use Rattle.bay_audit.specs.declared.demand.Goal.{Goal}
 use Rattle.bay_audit.specs.declared.demand.Goal.TheVariants as goals
 use Rattle.bay_audit.specs.declared.case.TestAnswer.{TestAnswer}
 use Rattle.bay_audit.specs.declared.outlook.Outlook.{Outlook}
-use Rattle.bay_audit.specs.declared.answer.Decision.TheVariants.{Obeyed, Lost, Unknown}
+use Rattle.bay_audit.specs.declared.answer.Decision.{Decision}
+use Rattle.bay_audit.specs.declared.answer.Decision.TheVariants.{Obeyed, Missed, Unknown}
 use Rattle.bay_audit.proofs.CaseLemmas.{ranges-have}
 use Rattle.bay_audit.proofs.OutlookLemmas.{condition-included, of-both, of-opposite}
 
@@ -116,55 +117,55 @@ kept-obeyed Always Any b e told = absurd cc
 kept-obeyed Always Either b e told = absurd cc
 kept-obeyed Always (Between x y) b e told = absurd cc
 
-lost-broken : (kind : RuleKind) (r : Range) (b : Bool) → is_lost kind r ≡ true → Told r b
+missed-broken : (kind : RuleKind) (r : Range) (b : Bool) → is_missed kind r ≡ true → Told r b
     → is_obeyed kind true b ≡ false
-lost-broken Never Yes b e told = ap not told
-lost-broken Always No b e told = told
-lost-broken Never No b e told = absurd cc
-lost-broken Never Any b e told = absurd cc
-lost-broken Never Either b e told = absurd cc
-lost-broken Never (Between x y) b e told = absurd cc
-lost-broken Always Yes b e told = absurd cc
-lost-broken Always Any b e told = absurd cc
-lost-broken Always Either b e told = absurd cc
-lost-broken Always (Between x y) b e told = absurd cc
+missed-broken Never Yes b e told = ap not told
+missed-broken Always No b e told = told
+missed-broken Never No b e told = absurd cc
+missed-broken Never Any b e told = absurd cc
+missed-broken Never Either b e told = absurd cc
+missed-broken Never (Between x y) b e told = absurd cc
+missed-broken Always Yes b e told = absurd cc
+missed-broken Always Any b e told = absurd cc
+missed-broken Always Either b e told = absurd cc
+missed-broken Always (Between x y) b e told = absurd cc
 
 -- what each decision says of its tests
-is-obeyed : (kept t lost f : Bool)
-    → cond (kept || not t) Obeyed (cond (lost && not f) Lost Unknown) ≡ Obeyed
+is-obeyed : (kept t missed f : Bool)
+    → cond (kept || not t) Obeyed (cond (missed && not f) Missed Unknown) ≡ Obeyed
     → (kept ≡ true) ⊎ (t ≡ false)
-is-obeyed true t lost f h = inl refl
-is-obeyed false false lost f h = inr refl
+is-obeyed true t missed f h = inl refl
+is-obeyed false false missed f h = inr refl
 is-obeyed false true true true h = absurd cc
 is-obeyed false true true false h = absurd cc
 is-obeyed false true false f h = absurd cc
 
-is-lost : (kept t lost f : Bool)
-    → cond (kept || not t) Obeyed (cond (lost && not f) Lost Unknown) ≡ Lost
-    → (lost ≡ true) × (f ≡ false)
-is-lost true t lost f h = absurd cc
-is-lost false false lost f h = absurd cc
-is-lost false true true true h = absurd cc
-is-lost false true true false h = (refl, refl)
-is-lost false true false f h = absurd cc
+is-missed : (kept t missed f : Bool)
+    → cond (kept || not t) Obeyed (cond (missed && not f) Missed Unknown) ≡ Missed
+    → (missed ≡ true) × (f ≡ false)
+is-missed true t missed f h = absurd cc
+is-missed false false missed f h = absurd cc
+is-missed false true true true h = absurd cc
+is-missed false true true false h = (refl, refl)
+is-missed false true false f h = absurd cc
 
 module _ (kind : RuleKind) (o : Outlook) (r : Range) (b : Bool) (told : Told r b) where
   obeyed-so : (c : Bool) → includes o c ≡ true → decide kind o r ≡ Obeyed
       → is_obeyed kind c b ≡ true
   obeyed-so false one e = refl
   obeyed-so true one e =
-      elim (is-obeyed (is_kept kind r) o.yes (is_lost kind r) o.no e) [
+      elim (is-obeyed (is_kept kind r) o.yes (is_missed kind r) o.no e) [
         | inl kept ↦ kept-obeyed kind r b kept told
         | inr never ↦ absurd (let f : true ≡ false = sym one ∙ never in cc)
       ]
 
-  broken-so : (c : Bool) → includes o c ≡ true → decide kind o r ≡ Lost
+  broken-so : (c : Bool) → includes o c ≡ true → decide kind o r ≡ Missed
       → is_obeyed kind c b ≡ false
   broken-so true one e =
-      lost-broken kind r b (is-lost (is_kept kind r) o.yes (is_lost kind r) o.no e).0 told
+      missed-broken kind r b (is-missed (is_kept kind r) o.yes (is_missed kind r) o.no e).0 told
   broken-so false one e =
       absurd (let f : true ≡ false =
-      sym one ∙ (is-lost (is_kept kind r) o.yes (is_lost kind r) o.no e).1 in cc)
+      sym one ∙ (is-missed (is_kept kind r) o.yes (is_missed kind r) o.no e).1 in cc)
 
 -- ---- goals
 
@@ -222,18 +223,23 @@ module _ (g : BoundProgram) (d : Demand) (case : List TestAnswer) (ranges : List
       included = ap (λ (o : Outlook). includes o (is_asked d p)) is-asked
           ∙ asked-included d p is case inside
 
-  pub obeyed-by : decide d.kind asked r ≡ Obeyed
+  obeyed-by : decide d.kind asked r ≡ Obeyed
       → (p : Process) → IsProcess p → is_in case p ≡ true → Comes true g d p
   obeyed-by e p is inside machine now slots timers image kept young leaves =
       obeyed-so d.kind asked r (reaches g d.goal slots timers)
       (told p is inside machine now slots timers image kept young leaves) (is_asked d p)
       (included p is inside machine now slots timers image kept young leaves) e
 
-  pub broken-by : decide d.kind asked r ≡ Lost → IsMissed g d case
+  broken-by : decide d.kind asked r ≡ Missed → IsMissed g d case
   broken-by e p is inside machine now slots timers image kept young leaves =
       broken-so d.kind asked r (reaches g d.goal slots timers)
       (told p is inside machine now slots timers image kept young leaves) (is_asked d p)
       (included p is inside machine now slots timers image kept young leaves) e
+
+  pub decision-by : (x : Decision) → x ≡ decide d.kind asked r → IsDecision g d case x
+  decision-by Obeyed e = obeyed-by (sym e)
+  decision-by Missed e = broken-by (sym e)
+  decision-by Unknown e = tt
 
 -- a demand is met where nothing is asked
 idle-so : (kind : RuleKind) (o : Outlook) (c b : Bool) → o.yes ≡ false → includes o c ≡ true

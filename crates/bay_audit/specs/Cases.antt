@@ -1,5 +1,5 @@
 -- A case of what the process reports: some tests of it have these answers.
-use Rattle.std.specs.Prelude.{ℕ, ℤ, ◌+ℤ◌, negsuc, pos, int_le, int_lt, Bool, true, false, not, ◌&&◌, ◌||◌, ◌==◌, List, fold, if◌then◌else◌}
+use Rattle.std.specs.Prelude.{ℕ, zero, suc, ℤ, ◌+ℤ◌, negsuc, pos, int_le, int_lt, Bool, true, false, not, ◌&&◌, ◌||◌, ◌==◌, List, [], ◌∷◌, ◌++◌, fold, if◌then◌else◌}
 use Rattle.std.specs.Bool.{beq}
 use Rattle.std.specs.List.{list_all}
 use Rattle.bay_base.specs.declared.point.MeterField.{MeterField}
@@ -33,6 +33,21 @@ meets p l = beq (answer_of p l.test) l.value
 -- the process is one of the case
 abbrev pub is_in : List TestAnswer → Process → Bool
 is_in case p = list_all (meets p) case
+
+-- ---- the case of a process that is lost
+
+-- each of so many switches has position 3
+abbrev pub bad_positions : ℕ → List TestAnswer
+bad_positions zero = []
+bad_positions (suc k) = bad_positions k ++ record { test = test.Position k Bad; value = true } ∷ []
+
+-- each of so many inputs is FALSE
+abbrev pub false_inputs : ℕ → List TestAnswer
+false_inputs zero = []
+false_inputs (suc k) = false_inputs k ++ record { test = test.Input k; value = false } ∷ []
+
+abbrev pub lost_case : ℕ → ℕ → List TestAnswer
+lost_case switches inputs = bad_positions switches ++ false_inputs inputs
 
 -- ---- what a case leaves open
 

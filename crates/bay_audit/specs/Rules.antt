@@ -25,7 +25,7 @@ use Rattle.il_range.specs.declared.range.Range.{Range}
 use Rattle.il_range.specs.declared.range.Range.TheVariants as range
 use Rattle.il_scan.specs.Scans.{Held, outputs_of}
 use Rattle.bay_audit.specs.Cases.{is_in}
-use Rattle.bay_audit.specs.Process.{IsProcess, process_value}
+use Rattle.bay_audit.specs.Process.{IsLost, IsProcess, process_value}
 use Rattle.bay_audit.specs.declared.answer.Answer.{Answer}
 use Rattle.bay_audit.specs.declared.answer.Answer.TheVariants.{Holds, Broken, Open, TooMany, Since, Timed}
 use Rattle.bay_audit.specs.declared.case.TestAnswer.{TestAnswer}
@@ -39,7 +39,7 @@ use Rattle.bay_audit.specs.declared.answer.CaseRelease.TheVariants.{Released, Re
 use Rattle.bay_audit.specs.declared.answer.ToldCase.{ToldCase}
 use Rattle.bay_audit.specs.declared.outlook.Outlook.{Outlook}
 use Rattle.bay_audit.specs.declared.answer.Decision.{Decision}
-use Rattle.bay_audit.specs.declared.answer.Decision.TheVariants.{Obeyed, Lost, Unknown}
+use Rattle.bay_audit.specs.declared.answer.Decision.TheVariants.{Obeyed, Missed, Unknown}
 use Rattle.bay_audit.specs.declared.answer.Verdict.{Verdict}
 use Rattle.bay_audit.specs.declared.answer.Verdict.TheVariants as verdict
 
@@ -218,13 +218,17 @@ Gives b g k operation p =
     → Leaves machine (map (process_value p) g.reads) now slots timers
     → releases g k operation slots ≡ b
 
+-- What is told of a release is so for each of these processes.
+abbrev pub IsToldFor : (Process → Type 0) → BoundProgram → ℕ → Operation → CaseRelease → Type 0
+IsToldFor These g k operation Released =
+    (p : Process) → IsProcess p → These p → Gives true g k operation p
+IsToldFor These g k operation Refused =
+    (p : Process) → IsProcess p → These p → Gives false g k operation p
+IsToldFor These g k operation (Hangs kept) = Unit {0}
+
 -- What is told of a case of a release is so.
 abbrev pub IsToldOf : BoundProgram → ℕ → Operation → List TestAnswer → CaseRelease → Type 0
-IsToldOf g k operation case Released =
-    (p : Process) → IsProcess p → is_in case p ≡ true → Gives true g k operation p
-IsToldOf g k operation case Refused =
-    (p : Process) → IsProcess p → is_in case p ≡ true → Gives false g k operation p
-IsToldOf g k operation case (Hangs kept) = Unit {0}
+IsToldOf g k operation case told = IsToldFor (λ p. is_in case p ≡ true) g k operation told
 
 abbrev pub AreTold : BoundProgram → ℕ → Operation → List ToldCase → Type 0
 AreTold g k operation [] = Unit {0}
@@ -239,15 +243,16 @@ abbrev pub case_count : List (List TestAnswer) → Process → ℕ
 case_count cases p = count_by (λ case. is_in case p) cases
 
 -- The cases of a release are right, and each process is in just one of them, or in one of those
--- that are left.
-pub record IsRelease (g : BoundProgram) (r : Release) : Type 0 where
+-- that are left. What is told of it while the process is lost is right too.
+pub record IsRelease (bay : Bay) (g : BoundProgram) (r : Release) : Type 0 where
   pub told : AreTold g r.switch r.operation r.cases.items
   pub one : (p : Process) → told_count r.cases.items p + case_count r.left.items p ≡ 1
+  pub lost : IsToldFor (IsLost bay) g r.switch r.operation r.lost
 
 -- Each is so.
-abbrev pub AreReleases : BoundProgram → List Release → Type 0
-AreReleases g [] = Unit {0}
-AreReleases g (r ∷ releases) = IsRelease g r × AreReleases g releases
+abbrev pub AreReleases : Bay → BoundProgram → List Release → Type 0
+AreReleases bay g [] = Unit {0}
+AreReleases bay g (r ∷ releases) = IsRelease bay g r × AreReleases bay g releases
 
 -- what is released of so many switches: opening and closing of each
 abbrev pub ways : ℕ → List (ℕ × Operation)
@@ -277,6 +282,12 @@ IsVerdict g d case verdict.Broken = IsMissed g d case
 IsVerdict g d case (verdict.Split test) = Unit {0}
 IsVerdict g d case (verdict.Open kept) = Unit {0}
 
+-- what is decided of a demand in a case
+abbrev pub IsDecision : BoundProgram → Demand → List TestAnswer → Decision → Type 0
+IsDecision g d case Obeyed = (p : Process) → IsProcess p → is_in case p ≡ true → Comes true g d p
+IsDecision g d case Missed = IsMissed g d case
+IsDecision g d case Unknown = Unit {0}
+
 -- it tells neither
 abbrev pub IsUndecided : Verdict → Type 0
 IsUndecided verdict.Obeyed = ⊥
@@ -291,16 +302,16 @@ is_kept Never range.No = true
 is_kept Always range.Yes = true
 is_kept kind r = false
 
-abbrev pub is_lost : RuleKind → Range → Bool
-is_lost Never range.Yes = true
-is_lost Always range.No = true
-is_lost kind r = false
+abbrev pub is_missed : RuleKind → Range → Bool
+is_missed Never range.Yes = true
+is_missed Always range.No = true
+is_missed kind r = false
 
 -- what is known of a rule, by what its condition may come to and by the range of the release
 abbrev pub decide : RuleKind → Outlook → Range → Decision
 decide kind o r =
     if is_kept kind r || not o.yes then Obeyed
-    else if is_lost kind r && not o.no then Lost else Unknown
+    else if is_missed kind r && not o.no then Missed else Unknown
 
 -- the range of what the program writes to a point; FALSE where it does not name it
 abbrev pub range_there : Option Range → Range

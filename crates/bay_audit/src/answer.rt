@@ -49,6 +49,8 @@ pub struct Release {
     pub cases: Vec<ToldCase>,
     /// The cases that were not decided in the passes that are allowed.
     pub left: Vec<Case>,
+    /// What is told of it while the process is lost: each position is bad, and each input FALSE.
+    pub lost: CaseRelease,
 }
 
 /// The answers to rules, and the releases.
@@ -88,7 +90,7 @@ pub enum Decision {
     /// It is obeyed.
     Obeyed,
     /// It is broken.
-    Lost,
+    Missed,
     /// That does not tell.
     Unknown,
 }

@@ -164,17 +164,19 @@ pub fn audit(
     // the condition does.
     ensures answers { IfOk result (λ audit. AreRight (program_of bay.now verified.now) rules.now
         audit.answers.items) }
-    // The cases of each release are right, disjoint, and cover all with those that are left;
-    ensures releases { IfOk result (λ audit. AreReleases (program_of bay.now verified.now)
+    // The cases of each release are right, disjoint, and cover all with those that are left, and
+    // what is told of it while the process is lost is right: where it is released, each scan from
+    // such a process leaves the release TRUE, in each state that the program may keep, and where it
+    // is not, FALSE;
+    ensures releases { IfOk result (λ audit. AreReleases bay.now (program_of bay.now verified.now)
         audit.releases.items) }
     // there is one for each switch and direction.
     ensures ways { IfOk result (λ audit. map way_of audit.releases.items
         ≡ ways (length bay.now.switches)) }
 {
     let wires = wires_of(alloc, bay, verified)?;
-    let count = bay.switches.as_slice().len();
     Ok(Audit {
         answers: answers(alloc, verified, &wires, rules, most)?,
-        releases: releases(alloc, verified, &wires, count, most)?,
+        releases: releases(alloc, bay, verified, &wires, most)?,
     })
 }

@@ -211,6 +211,26 @@ impl Case {
         }
     }
 
+    /// Makes the case of a process that is lost: each of so many switches has position 3, and each of
+    /// so many inputs is FALSE.
+    pub fn lost(alloc: Global, switches: usize, inputs: usize) -> Result<Self, AllocError>
+        ensures { IfOk result (λ case. case ≡ spec.lost_case switches inputs) }
+    {
+        let mut literals = Vec::new(alloc);
+        for switch in 0..switches {
+            let test = Test::Position {
+                switch,
+                position: Dbpos::Bad,
+            };
+            literals.push(TestAnswer { test, value: true })?;
+        }
+        for input in 0..inputs {
+            let test = Test::Input { input };
+            literals.push(TestAnswer { test, value: false })?;
+        }
+        Ok(Case { literals })
+    }
+
     /// Returns the part of the case in which a test has this answer.
     pub fn with(&self, alloc: Global, test: Test, value: bool) -> Result<Case, AllocError>
         ensures { IfOk result (λ case. case ≡ self.now

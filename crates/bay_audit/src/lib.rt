@@ -7,7 +7,7 @@
 // - `verdict`: what one pass over the code tells of a demand in a case.
 // - `split`: on what a case is split where that does not tell.
 // - `audit`: the answers, of the types in `answer`; `until` has those to rules with a time, and
-//   `release` when each switch is released.
+//   `release` when each switch is released, also while the process is lost.
 #![tactic(auto)]
 
 pub mod answer;

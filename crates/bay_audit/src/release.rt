@@ -1,14 +1,18 @@
 // When each switch is released, and in which direction.
 ghost use Rattle.std.specs.Prelude.{◌≡◌, IfOk, length, map};
-ghost use Rattle.bay_audit.specs.Rules.{AreReleases, IsRelease, IsTurn, program, way_of, ways};
+ghost use Rattle.bay_audit.specs.Process.{IsLost};
+ghost use Rattle.bay_audit.specs.Rules.{AreReleases, IsRelease, IsToldFor, IsTurn, program, way_of, ways};
 ghost use Rattle.bay_audit.specs.Rules as spec;
 
-use crate::answer::{CaseRelease, Release, ToldCase, Verdict};
+use crate::answer::{CaseRelease, Decision, Release, ToldCase, Verdict};
 use crate::audit::split;
 use crate::case::{Case, Test};
 use crate::demand::{Demand, Goal};
-use crate::verdict::{Wires, verdict};
+use crate::outlook::Outlook;
+use crate::split::hangs_on;
+use crate::verdict::{Wires, pass, verdict};
 use bay_base::listing::Listing;
+use bay_config::bay::Bay;
 use bay_nodes::switch::Operation;
 use bay_rules::rule::{ConditionItem, RuleKind};
 use il_verify::verify::Verified;
@@ -40,16 +44,50 @@ fn told_by(verdict: Verdict) -> Result<CaseRelease, Test>
     }
 }
 
+// Returns what one pass tells of a release while the process is lost.
+fn lost_release(
+    alloc: Global,
+    bay: &Bay,
+    verified: &Verified,
+    wires: &Wires,
+    switch: usize,
+    operation: Operation,
+) -> Result<CaseRelease, AllocError>
+    ensures { IfOk result (IsToldFor (IsLost bay.now) (program verified.now wires.now.reads.items
+        wires.now.writes.items) switch operation) }
+{
+    let demand = demand(alloc, switch, operation)?;
+    let case = Case::lost(
+        alloc,
+        bay.switches.as_slice().len(),
+        bay.inputs.as_slice().len(),
+    )?;
+    let asked = Outlook {
+        yes: true,
+        no: false,
+    };
+    let (decision, forecast) = pass(alloc, verified, wires, &demand, &case, asked)?;
+    match decision {
+        Decision::Obeyed => Ok(CaseRelease::Released),
+        Decision::Missed => Ok(CaseRelease::Refused),
+        Decision::Unknown => {
+            let kept = hangs_on(alloc, verified, wires, demand.goal, &forecast)?;
+            Ok(CaseRelease::Hangs(kept))
+        }
+    }
+}
+
 // Returns when a switch is released in a direction, by at most so many passes.
 fn release(
     alloc: Global,
+    bay: &Bay,
     verified: &Verified,
     wires: &Wires,
     switch: usize,
     operation: Operation,
     most: u32,
 ) -> Result<Release, AllocError>
-    ensures right { IfOk result (IsRelease (program verified.now wires.now.reads.items
+    ensures right { IfOk result (IsRelease bay.now (program verified.now wires.now.reads.items
         wires.now.writes.items)) }
     ensures way { IfOk result (λ r. way_of r ≡ record { 0 = switch; 1 = operation }) }
 {
@@ -71,26 +109,27 @@ fn release(
         operation,
         cases,
         left,
+        lost: lost_release(alloc, bay, verified, wires, switch, operation)?,
     })
 }
 
-/// Returns when each of so many switches is released, opening first, each by at most so many
-/// passes.
+/// Returns when each switch of a bay is released, opening first, each by at most so many passes.
 pub fn releases(
     alloc: Global,
+    bay: &Bay,
     verified: &Verified,
     wires: &Wires,
-    count: usize,
     most: u32,
 ) -> Result<Vec<Release>, AllocError>
-    ensures right { IfOk result (λ releases. AreReleases (program verified.now
+    ensures right { IfOk result (λ releases. AreReleases bay.now (program verified.now
         wires.now.reads.items wires.now.writes.items) releases.items) }
-    ensures all { IfOk result (λ releases. map way_of releases.items ≡ ways count) }
+    ensures all { IfOk result (λ releases. map way_of releases.items
+        ≡ ways (length bay.now.switches)) }
 {
     let mut releases = Vec::new(alloc);
-    for switch in 0..count {
-        releases.push(release(alloc, verified, wires, switch, Operation::Open, most)?)?;
-        releases.push(release(alloc, verified, wires, switch, Operation::Close, most)?)?;
+    for switch in 0..bay.switches.as_slice().len() {
+        releases.push(release(alloc, bay, verified, wires, switch, Operation::Open, most)?)?;
+        releases.push(release(alloc, bay, verified, wires, switch, Operation::Close, most)?)?;
     }
     Ok(releases)
 }

@@ -192,13 +192,15 @@ fn goal_slot(verified: &Verified, writes: &[Source], goal: Goal, forecast: &Fore
     }
 }
 
-// The slots and the timers that a goal hangs on, by its slot.
-fn hangs_on(
+/// Returns the slots and the timers that a goal hangs on.
+pub fn hangs_on(
     alloc: Global,
     verified: &Verified,
+    wires: &Wires,
+    goal: Goal,
     forecast: &Forecast,
-    goal: usize,
 ) -> Result<Kept, AllocError> {
+    let goal = goal_slot(verified, wires.writes.as_slice(), goal, forecast);
     let mut slots = Vec::new(alloc);
     for slot in 0..forecast.ranges.len() {
         if forecast.sources.on_slot(goal, slot) {
@@ -237,6 +239,6 @@ pub fn undecided(
     if let Some(test) = program_split(verified, wires.reads.as_slice(), case, forecast, slot) {
         return Ok(Verdict::Split(test));
     }
-    let kept = hangs_on(alloc, verified, forecast, slot)?;
+    let kept = hangs_on(alloc, verified, wires, demand.goal, forecast)?;
     Ok(Verdict::Open(kept))
 }

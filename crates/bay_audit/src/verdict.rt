@@ -4,7 +4,7 @@ ghost use Rattle.bay_process.specs.Values as spec_values;
 ghost use Rattle.il_scan.specs.Scans.{outputs_of};
 ghost use Rattle.bay_audit.specs.Cases as spec_cases;
 ghost use Rattle.bay_audit.specs.Conditions as spec_outlook;
-ghost use Rattle.bay_audit.specs.Rules.{IsVerdict, goal_range, program};
+ghost use Rattle.bay_audit.specs.Rules.{IsDecision, IsVerdict, goal_range, program};
 ghost use Rattle.bay_audit.specs.Rules as spec;
 
 use crate::answer::{Decision, Verdict};
@@ -97,8 +97,8 @@ fn is_kept(kind: RuleKind, release: Range) -> bool
 }
 
 // Whether it is surely broken.
-fn is_lost(kind: RuleKind, release: Range) -> bool
-    ensures { result ≡ spec.is_lost kind release }
+fn is_missed(kind: RuleKind, release: Range) -> bool
+    ensures { result ≡ spec.is_missed kind release }
 {
     match (kind, release) {
         (RuleKind::Never, Range::Yes) | (RuleKind::Always, Range::No) => true,
@@ -112,8 +112,8 @@ fn decide(kind: RuleKind, when: Outlook, release: Range) -> Decision
 {
     if is_kept(kind, release) || !when.yes {
         Decision::Obeyed
-    } else if is_lost(kind, release) && !when.no {
-        Decision::Lost
+    } else if is_missed(kind, release) && !when.no {
+        Decision::Missed
     } else {
         Decision::Unknown
     }
@@ -173,18 +173,19 @@ fn range_of_goal(
     }
 }
 
-// Returns the verdict of a pass, where what is asked may come to this.
-fn pass(
+/// Returns what a pass decides of a demand in a case, where what is asked may come to this, and what
+/// it foretells.
+pub(crate) fn pass(
     alloc: Global,
     verified: &Verified,
     wires: &Wires,
     demand: &Demand,
     case: &Case,
     asked: Outlook,
-) -> Result<Verdict, AllocError>
+) -> Result<(Decision, Forecast), AllocError>
     requires { asked ≡ spec_outlook.asked_of case.now demand.now.when demand.now.unless }
-    ensures { IfOk result (IsVerdict (program verified.now wires.now.reads.items
-        wires.now.writes.items) demand.now case.now) }
+    ensures { IfOk result (λ found. IsDecision (program verified.now wires.now.reads.items
+        wires.now.writes.items) demand.now case.now found.0) }
 {
     let given = given(alloc, case, wires.reads.as_slice())?;
     let forecast = scan_timed(alloc, verified, demand.limits.as_slice(), given.as_slice())?;
@@ -195,11 +196,7 @@ fn pass(
         demand.goal,
         &forecast,
     )?;
-    match decide(demand.kind, asked, range) {
-        Decision::Obeyed => Ok(Verdict::Obeyed),
-        Decision::Lost => Ok(Verdict::Broken),
-        Decision::Unknown => undecided(alloc, verified, wires, demand, case, &forecast),
-    }
+    Ok((decide(demand.kind, asked, range), forecast))
 }
 
 /// Returns what one pass tells of a demand in a case.
@@ -222,5 +219,10 @@ pub fn verdict(
     if !asked.yes {
         return Ok(Verdict::Obeyed);
     }
-    pass(alloc, verified, wires, demand, case, asked)
+    let (decision, forecast) = pass(alloc, verified, wires, demand, case, asked)?;
+    match decision {
+        Decision::Obeyed => Ok(Verdict::Obeyed),
+        Decision::Missed => Ok(Verdict::Broken),
+        Decision::Unknown => undecided(alloc, verified, wires, demand, case, &forecast),
+    }
 }

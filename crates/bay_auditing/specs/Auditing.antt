@@ -1,5 +1,5 @@
 -- What an audit of files prints, with which status, and which line is logged then, if any.
-use Rattle.std.specs.Prelude.{◌≡◌, ℕ, List, ◌++◌, codes, length, map, zip, flat_map, Option, None, Some, option_and_then, Result, Ok, Err, ◌⊎◌, if◌then◌else◌}
+use Rattle.std.specs.Prelude.{◌≡◌, ℕ, List, ◌++◌, codes, length, map, zip, Option, None, Some, option_and_then, Result, Ok, Err, ◌⊎◌, if◌then◌else◌}
 use Rattle.std.specs.List.{list_all}
 use Rattle.bay_audit.specs.Rules.{AreReleases, AreRight, program_of, way_of, ways}
 use Rattle.bay_audit.specs.declared.answer.Answer.{Answer}
@@ -23,20 +23,20 @@ use Rattle.bay_rules.specs.Meaning.{TextRead}
 use Rattle.bay_rules.specs.declared.fault.RuleFault.{RuleFault}
 use Rattle.bay_rules.specs.declared.rule.Rule.{Rule}
 use Rattle.il_image.specs.Images.{Image}
-use Rattle.bay_auditing.specs.Text.{Known, answers_text, is_passed, refusal_text, refused_log, release_text}
+use Rattle.bay_auditing.specs.Text.{Known, answers_text, is_passed, refusal_text, refused_log, releases_text}
 
--- Rules are answered, and it is told when each switch is released: there are lines for each, and
--- each is right.
+-- Rules are answered, and it is told when each switch is released, and whether it is while the
+-- process is lost: there are lines for each, and each is right.
 pub record Answers (bay : Bay) (image : Image) (rules : List Rule) (text : List ℕ) (status : ℕ)
     : Type 0 where
   pub names : Known
   pub answers : List Answer
   pub right : AreRight (program_of bay image) rules answers
   pub releases : List Release
-  pub released : AreReleases (program_of bay image) releases
+  pub released : AreReleases bay (program_of bay image) releases
   pub all : map way_of releases ≡ ways (length bay.switches)
   pub said : text
-      ≡ answers_text bay names (zip rules answers) ++ flat_map (release_text bay names) releases
+      ≡ answers_text bay names (zip rules answers) ++ releases_text bay names releases
   pub ends : status ≡ (if list_all is_passed answers then 0 else 4)
 
 -- rules are refused: why, the text and the status

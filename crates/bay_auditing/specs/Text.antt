@@ -187,9 +187,13 @@ abbrev pub operation_text : Operation → List ℕ
 operation_text operations.Open = codes " open"
 operation_text operations.Close = codes " close"
 
+-- a word, the id of a switch and an operation
+abbrev pub way_text : List ℕ → List ℕ → Operation → List ℕ
+way_text word id operation = word ++ (id ++ operation_text operation)
+
 abbrev pub release_of : Bay → Known → List ℕ → Release → List ℕ
 release_of bay names id r =
-    codes "release " ++ id ++ operation_text r.operation ++ found_text bay names r
+    way_text (codes "release ") id r.operation ++ found_text bay names r
 
 -- the lines of a release of a switch that the bay has
 abbrev pub switch_release : Bay → Known → Release → Option Switch → List ℕ
@@ -198,6 +202,31 @@ switch_release bay names r (Some switch) = release_of bay names switch.id r
 
 abbrev pub release_text : Bay → Known → Release → List ℕ
 release_text bay names r = switch_release bay names r (slice_get bay.switches r.switch)
+
+-- ---- the process is lost
+
+-- what is told of a release while the process is lost, and behind it what that hangs on
+abbrev pub lost_of : Known → CaseRelease → List ℕ
+lost_of names told.Released = codes " released"
+lost_of names told.Refused = codes " blocked"
+lost_of names (told.Hangs kept) = codes " hangs" ++ kept_text names kept
+
+abbrev pub lost_line : Known → List ℕ → Release → List ℕ
+lost_line names id r =
+    way_text (codes "lost ") id r.operation ++ (lost_of names r.lost ++ codes "\n")
+
+-- the line of a release of a switch that the bay has
+abbrev pub switch_lost : Known → Release → Option Switch → List ℕ
+switch_lost names r None = []
+switch_lost names r (Some switch) = lost_line names switch.id r
+
+abbrev pub lost_text : Bay → Known → Release → List ℕ
+lost_text bay names r = switch_lost names r (slice_get bay.switches r.switch)
+
+-- the lines of all releases, and behind them those of what is released while the process is lost
+abbrev pub releases_text : Bay → Known → List Release → List ℕ
+releases_text bay names releases =
+    flat_map (release_text bay names) releases ++ flat_map (lost_text bay names) releases
 
 -- ---- rules that are refused
 

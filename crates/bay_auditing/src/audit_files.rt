@@ -3,7 +3,7 @@ ghost use Rattle.std.specs.Prelude.{◌≡◌, ◌++◌, None, Ok, true, is_ok, 
 ghost use Rattle.bay_report.specs.Load.{file_of};
 ghost use Rattle.bay_report.specs.LogLines.{IsTold, LogsSome, PrintsLogs};
 ghost use Rattle.bay_report.specs.Report.{code_of, report_text};
-ghost use Rattle.bay_auditing.specs.Auditing.{Answers, AuditReport, Audits, AuditsRead, DeviceReport, SaysFor, SaysOf, SaysRefused, log_in};
+ghost use Rattle.bay_auditing.specs.Auditing.{Answers, Audits, SaysFor, SaysRefused, log_in};
 
 use crate::kept::names_of;
 use crate::text::{are_passed, fault_words, put_answers, put_refused, put_releases};
@@ -85,25 +85,6 @@ fn refusal_said(alloc: Global, fault: RuleFault) -> Result<AuditOutput, AllocErr
     })
 }
 
-// Returns what is printed for a text of rules.
-fn rules_said(
-    alloc: Global,
-    bay: &Bay,
-    verified: &Verified,
-    form: Form,
-    program: &[u8],
-    rules: &[u8],
-) -> Result<AuditOutput, AllocError>
-    ensures { IfOk result (λ said. SaysFor (Ok bay.now) rules.now verified.now
-        (log_in said.refused) said.text.items (code_of said.status)) }
-{
-    match read_rules(alloc, bay, rules) {
-        Ok(rules) => answers_said(alloc, bay, verified, form, program, rules.as_slice()),
-        Err(RuleFault::OutOfMemory) => Err(AllocError),
-        Err(fault) => refusal_said(alloc, fault),
-    }
-}
-
 // Reads once more the bay of a file that was loaded.
 fn bay_again(alloc: Global, octets: &[u8]) -> Result<Bay, AllocError>
     requires { is_ok (file_of octets.now) ≡ true }
@@ -132,8 +113,20 @@ fn device_said(
         device.now.machine.image (log_in said.refused) said.text.items (code_of said.status)) }
 {
     let bay = bay_again(alloc, both.bay.as_slice())?;
-    let program = both.program.as_slice();
-    rules_said(alloc, &bay, device.verified(), form, program, rules)
+    match read_rules(alloc, &bay, rules) {
+        Ok(rules) => {
+            answers_said(
+                alloc,
+                &bay,
+                device.verified(),
+                form,
+                both.program.as_slice(),
+                rules.as_slice(),
+            )
+        }
+        Err(RuleFault::OutOfMemory) => Err(AllocError),
+        Err(fault) => refusal_said(alloc, fault),
+    }
 }
 
 // Logs why rules are refused, if they are.
@@ -178,70 +171,6 @@ fn write_said<W: Sink>(
     Ok(status)
 }
 
-// Writes the line of a device's load, and the answers to a text of rules.
-fn audit_device<W: Sink>(
-    alloc: Global,
-    both: &BothFiles,
-    form: Form,
-    rules: &[u8],
-    device: &Device,
-    writer: &mut WatchedWriter<W>,
-) -> Result<u8, WriteFault>
-    requires { is_ok (file_of both.now.bay.items) ≡ true }
-    ensures { PrintsLogs W.contents W.does
-        (DeviceReport (file_of both.now.bay.items) rules.now device.now) writer.old writer.new
-        result }
-{
-    let report = device.report();
-    match device_said(alloc, both, form, rules, device) {
-        Ok(said) => write_said(
-            writer,
-            report,
-            said.text.as_slice(),
-            said.status,
-            said.refused,
-        ),
-        Err(AllocError) => write_said(writer, report, NO_MEMORY, Status::Fault, None),
-    }
-}
-
-// Loads what was read, and answers a text of rules.
-fn audit_octets<W: Sink>(
-    alloc: Global,
-    both: &BothFiles,
-    form: Form,
-    rules: &[u8],
-    writer: &mut WatchedWriter<W>,
-) -> Result<u8, WriteFault>
-    ensures { PrintsLogs W.contents W.does
-        (AuditReport both.now.bay.items form both.now.program.items rules.now) writer.old
-        writer.new result }
-{
-    match load_program(alloc, both.bay.as_slice(), form, both.program.as_slice()) {
-        Ok(device) => audit_device(alloc, both, form, rules, &device, writer),
-        Err(fault) => tell_refusal(writer, fault),
-    }
-}
-
-// Reads the rules, and answers them for what was read.
-fn audit_both<F: FileSystem, W: Sink>(
-    alloc: Global,
-    both: &BothFiles,
-    form: Form,
-    rules: &str,
-    files: &F,
-    writer: &mut WatchedWriter<W>,
-) -> Result<u8, WriteFault>
-    ensures { AuditsRead F.reads W.contents W.does form
-        (record { bay = both.now.bay.items; program = both.now.program.items }) rules.now files.now
-        writer.old writer.new result }
-{
-    match read_file(alloc, files, rules) {
-        Ok(octets) => audit_octets(alloc, both, form, octets.as_slice(), writer),
-        Err(unread) => tell_unread(writer, unread.name, unread.fault),
-    }
-}
-
 /// Answers a text of rules for a bay file and a program or an image, by the names of their files.
 /// Writes the line of the load, and a line for each rule. The exit status is 0 if each rule holds
 /// or has a time, 4 if not, 1 if the load or the rules are refused, and 3 if a file can't be read,
@@ -258,8 +187,27 @@ pub fn audit_files<F: FileSystem, W: Sink>(
     ensures { Audits F.reads W.contents W.does bay.now form program.now rules.now files.now
         writer.old writer.new result }
 {
-    match read_files(alloc, files, bay, program) {
-        Ok(both) => audit_both(alloc, &both, form, rules, files, writer),
-        Err(unread) => tell_unread(writer, unread.name, unread.fault),
+    let both = match read_files(alloc, files, bay, program) {
+        Ok(both) => both,
+        Err(unread) => return tell_unread(writer, unread.name, unread.fault),
+    };
+    let rules = match read_file(alloc, files, rules) {
+        Ok(rules) => rules,
+        Err(unread) => return tell_unread(writer, unread.name, unread.fault),
+    };
+    let device = match load_program(alloc, both.bay.as_slice(), form, both.program.as_slice()) {
+        Ok(device) => device,
+        Err(fault) => return tell_refusal(writer, fault),
+    };
+    let report = device.report();
+    match device_said(alloc, &both, form, rules.as_slice(), &device) {
+        Ok(said) => write_said(
+            writer,
+            report,
+            said.text.as_slice(),
+            said.status,
+            said.refused,
+        ),
+        Err(AllocError) => write_said(writer, report, NO_MEMORY, Status::Fault, None),
     }
 }

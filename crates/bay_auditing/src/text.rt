@@ -1,7 +1,7 @@
 // The lines of an audit.
 ghost use Rattle.std.specs.Prelude.{◌≡◌, ◌++◌, codes, OnOk, slice_get, map, zip};
 ghost use Rattle.std.specs.Fmt.{decimal, signed_decimal};
-ghost use Rattle.std.specs.List.{flat_map, list_all};
+ghost use Rattle.std.specs.List.{list_all};
 ghost use Rattle.bay_auditing.specs.Text as spec;
 
 use crate::kept::KeptNames;
@@ -376,6 +376,25 @@ fn put_cases(
     Ok(())
 }
 
+// Adds a word, the id of a switch and an operation.
+fn put_way(
+    text: &mut Vec<u8>,
+    word: &[u8],
+    id: &str,
+    operation: Operation,
+) -> Result<(), AllocError>
+    ensures { OnOk result
+        (text.new.items ≡ text.old.items ++ spec.way_text word.now id.now operation) }
+{
+    text.extend_from_slice(word)?;
+    text.extend_from_slice(id.as_bytes())?;
+    let operation: &[u8] = match operation {
+        Operation::Open => b" open",
+        Operation::Close => b" close",
+    };
+    text.extend_from_slice(operation)
+}
+
 // Adds the lines of a release of the switch with this id.
 fn put_release(
     text: &mut Vec<u8>,
@@ -387,13 +406,7 @@ fn put_release(
     ensures { OnOk result (text.new.items ≡ text.old.items
         ++ spec.release_of bay.now names.now id.now release.now) }
 {
-    let operation: &[u8] = match release.operation {
-        Operation::Open => b" open",
-        Operation::Close => b" close",
-    };
-    text.extend_from_slice(b"release ")?;
-    text.extend_from_slice(id.as_bytes())?;
-    text.extend_from_slice(operation)?;
+    put_way(text, b"release ", id, release.operation)?;
     if release.left.as_slice().is_empty() {
         put_cases(text, bay, names, release.cases.as_slice())
     } else {
@@ -417,18 +430,60 @@ fn put_release_of(
     }
 }
 
-/// Adds the lines of the releases.
+// Adds the line of what is told of a release of the switch with this id while the process is lost.
+fn put_lost(
+    text: &mut Vec<u8>,
+    names: &KeptNames<'_>,
+    id: &str,
+    release: &Release,
+) -> Result<(), AllocError>
+    ensures { OnOk result
+        (text.new.items ≡ text.old.items ++ spec.lost_line names.now id.now release.now) }
+{
+    put_way(text, b"lost ", id, release.operation)?;
+    match &release.lost {
+        CaseRelease::Released => text.extend_from_slice(b" released\n"),
+        CaseRelease::Refused => text.extend_from_slice(b" blocked\n"),
+        CaseRelease::Hangs(kept) => {
+            text.extend_from_slice(b" hangs")?;
+            put_kept(text, names, kept)?;
+            text.extend_from_slice(b"\n")
+        }
+    }
+}
+
+// Adds the line of what is told of a release while the process is lost, if the bay has its switch.
+fn put_lost_of(
+    text: &mut Vec<u8>,
+    bay: &Bay,
+    names: &KeptNames<'_>,
+    release: &Release,
+) -> Result<(), AllocError>
+    ensures { OnOk result
+        (text.new.items ≡ text.old.items ++ spec.lost_text bay.now names.now release.now) }
+{
+    match bay.switches.as_slice().get(release.switch) {
+        Some(found) => put_lost(text, names, found.id.as_str(), release),
+        None => Ok(()),
+    }
+}
+
+/// Adds the lines of the releases, and behind them those of what is released while the process is
+/// lost.
 pub fn put_releases(
     text: &mut Vec<u8>,
     bay: &Bay,
     names: &KeptNames<'_>,
     releases: &[Release],
 ) -> Result<(), AllocError>
-    ensures { OnOk result (text.new.items ≡ text.old.items
-        ++ flat_map (spec.release_text bay.now names.now) releases.now) }
+    ensures { OnOk result
+        (text.new.items ≡ text.old.items ++ spec.releases_text bay.now names.now releases.now) }
 {
     for release in releases {
         put_release_of(text, bay, names, release)?;
+    }
+    for release in releases {
+        put_lost_of(text, bay, names, release)?;
     }
     Ok(())
 }

@@ -67,4 +67,5 @@ returns-clause-right c =
       told = c.loop.invariant.told;
       one = λ p. subst (λ (cs : List (List TestAnswer)). told_count c.loop.cases.items p
           + case_count cs p ≡ 1) left (c.loop.invariant.one p);
+      lost = c.in_ok-lost_release.ensures;
     }

@@ -15,9 +15,9 @@ loop-switch-preserved c =
     c.in_ok-push-2.ensures.items
     ∙ ap (λ (rs : List Release). rs ++ b ∷ []) c.in_ok-push.ensures.items in
     record {
-      right = subst (AreReleases g) (sym items)
-          (releases-more g (before ++ a ∷ []) b
-          (releases-more g before a c.loop-switch.invariant.right c.in_ok-release.ensures.right)
+      right = subst (AreReleases c.args.bay.now g) (sym items)
+          (releases-more c.args.bay.now g (before ++ a ∷ []) b
+          (releases-more c.args.bay.now g before a c.loop-switch.invariant.right c.in_ok-release.ensures.right)
           c.in_ok-release-2.ensures.right);
       all = ap (map way_of) items
           ∙ ways-more before a b c.loop-switch.switch c.loop-switch.invariant.all

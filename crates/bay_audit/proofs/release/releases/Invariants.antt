@@ -4,7 +4,7 @@ use Rattle.bay_audit.proofs.release.releases.Given as goal
 
 abbrev pub invariant-loop-switch : goal.invariant-loop-switch
 invariant-loop-switch l = record {
-  right : AreReleases (program l.verified l.wires.reads.items l.wires.writes.items)
+  right : AreReleases l.bay (program l.verified l.wires.reads.items l.wires.writes.items)
       l.releases.items;
   all : map way_of l.releases.items ≡ ways l.switch;
 }

@@ -1,19 +1,19 @@
-use Rattle.std.proofs.Common.{List, ℕ, Option, map, subst, sym, ◌∙◌, ap}
+use Rattle.std.proofs.Common.{List, ℕ, Option, map, subst, ◌∙◌, ap}
 use Rattle.bay_base.specs.declared.point.Source.{Source}
 use Rattle.il_range.specs.Foretold.{ForetellsTimed}
 use Rattle.il_range.specs.declared.range.Range.{Range}
 use Rattle.bay_audit.specs.Cases.{range_of}
 use Rattle.bay_audit.specs.Rules.{goal_range, program}
 use Rattle.bay_audit.proofs.verdict.pass.Goals as goal
-use Rattle.bay_audit.proofs.RuleLemmas.{broken-by, obeyed-by}
+use Rattle.bay_audit.proofs.RuleLemmas.{decision-by}
 
-pub returns-in-Obeyed : goal.returns-in-Obeyed
-returns-in-Obeyed c =
+pub returns : goal.returns
+returns c =
     let g = program c.args.verified.now c.args.wires.now.reads.items c.args.wires.now.writes.items
     in
     let d = c.args.demand.now in
     let forecast = c.in_ok-forecast.forecast in
-    obeyed-by g d c.args.case.now forecast.ranges.items forecast.limits.items
+    decision-by g d c.args.case.now forecast.ranges.items forecast.limits.items
     (subst
     (λ (limits : List (Option ℕ)). ForetellsTimed g.image limits
     (map (range_of c.args.case.now) g.reads) forecast.limits.items forecast.ranges.items)
@@ -28,27 +28,4 @@ returns-in-Obeyed c =
     (c.in_ok-range.ensures
     ∙ ap (λ (writes : List Source). goal_range g.image.points writes forecast.ranges.items
     forecast.limits.items d.goal) c.as_slice-4.ensures.value)
-    (sym c.in-Obeyed.ensures)
-
-pub returns-in-Lost : goal.returns-in-Lost
-returns-in-Lost c =
-    let g = program c.args.verified.now c.args.wires.now.reads.items c.args.wires.now.writes.items
-    in
-    let d = c.args.demand.now in
-    let forecast = c.in_ok-forecast.forecast in
-    broken-by g d c.args.case.now forecast.ranges.items forecast.limits.items
-    (subst
-    (λ (limits : List (Option ℕ)). ForetellsTimed g.image limits
-    (map (range_of c.args.case.now) g.reads) forecast.limits.items forecast.ranges.items)
-    c.as_slice-2.ensures
-    (subst
-    (λ (given : List Range). ForetellsTimed g.image c.as_slice-2.result.now given
-    forecast.limits.items forecast.ranges.items)
-    (c.as_slice-3.ensures.value ∙ c.in_ok-given.ensures
-    ∙ ap (map (range_of c.args.case.now)) c.as_slice.ensures.value)
-    c.in_ok-forecast.ensures.foretells))
-    c.args.asked c.in_ok-range.range c.requires
-    (c.in_ok-range.ensures
-    ∙ ap (λ (writes : List Source). goal_range g.image.points writes forecast.ranges.items
-    forecast.limits.items d.goal) c.as_slice-4.ensures.value)
-    (sym c.in-Lost.ensures)
+    c.decide.result c.decide.ensures
