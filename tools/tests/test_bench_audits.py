@@ -13,7 +13,7 @@ sys.path.insert(0, str(TOP / 'tools'))
 from auditing import answers, reads
 from auditing.answers import Answer, Case, Proof, Release
 from auditing.things import bay_of, keys_of
-from bay.rules import INPUT, read_rules
+from bay.rules import INPUT, MEASURE, SWITCH, read_rules
 from diagnosis.lines import read
 
 
@@ -68,6 +68,18 @@ class Trial(unittest.TestCase):
         for verdict in (answers.OPEN, answers.MANY):
             self.assertIsNone(self.wrong(Proof(1, verdict), [], True))
             self.assertIn('without an answer', self.wrong(Proof(1, verdict), []))
+
+    def test_what_is_released_while_the_process_is_lost(self):
+        bad = {(SWITCH, 'QA1'): 3, (INPUT, 'I1'): 0, (MEASURE, 'M1_AA'): 5}
+        for state, given, told, found in (
+                (bad, True, answers.RELEASED, []), (bad, False, answers.BLOCKED, []),
+                (bad, True, answers.HANGS, []), ({**bad, (INPUT, 'I1'): 1}, True, 'blocked', []),
+                ({**bad, (SWITCH, 'QA1'): 2}, True, 'blocked', []),
+                (bad, True, answers.BLOCKED, ['another release while the process is lost']),
+                (bad, False, answers.RELEASED, ['another release while the process is lost'])):
+            self.trial.wrong.clear()
+            self.trial.judge_lost(answers.Lost('QA1', 0, told), [(state, released(given))])
+            self.assertEqual(list(self.trial.wrong), found)
 
     def judged(self, release: Release, given: bool, has_memory: bool = False) -> list[str]:
         self.trial.wrong.clear()
