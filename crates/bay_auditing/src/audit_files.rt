@@ -172,9 +172,9 @@ fn write_said<W: Sink>(
 }
 
 /// Answers a text of rules for a bay file and a program or an image, by the names of their files.
-/// Writes the line of the load, and a line for each rule. The exit status is 0 if each rule holds
-/// or has a time, 4 if not, 1 if the load or the rules are refused, and 3 if a file can't be read,
-/// or memory runs out.
+/// Writes the line of the load, a line for each rule, and those of the releases. The exit status is
+/// 0 if each rule holds or has a time, 4 if not, 1 if the load or the rules are refused, and 3 if a
+/// file can't be read, or memory runs out.
 pub fn audit_files<F: FileSystem, W: Sink>(
     alloc: Global,
     bay: &str,
