@@ -1,6 +1,6 @@
-"""Which lines of a trace are not taken: by a server, whose turns have lines of contacts, inputs and
-measures alone; or by a replay, which has lines of clients and scans too, in the order of their
-times."""
+"""Which lines of a trace are not taken: by a server, whose turns have lines of contacts, inputs,
+measures and of a lost process alone; by a server from its process, which can't say that it is lost;
+or by a replay, which has lines of clients and scans too, in the order of their times."""
 import re
 from collections.abc import Iterator
 from dataclasses import dataclass
@@ -12,10 +12,12 @@ from .language import FIELDS
 from .place import near
 
 LATEST, PLACES = 4_294_967_295_999, 8
-VALUES = {'contact': r'[0-3]', 'input': r'[01]', 'measure': r'-?[0-9]+'}
-WHAT = {'contact': 'a position from 0 to 3', 'input': '0 or 1', 'measure': 'a whole number'}
+BAD = 'bad'  # in the place of a measured value
+VALUES = {'contact': r'[0-3]', 'input': r'[01]', 'measure': rf'-?[0-9]+|{BAD}'}
+WHAT = {'contact': 'a position from 0 to 3', 'input': '0 or 1', 'measure': 'a whole number or bad'}
 FORMS = {'contact': 'MS contact ID 0..3', 'input': 'MS input NAME 0|1',
-         'measure': 'MS measure ID FIELD VALUE'}
+         'measure': 'MS measure ID FIELD VALUE|bad'}
+LOST = 'MS lost'
 REPLAYED = {'scan': 'MS scan', 'open': 'MS open A', 'recv': 'MS recv A HEX', 'close': 'MS close A'}
 ALONE = {'scan': 'a server scans by itself in each turn', 'open': 'clients connect to the port',
          'recv': 'clients send to the port', 'close': 'clients close their connections'}
@@ -34,13 +36,14 @@ class Trouble:
 
 class Known:
     """The names of a bay file, in upper case, by the verb that tells of them; and whether lines of
-    a replay are taken."""
+    a replay are taken, or those of a process alone."""
 
-    def __init__(self, bay: dict, is_replay: bool = False) -> None:
+    def __init__(self, bay: dict, is_replay: bool = False, is_process: bool = False) -> None:
         self.names = {'contact': {raised(one['id']) for one in bay['switch']},
                       'input': {raised(one['name']) for one in bay.get('input', [])},
                       'measure': {raised(one['id']) for one in bay.get('meter', [])}}
-        self.is_replay, self.last, self.open = is_replay, 0, set()
+        self.is_replay, self.is_process = is_replay, is_process
+        self.last, self.open = 0, set()
 
     def trouble(self, octets: bytes) -> tuple[int, str] | None:
         """What is wrong with a line: the number and the words, or None."""
@@ -64,8 +67,10 @@ class Known:
             return 120, f'{verb} is a line of a replay: {ALONE[verb]}'
         if verb in REPLAYED and self.is_replay:
             return self.form_of_replay(verb, rest)
+        if verb == 'lost':
+            return self.form_of_loss(rest)
         if verb not in FORMS:
-            told = near(verb, [*FORMS, *REPLAYED]) if verb else ''
+            told = near(verb, [*FORMS, 'lost', *REPLAYED]) if verb else ''
             return 120, f'contact, input or measure must follow the time, not {shown(verb)}{told}'
         value = rest[-1] if rest else ''
         if len(rest) != len(FORMS[verb].split(' ')) - 2 or '' in rest:
@@ -74,9 +79,15 @@ class Known:
             return 120, field_told(rest[1])
         if not re.fullmatch(VALUES[verb], value, re.ASCII):
             return 120, f'the value must be {WHAT[verb]}, not {shown(value)}'
-        if verb == 'measure' and not -2 ** 31 <= number_of(value) < 2 ** 31:
+        is_number = verb == 'measure' and value != BAD
+        if is_number and not -2 ** 31 <= number_of(value) < 2 ** 31:
             return 120, f'{shown(value)} does not fit into 32 bits with sign'
         return None
+
+    def form_of_loss(self, rest: list[str]) -> tuple[int, str] | None:
+        if self.is_process:
+            return 120, 'a process can\'t send lost: the server sees by itself that it is'
+        return (120, f'the form is {LOST}, with nothing behind it') if rest else None
 
     def form_of_replay(self, verb: str, rest: list[str]) -> tuple[int, str] | None:
         if len(rest) != len(REPLAYED[verb].split(' ')) - 2 or '' in rest:
@@ -89,6 +100,8 @@ class Known:
 
     def refused(self, verb: str, rest: list[str]) -> tuple[int, str] | None:
         """Why a line that reads well names nothing of the bay."""
+        if verb == 'lost':
+            return None
         name = raised(rest[0])
         if name in self.names[verb]:
             return None

@@ -110,6 +110,7 @@ def draw_events(picture, history) -> None:
         picture.path([(x - 4, middle - 5), (x + 4, middle - 5), (x, middle + 5),
                       (x - 4, middle - 5)], FAINT, 1, '#d0d0d0', f'scan at {moments.told(moment)}')
     picture.y += 24
+    draw_losses(picture, history.losses)
     if not history.events:
         return
     order = sorted(history.events, key=lambda n: history.refusals[n][0])
@@ -121,11 +122,26 @@ def draw_events(picture, history) -> None:
     picture.y += 16 * (max(rows) + 1) + 8
 
 
+def draw_losses(picture, losses) -> None:
+    """When the process was lost."""
+    if not losses:
+        return
+    picture.lane('Process lost', f'{len(losses)}', picture.y + 8)
+    for moment in losses:
+        draw_saltire(picture, picture.scale.x(moment), picture.y + 8,
+                     f'the process is lost at {moments.told(moment)}: all is bad')
+    picture.y += 24
+
+
 def draw_cross(picture, x, y, number, tip) -> None:
     """A refusal with its number."""
+    draw_saltire(picture, x, y, tip)
+    picture.text(x + 8, y + 4, str(number + 1), fill=WARN, weight='bold')
+
+
+def draw_saltire(picture, x, y, tip) -> None:
     for slope in (-1, 1):
         picture.path([(x - 4, y - 4 * slope), (x + 4, y + 4 * slope)], WARN, 2, tip=tip)
-    picture.text(x + 8, y + 4, str(number + 1), fill=WARN, weight='bold')
 
 
 def draw_client(picture, history, client) -> None:
@@ -233,9 +249,14 @@ def draw_input(picture, track) -> None:
     picture.y += 24
 
 
-def draw_measure(picture, track) -> None:
-    """A measured value as steps, with its values where there is room for them."""
+def draw_measure(picture, track, doubt) -> None:
+    """A measured value as steps, with its values where there is room for them; behind it when it
+    is bad."""
     scale, height = picture.scale, 26
+    for start, end, is_bad in doubt.spells(scale.start, scale.end):
+        if is_bad:
+            picture.box(scale.x(start), picture.y + 14, scale.x(end) - scale.x(start), height,
+                        FILLS['bad'], tip=f'{track.label} bad from {moments.told(start)}')
     values = [0] + [value for _, value in track.changes]
     low, high = min(values), max(max(values), min(values) + 1)
     base = picture.y + 14 + height
@@ -318,8 +339,8 @@ def draw(history, name) -> str:
         draw_switch(picture, history, key)
     for track in history.inputs.values():
         draw_input(picture, track)
-    for track in history.measures.values():
-        draw_measure(picture, track)
+    for label, track in history.measures.items():
+        draw_measure(picture, track, history.doubts[label])
     for place in sorted(history.clients):
         draw_client(picture, history, history.clients[place])
     bottom = picture.y

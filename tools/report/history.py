@@ -5,6 +5,7 @@ from dataclasses import dataclass
 from common import moments
 from common.positions import POSITIONS, WAYS
 from common.texts import raised
+from diagnosis.trace import BAD
 from wire.captured import conversation_of, first_stream, go_on_behind
 from wire.conversation import Conversation, got_of
 from wire.words import cause_told
@@ -59,6 +60,7 @@ class Client:
 
 class History:
     """What became of a scenario, or of a captured session: see `of_replay` and `of_capture`.
+    `doubts` tell when a measure is bad, `losses` are the moments at which the process was lost, and
     `falling` counts the lines that were refused because times go back."""
 
     def __init__(self, bay, report='') -> None:
@@ -69,7 +71,8 @@ class History:
         self.opens = {key: Track('may be opened') for key in self.switches}
         self.closes = {key: Track('may be closed') for key in self.switches}
         self.commands = {key: [] for key in self.switches}
-        self.measures, self.scans, self.moments = {}, [], []
+        self.measures, self.doubts, self.losses = {}, {}, []
+        self.scans, self.moments = [], []
         self.clients, self.conversations, self.causes = {}, {}, {}
         self.refusals, self.events = [], []
 
@@ -137,6 +140,8 @@ class History:
         self.moments.append(step.moment)
         if verb in ('contact', 'input', 'measure'):
             self.event(step.moment, step.words)
+        elif verb == 'lost':
+            self.lose(step.moment)
         elif verb != 'scan':
             self.heard(step, int(rest[0]), bay)
         self.printed(step)
@@ -149,8 +154,25 @@ class History:
         elif words[0] == 'input':
             self.inputs[key].set(moment, int(words[2]))
         else:
-            label = f'{self.meters[key]}_{words[2]}'
-            self.measures.setdefault(label, Track(label, 'process unit')).set(moment, int(words[3]))
+            self.measure(moment, f'{self.meters[key]}_{words[2]}', words[3])
+
+    def measure(self, moment, label, value) -> None:
+        """A measured value, or that it is bad: then it stays what it was. Before the first one it
+        is invalid anyway."""
+        if value != BAD:
+            self.measures.setdefault(label, Track(label, 'process unit')).set(moment, int(value))
+        if label in self.measures:
+            self.doubts.setdefault(label, Track(label)).set(moment, value == BAD)
+
+    def lose(self, moment) -> None:
+        """The process is lost: every position and every measure is bad, every input 0."""
+        self.losses.append(moment)
+        for switch in self.switches.values():
+            switch.set(moment, 'bad')
+        for it in self.inputs.values():
+            it.set(moment, 0)
+        for label in self.measures:
+            self.measure(moment, label, BAD)
 
     def heard(self, step, place, bay) -> None:
         """What a client sent, or that it came or went."""

@@ -320,6 +320,17 @@ class Traces(unittest.TestCase):
         for line in bad:
             self.assertEqual([code for _, code, _ in line_told(line)], [120], line)
 
+    def test_what_is_lost(self):
+        for is_replay in (False, True):
+            self.assertEqual(line_told('1 lost\n1 measure M1 TOTW bad', is_replay), [])
+            for line in ('1 lost QA1', '1 lost ', '1 LOST', '1 measure M1 TOTW BAD',
+                         '1 input ES bad'):
+                self.assertEqual([it[1] for it in line_told(line, is_replay)], [120], line)
+        process = trace.Known(BAY, is_process=True)
+        self.assertIsNone(process.trouble(b'1 measure M1 TOTW bad'))
+        self.assertEqual(process.trouble(b'1 lost'), (
+            120, 'a process can\'t send lost: the server sees by itself that it is'))
+
     def test_line_numbers(self):
         self.assertEqual([line for line, _, _ in line_told('\n1 scan\r\n\n1 scan')], [2, 4])
 

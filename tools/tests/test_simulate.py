@@ -88,7 +88,7 @@ class Simulated(unittest.TestCase):
         file.close()
         self.out.seek(0)
         said = self.out.read()
-        for told in ("not sent: 'FOO' is not a field", 'the value must be a whole number, not '
+        for told in ("not sent: 'FOO' is not a field", 'the value must be a whole number or bad, not '
                      "'3.5'", 'not sent: \'9999999999\' does not fit', '2 is none of 0, 1',
                      'up is none of open, close'):
             self.assertIn(told, said)
