@@ -114,8 +114,8 @@ class Simulated(Simulations):
         file.close()
         self.out.seek(0)
         said = self.out.read()
-        for told in ("not sent: 'FOO' is not a field", 'the value must be a whole number or bad, not '
-                     "'3.5'", 'not sent: \'9999999999\' does not fit', '2 is none of 0, 1',
+        for told in ("not sent: 'FOO' is not a field", 'the value must be a whole number or bad, '
+                     "not '3.5'", 'not sent: \'9999999999\' does not fit', '2 is none of 0, 1',
                      'up is none of open, close'):
             self.assertIn(told, said)
 
@@ -240,8 +240,8 @@ class Supervised(Simulations):
             self.tell(file, greeting.rstrip())
             self.assertEqual(run.wait(10), 1)
             said = self.waits_for('simulate: port ')
-            self.assertRegex(said, r'simulate: port \d+: the server has bay [Ee]1, revision 2( b)?, '
-                             'the bay file E1, 2 b\n$')
+            self.assertRegex(said, r'simulate: port \d+: the server has bay [Ee]1, revision 2( b)?'
+                             ', the bay file E1, 2 b\n$')
             file.close()
 
     def test_a_server_that_must_supervise(self):
