@@ -157,6 +157,11 @@ class Hostile(Tools):
         self.assertIn('no TPKT: it begins with 48 (48 54 54 50', told_of_it)
         self.assertIn("('HTTP/1.1 400')", told_of_it)
 
+    def test_the_port_of_a_supervised_process(self):
+        found = self.asked(lambda connection: connection.sendall(b'17 process 500 E05 1.0\n'))
+        self.assertIn('it greets a process: this is the port of a process, and not that of the '
+                      'clients', found)
+
     def test_octets_that_come_one_by_one(self):
         def drip(connection):
             for octet in CONFIRM * 9:

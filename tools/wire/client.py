@@ -77,10 +77,15 @@ class Client:
     def first_answer(self) -> stream.Got:
         """The answer to the connection request. A server with eight associations takes no other
         connection, so the request waits where the system keeps it."""
+        what = f'port {self.port} of {self.host}'
         try:
             return self.next('CC')
+        except Lost:
+            if not self.came[:1].isdigit():
+                raise
+            raise Lost(f'{what}: it greets a process: this is the port of a process, and not that '
+                       'of the clients') from None
         except TimeoutError:
-            what = f'port {self.port} of {self.host}'
             if self.came:
                 raise Lost(f'{what}: it sends {told(self.came)}, and no whole answer to a '
                            'connection request') from None
