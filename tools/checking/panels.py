@@ -118,5 +118,4 @@ def gone(checks, page) -> None:
     page.until(lambda it: set(positions(it).values()) == {'bad'})
     said = page.asks('select', 'QB1', 'close') + page.asks('operate', 'QB1', 'close')
     checks.wants('an operate by the panel without a process', said, 0,
-                 ['refused: operate QB1 is refused: blocked by interlocking (10)', 'QB1 is bad'],
-                 0)
+                 ['refused: operate QB1 is refused: blocked by process (9)', 'QB1 is bad'], 0)

@@ -32,12 +32,12 @@ def until(test, told) -> object:
 
 class Running:
     """A program in the background, with what it prints in a file. It is killed at the end of a
-    `with` block, or before."""
+    `with` block, or before. `env` are the variables of its environment, where they are others."""
 
-    def __init__(self, *words, stdin=subprocess.DEVNULL) -> None:
+    def __init__(self, *words, stdin=subprocess.DEVNULL, env=None) -> None:
         self.out = tempfile.NamedTemporaryFile('w+', encoding='utf-8')
         self.run = subprocess.Popen([*map(str, words)], stdin=stdin, stdout=self.out,
-                                    stderr=subprocess.STDOUT)
+                                    stderr=subprocess.STDOUT, env=env)
 
     def __enter__(self) -> 'Running':
         return self
@@ -66,11 +66,11 @@ class Running:
 class Server(Running):
     """bayctl, serving a bay on a free port, and a process on another one."""
 
-    def __init__(self, bayctl, bay, logic, *more, with_process=False) -> None:
+    def __init__(self, bayctl, bay, logic, *more, with_process=False, env=None) -> None:
         self.port, self.process = free_port(), free_port()
         ports = ['--process', self.process] if with_process else []
         super().__init__(bayctl, 'serve', '--bay', bay, '--logic', logic, '--port', self.port,
-                         *ports, '--turns', TURNS, *more)
+                         *ports, '--turns', TURNS, *more, env=env)
 
     def client(self) -> Client:
         """A client, as soon as the server listens."""
