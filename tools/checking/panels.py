@@ -118,4 +118,5 @@ def gone(checks, page) -> None:
     page.until(lambda it: set(positions(it).values()) == {'bad'})
     said = page.asks('select', 'QB1', 'close') + page.asks('operate', 'QB1', 'close')
     checks.wants('an operate by the panel without a process', said, 0,
-                 ['refused: operate QB1 is refused: blocked by process (9)', 'QB1 is bad'], 0)
+                 ['refused: operate QB1 is refused: blocked by process (9): the process is lost',
+                  'QB1 is bad'], 0)

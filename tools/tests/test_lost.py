@@ -2,6 +2,7 @@
 import unittest
 
 from tests.tool import Tools
+from wire.words import cause_told
 
 BAY = '''[bay]
 domain = "B"
@@ -61,6 +62,11 @@ class Lost(Tools):
                      'M1_TOTW bad from 4000 ms', 'M1_HZ bad from 2000 ms'):
             self.assertEqual(drawn.count(f'>{told}'), 1, told)
         self.assertIn('the process is lost at 2000 ms', drawn)
+
+    def test_the_cause_of_a_refused_operate(self):
+        self.assertEqual([cause_told(code) for code in (9, 10, 99)], [
+            'blocked by process (9): the process is lost', 'blocked by interlocking (10)',
+            'cause (99)'])
 
     def test_joined(self):
         bay, logic = self.file('bay', BAY), self.file('logic', LOGIC)

@@ -17,6 +17,7 @@ ADD_CAUSES = {
     21: 'ended with overshoot', 22: 'abortion due to deviation',
     23: 'abortion by communication loss', 24: 'blocked by command',
     25: 'none', 26: 'inconsistent parameters', 27: 'locked by other client'}
+HERE = {9: 'the process is lost'}  # the one thing that a cause comes of in bayctl
 ACCESS_ERRORS = {0: 'object invalidated', 1: 'hardware fault', 2: 'temporarily unavailable',
                  3: 'object access denied', 4: 'object undefined',
                  5: 'invalid address', 6: 'type unsupported', 7: 'type inconsistent',
@@ -170,7 +171,8 @@ def quoted(text) -> str:
 
 def cause_told(code) -> str:
     """An AddCause."""
-    return f'{ADD_CAUSES.get(code, "cause")} ({code})'
+    here = f': {HERE[code]}' if code in HERE else ''
+    return f'{ADD_CAUSES.get(code, "cause")} ({code}){here}'
 
 
 def error_told(kind, code) -> str:
