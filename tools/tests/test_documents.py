@@ -56,6 +56,10 @@ class Documents(unittest.TestCase):
                     self.assertTrue(len(rows) > 2 and rows[1].startswith('|--'),
                                     f'{page.name}: {rows[0]}')
 
+    def test_the_pages_stay_short(self):
+        """What comes new to docs/ takes the place of something."""
+        self.assertLess(sum(len(page.read_bytes()) for page in TOP.glob('docs/*.md')), 150_000)
+
     def test_headline(self):
         quoted = [re.findall(r'^> (.*)$', page.read_text(encoding='utf-8'), re.MULTILINE)
                   for page in (TOP / 'README.md', TOP / 'docs' / 'PROVED.md')]
