@@ -277,6 +277,17 @@ class Supervised(Simulations):
                          ['contact QA1 0', 'contact QA1 2'])
         file.close()
 
+    def test_what_it_slept_through_while_it_was_to_live(self):
+        file, run, _ = self.greeted(600)
+        run.send_signal(signal.SIGSTOP)
+        self.tell(file, '5200 command QA1 on')
+        time.sleep(1.5)
+        run.send_signal(signal.SIGCONT)
+        self.assertEqual(run.wait(10), 3)
+        self.assertRegex(self.waits_for('that it lives'), r'not carried out: it is [\d,]+ ms old\n'
+                         'the connection was lost: the server has not said for 600 ms')
+        file.close()
+
     def test_a_limit_of_the_server_binds(self):
         file, run, _ = self.greeted(700, '--oldest', '60000')
         self.tell(file, '7000 alive', '6200 command QA1 on', '6800 command QA1 off')
