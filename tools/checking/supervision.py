@@ -348,17 +348,23 @@ def steps(checks) -> None:
         return
     step = checks.file('step', '+0')
     env = {**os.environ, 'LD_PRELOAD': library, 'FAKETIME_TIMESTAMP_FILE': str(step),
-           'FAKETIME_NO_CACHE': '1', 'FAKETIME_DONT_FAKE_MONOTONIC': '1',
-           'DONT_FAKE_MONOTONIC': '1'}
-    with supervised(checks, env=env) as (server, client), Process(server).lives() as process:
+           'FAKETIME_NO_CACHE': '1', 'FAKETIME_DONT_FAKE_MONOTONIC': '1'}
+    with supervised(checks, '--log', env=env) as (server, client), \
+            Process(server).lives() as process:
+        maps = pathlib.Path(f'/proc/{server.run.pid}/maps').read_text(encoding='utf-8')
+        if 'faketime' not in maps:
+            print('left out, since bayctl does not load libfaketime: steps of the system\'s clock')
+            return
         process.sends('contact QA1 1', 'contact QB1 1')
         until(lambda: positions(client) == (OPEN, OPEN), 'the process has told all')
         control = Control(client, 'QA1')
         control.select()
         for word in STEPS:
-            before = value(client, 'XSWI1$ST$Pos$t')
+            before, printed = value(client, 'XSWI1$ST$Pos$t'), server.printed()
             stepped(step, word)
             time.sleep(0.5)
+            checks.holds('a step of the clock is not logged',
+                         word != STEPS[0] or server.printed() != printed, printed)
             there = value(client, POSITIONS[1])
             process.sends(f'contact QB1 {2 if there == OPEN else 1}')
             becomes(lambda: value(client, POSITIONS[1]) != there)
@@ -366,8 +372,8 @@ def steps(checks) -> None:
             checks.holds('a step of the clock steps moments', 400 < passed < 5000,
                          f'{word}: {passed} ms')
             checks.holds('a step of the clock ends a selection', control.is_selected(), word)
-            checks.holds('a step of the clock ends a process', news(server) == ['process open'],
-                         f'{word}: {server.printed()}')
+            checks.holds('a step of the clock ends a process',
+                         set(news(server)) == {'process open'}, f'{word}: {server.printed()}')
 
 
 def stepped(path: pathlib.Path, word: str) -> None:
