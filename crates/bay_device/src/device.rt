@@ -431,13 +431,6 @@ impl Device {
         self.state.moment
     }
 
-    /// Returns whether the process is lost: nothing was heard of it since it was.
-    pub fn is_lost(&self) -> bool
-        ensures { result ≡ self.now.is_lost }
-    {
-        self.state.is_lost
-    }
-
     /// Returns the name of the domain, as it is spelled in the bay file.
     pub fn domain(&self) -> &str
         ensures { result.now ≡ self.now.domain }
@@ -506,13 +499,6 @@ impl Device {
         ensures { result ≡ input_place self.now name.now }
     {
         self.state.input_place(name)
-    }
-
-    /// Returns the index of the first input that is TRUE, if one is.
-    pub fn first_true_input(&self) -> Option<usize>
-        ensures { result ≡ position (λ value. value) self.now.input_values }
-    {
-        self.state.input_values.first_true()
     }
 
     /// Returns the number of meters in the bay.

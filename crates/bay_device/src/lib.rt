@@ -9,10 +9,10 @@
 //
 // Within: `state` is all that a step works on but for its clients, and can take no memory;
 // bay_process and bay_services make its parts of a bay and a verified image. `step` does what
-// contacts, inputs, measures, scans and time do to it, over `process`, `lost` what the
-// loss of the process does, `connections` has the clients' connections, `octets` and `message` do what their octets come to, and `due` is what
-// tells a client of the end of what it operates. `look_ups` answers what is asked, names by a
-// `table`.
+// contacts, inputs, measures, scans and time do to it, over `process`, and `lost` what the loss of
+// the process does. `connections` has the clients' connections, `octets` and `message` do what
+// their octets come to, and `due` is what tells a client of the end of what it operates. `look_ups`
+// answers what is asked, names by a `table`.
 #![tactic(auto)]
 
 mod connections;

@@ -1,5 +1,5 @@
-// What contacts, measures, doubts and scans do to a bay that clients see: its tree goes on showing no
-// switch as selected.
+// What contacts, measures, doubts and scans do to a bay that clients see: its tree goes on showing
+// no switch as selected.
 ghost use Rattle.std.specs.Prelude.{◌≡◌, ◌<◌, Some, length, not, slice_get};
 ghost use Rattle.bay_nodes.specs.Names.{meter_names, switch_names};
 ghost use Rattle.bay_nodes.specs.declared.switch.Switch.{Switch};

@@ -18,8 +18,8 @@ abbrev pub releasing : ℕ → Operation → List ℕ
 releasing k Open = (opening_of k).value
 releasing k Close = (closing_of k).value
 
--- A switch is operated while the process is not lost, the last scan is fresh, its interlocking value
--- is TRUE in the tree, and no switch of the bay is operating.
+-- A switch is operated while the process is not lost, the last scan is fresh, its interlocking
+-- value is TRUE in the tree, and no switch of the bay is operating.
 pub record IsReleased (c : Client) (b : Bay) (command : Command) : Type 0 where
   pub heard : c.lost ≡ false
   pub fresh : c.fresh ≡ true

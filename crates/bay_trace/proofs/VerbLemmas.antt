@@ -183,8 +183,8 @@ no-association verb words e =
     not-of (bytes_eq verb (codes "open")) (bytes_eq verb (codes "close"))
     (bytes_eq verb (codes "recv")) _ _ _ e
 
--- a text that is neither `scan` nor `lost`, and that begins with no verb before a name and a space, says what it
--- says of an association
+-- a text that is neither `scan` nor `lost`, and that begins with no verb before a name and a space,
+-- says what it says of an association
 pub no-verb : (text : List ℕ) → ((r : List ℕ) → text ≢ codes "contact " ++ r)
     → ((r : List ℕ) → text ≢ codes "input " ++ r) → ((r : List ℕ) → text ≢ codes "measure " ++ r)
     → text ≢ codes "scan" → text ≢ codes "lost"
