@@ -70,6 +70,7 @@ no-event digits word words none = by-number (read_number digits)
     by-number None = refl
     by-number (Some n) = ap (option_map (at_moment n)) none
 
+-- a line whose words are no event tells nothing
 pub unread : (s : State) (digits rest word : List ℕ) (words : List (List ℕ))
     → all_ascii_digits digits ≡ true → slice_split is_space rest ≡ word ∷ words
     → event_of (word ∷ words) ≡ None → told_by s (digits ++ 32 ∷ rest) ≡ None
