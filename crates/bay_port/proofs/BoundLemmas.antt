@@ -1,5 +1,5 @@
 -- What stays of a port: whether its process is told of releases, and what it owes.
-use Rattle.std.proofs.Common.{◌≡◌, ℕ, List, Option, None, Some, is_some, option_map, if◌then◌else◌, refl, sym, ap, ap₂, ◌∙◌}
+use Rattle.std.proofs.Common.{◌≡◌, ℕ, List, Option, None, Some, is_some, option_map, if◌then◌else◌, refl, ap, ap₂, ◌∙◌}
 use Rattle.bay_device.specs.Device.{State}
 use Rattle.bay_port.specs.Ports.{PortData, StaysBound, bare, emptied}
 use Rattle.bay_port.specs.Releases.{Release, nothing_told, told_after}

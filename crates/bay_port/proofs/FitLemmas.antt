@@ -1,5 +1,5 @@
 -- Lemmas on lines that a turn can take.
-use Rattle.std.proofs.Common.{◌≡◌, ℕ, Bool, true, false, ◌-◌, List, [], ◌∷◌, if◌then◌else◌, Option, None, Some, is_some, option_and_then, Result, Ok, Err, refl, sym, ap, ◌∙◌}
+use Rattle.std.proofs.Common.{◌≡◌, ℕ, Bool, true, false, List, [], ◌∷◌, if◌then◌else◌, Option, None, Some, is_some, option_and_then, Result, Ok, Err, refl, sym, ap, ◌∙◌}
 use Rattle.bay_device.specs.Device.{State}
 use Rattle.bay_serve.specs.Served.{process_event, reported, told_by, understood}
 use Rattle.bay_port.specs.Introduction.{introduced_at}

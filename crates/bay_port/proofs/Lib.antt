@@ -8,3 +8,4 @@ pub mod ReleaseLemmas
 pub mod SupervisionLemmas
 pub mod TellingLemmas
 pub mod UseLemmas
+pub mod WatchLemmas

@@ -10,7 +10,7 @@ use Rattle.std.specs.declared.net.socket_addr.SocketAddrV4.{SocketAddrV4}
 use Rattle.bay_device.specs.Device.{State}
 use Rattle.bay_device.specs.LookUps.{enabled_of, may_close, may_open}
 use Rattle.bay_lines.specs.Fronts.{Front, Overlong, Waiting, Whole, front}
-use Rattle.bay_port.specs.Attending.{AttendedPart, Script, accepted_in, all_told, attended_as, attendance, behind, closed_or_kept, first_part, greet_part, line_in_front, line_judged, line_part, offer_part, offered_of, on_heard, quiet_part, read_by, taken_or_closed, talk_part, told_to}
+use Rattle.bay_port.specs.Attending.{AttendedPart, Script, accepted_in, all_told, attended_as, behind, closed_or_kept, first_part, greet_part, line_in_front, line_judged, line_part, offer_part, offered_of, on_heard, quiet_part, read_by, taken_or_closed, talk_part, told_to}
 use Rattle.bay_port.specs.Fit.{is_waiting}
 use Rattle.bay_port.specs.Ports.{PortData, emptied, bare, taken_as, taken_by, taken_front}
 use Rattle.bay_port.specs.Releases.{Release, is_same, last_said, nothing_told, release_part, releases_text, said_at, said_from, said_in, told_after}

@@ -1,28 +1,22 @@
 -- Lemmas on what holds of a supervised process.
-use Rattle.std.proofs.Common.{◌≡◌, ℕ, ◌+◌, ◌-◌, ◌≤◌, Bool, ◌&&◌, true, false, nat_le, drop, if◌then◌else◌, List, [], ◌∷◌, ◌++◌, Option, None, Some, option_map, Result, Ok, Err, refl, sym, ap, ◌∙◌, subst, arith}
+use Rattle.std.proofs.Common.{◌≡◌, ℕ, ◌-◌, Bool, true, false, nat_le, List, [], ◌∷◌, ◌++◌, Option, None, Some, Result, Ok, Err, refl, sym, ap, ◌∙◌, subst, arith}
 use Rattle.std.proofs.lemmas.Bool.{and_parts}
 use Rattle.std.proofs.lemmas.Bool.Decides.{nat_tests}
-use Rattle.std.specs.declared.net.socket_addr.SocketAddrV4.{SocketAddrV4}
 use Rattle.bay_device.specs.Device.{State}
 use Rattle.bay_lines.specs.Cuttings.{AreLines, Cutting, LosesNothing, cutting_of}
 use Rattle.bay_lines.specs.Fronts.{Front, Waiting, Overlong, Whole, front}
 use Rattle.bay_lines.proofs.FrontLemmas.{nothing-is-lost}
-use Rattle.bay_serve.specs.Calls.{Call, ReadOutcome, Octets, Silence, Over, Broken}
 use Rattle.bay_port.specs.Introduction.{introduced_at}
 use Rattle.bay_serve.specs.Supervised.{timed_line_of}
 use Rattle.bay_serve.specs.declared.process.ProcessEvent.{ProcessEvent}
 use Rattle.bay_serve.specs.declared.supervised.TimedLine.{TimedLine}
-use Rattle.bay_port.specs.Attending.{Attended, AttendedPart, Script, accepted_in, all_told, attendance, attended_as, attended_here, behind, closed_or_kept, first_part, greet_part, line_in_front, line_judged, line_part, offer_part, offered_of, on_heard, quiet_part, read_by, taken_or_closed, talk_part, told_to}
-use Rattle.bay_port.specs.Fit.{is_waiting}
-use Rattle.bay_port.specs.Ports.{PortData, Taken, bare, emptied, taken_as, taken_by, taken_front, taken_line}
-use Rattle.bay_port.specs.Releases.{told_after}
+use Rattle.bay_port.specs.Ports.{PortData, Taken, bare, taken_as, taken_by, taken_front, taken_line}
 use Rattle.bay_port.specs.Supervision.{AreOf, IsOfThisBay, IsOnTime}
-use Rattle.bay_port.specs.Telling.{ToldTurn, fits_in, greeting}
 use Rattle.bay_port.specs.Uses.{StaysHere, Use, Takes, Attends, after_uses, octets_given, port_after}
 use Rattle.bay_port.proofs.UseLemmas.{attends-keep, comes-keep, cut-is, cut_of, judged_cut, moves_of, starts-follow}
-use Rattle.bay_port.specs.Watching.{Duties, Watched, answered, event_in, heard_at, introduction, is_timely, judged, known_behind, known_by, overlong, report, timely, unheard, word_of}
+use Rattle.bay_port.proofs.WatchLemmas.{accepted-same, attended-same}
+use Rattle.bay_port.specs.Watching.{Duties, Watched, event_in, introduction, is_timely, judged, known_behind, known_by, report, timely, unheard, word_of}
 use Rattle.bay_port.specs.declared.news.Parting.{Parting}
-use Rattle.bay_port.specs.declared.news.Parting.TheVariants.{Ended, QueueFull, LinkFailed, Silent}
 use Rattle.bay_port.specs.declared.port.Presence.{Presence}
 use Rattle.bay_port.specs.declared.port.Presence.TheVariants.{Away, Leaving, Here}
 use Rattle.bay_port.specs.declared.watching.LineWord.{LineWord}
@@ -137,185 +131,6 @@ as-on-time Here s now p w event watched e =
 pub is-on-time : (s : State) (now : ℕ) (p : PortData) (w : Watched) (event : ProcessEvent)
     → p.watch ≡ Some w → (taken_line s now p).event ≡ Some event → IsOnTime s now p w event
 is-on-time s now p w event watched e = as-on-time p.standing s now p w event watched e
-
--- ---- what is known of a process while it is there
-
--- what is known stays, but for when it was heard and whether it said that it lives
-record SameWatch (w : Watched) (watch : Option Watched) : Type 0 where
-  later : Watched
-  is : watch ≡ Some later
-  introduced : later.introduced ≡ w.introduced
-  duties : later.duties ≡ w.duties
-
-same-watch : (w : Watched) (watch : Option Watched) → watch ≡ Some w → SameWatch w watch
-same-watch w watch is = record { later = w; is = is; introduced = refl; duties = refl }
-
-heard-watch : (now : ℕ) (w : Watched) (watch : Option Watched) → SameWatch w watch
-    → SameWatch w (heard_at now watch)
-heard-watch now w watch h = record {
-  later = record h.later { heard = now };
-  is = ap (heard_at now) h.is;
-  introduced = h.introduced;
-  duties = h.duties;
-}
-
--- unless a part led to a closing
-abbrev Steady : Watched → Result PortData Parting → Type 0
-Steady w r = (q : PortData) → r ≡ Ok q → SameWatch w q.watch
-
-steady-port : (w : Watched) (p : PortData) → SameWatch w p.watch → Steady w (Ok p)
-steady-port w p h q e =
-    let is : p ≡ q = cc in subst (λ (d : PortData). SameWatch w d.watch) is h
-
-steady-closed : (w : Watched) (why : Parting) → Steady w (Err why)
-steady-closed w why q e = absurd cc
-
-steady-behind : (w : Watched) (r : Result PortData Parting) (calls : List Call)
-    (f : PortData → AttendedPart) → Steady w r
-    → ((p : PortData) → SameWatch w p.watch → Steady w (f p).after)
-    → (let b : AttendedPart = behind (record { after = r; calls = calls }) f in Steady w b.after)
-steady-behind w (Err why) calls f h next = steady-closed w why
-steady-behind w (Ok p) calls f h next = next p (h p refl)
-
-steady-told : (w : Watched) (t : ToldTurn) (s : State) (p : PortData) → SameWatch w p.watch
-    → Steady w (told_to t s p).after
-steady-told w t s p h = by-room (fits_in p.queue (all_told t s p)) refl
-  where
-    told : PortData
-    told = record p {
-      queue = p.queue ++ all_told t s p;
-      told = told_after s p.told;
-      watch = answered p.watch;
-    }
-
-    by-room : (v : Bool) → fits_in p.queue (all_told t s p) ≡ v → Steady w (told_to t s p).after
-    by-room true e = rw e (steady-port w told (record {
-      later = record h.later { lives = false };
-      is = ap answered h.is;
-      introduced = h.introduced;
-      duties = h.duties;
-    }))
-    by-room false e = rw e (steady-closed w QueueFull)
-
-steady-offered : (w : Watched) (queue : List ℕ) (taken : Option ℕ) (p : PortData)
-    → SameWatch w p.watch → Steady w (offered_of queue taken p).after
-steady-offered w [] taken p h = steady-port w p h
-steady-offered w (b ∷ bs) None p h = steady-closed w LinkFailed
-steady-offered w (b ∷ bs) (Some n) p h =
-    steady-port w (record p { queue = drop n p.queue }) h
-
-steady-read : (w : Watched) (heard : ReadOutcome) (p : PortData) → SameWatch w p.watch
-    → Steady w (read_by heard p).after
-steady-read w heard p h = by-front (is_waiting (front p.kept)) refl
-  where
-    by-heard : (o : ReadOutcome) (calls : List Call) → Steady w (on_heard o p calls).after
-    by-heard (Octets octets) calls =
-        steady-port w (record p { kept = p.kept ++ octets }) h
-    by-heard Silence calls = steady-port w p h
-    by-heard Over calls = steady-closed w Ended
-    by-heard Broken calls = steady-closed w LinkFailed
-
-    by-front : (v : Bool) → is_waiting (front p.kept) ≡ v → Steady w (read_by heard p).after
-    by-front true e = rw e (by-heard heard _)
-    by-front false e = rw e (steady-port w p h)
-
-steady-quiet : (w : Watched) (now : ℕ) (watch : Option Watched) (p : PortData)
-    → SameWatch w p.watch → Steady w (quiet_part now watch p).after
-steady-quiet w now None p h = steady-port w p h
-steady-quiet w now (Some v) p h = by-span (nat_le (now - v.heard) v.duties.limit) refl
-  where
-    by-span : (b : Bool) → nat_le (now - v.heard) v.duties.limit ≡ b
-        → Steady w (quiet_part now (Some v) p).after
-    by-span true e = rw e (steady-port w p h)
-    by-span false e = rw e (steady-closed w (Silent v.duties.limit))
-
-steady-judged : (w : Watched) (now : ℕ) (r : Result LineWord Parting) (p : PortData)
-    → SameWatch w p.watch → Steady w (line_judged now r p).after
-steady-judged w now (Err why) p h = steady-closed w why
-steady-judged w now (Ok word) p h =
-    steady-port w (record p { watch = heard_at now p.watch }) (heard-watch now w p.watch h)
-
-steady-checked : (w : Watched) (now : ℕ) (s : State) (p : PortData) → SameWatch w p.watch
-    → Steady w (line_part now s p).after
-steady-checked w now s p h = by-front (front p.kept)
-  where
-    by-front : (f : Front) → Steady w (line_in_front now s f p).after
-    by-front Waiting = steady-quiet w now p.watch p h
-    by-front Overlong = steady-closed w (overlong p.watch p.kept)
-    by-front (Whole line rest) = steady-judged w now (judged p.watch s now line) p h
-
-steady-greeted : (w : Watched) (now : ℕ) (s : State) (p : PortData) → SameWatch w p.watch
-    → Steady w (greet_part now s p).after
-steady-greeted w now s p h = by-room (fits_in p.queue (greeting now s p.watch)) refl
-  where
-    greeted : PortData
-    greeted =
-        record p { queue = p.queue ++ greeting now s p.watch; watch = heard_at now p.watch }
-
-    by-room : (v : Bool) → fits_in p.queue (greeting now s p.watch) ≡ v
-        → Steady w (greet_part now s p).after
-    by-room true e = rw e (steady-port w greeted (heard-watch now w p.watch h))
-    by-room false e = rw e (steady-closed w QueueFull)
-
-steady-talked : (w : Watched) (t : ToldTurn) (s : State) (answers : Option ℕ × ReadOutcome)
-    (p : PortData) → SameWatch w p.watch → Steady w (talk_part t s answers p).after
-steady-talked w t s answers p h =
-    let a = told_to t s p in
-    let b = behind a (offer_part answers.0) in
-    let c = behind b (read_by answers.1) in
-    steady-behind w c.after c.calls (line_part t.now s)
-    (steady-behind w b.after b.calls (read_by answers.1)
-    (steady-behind w a.after a.calls (offer_part answers.0) (steady-told w t s p h)
-    (λ q k. steady-offered w q.queue answers.0 q k))
-    (λ q k. steady-read w answers.1 q k))
-    (λ q k. steady-checked w t.now s q k)
-
-steady-begun : (w : Watched) (now : ℕ) (s : State) (answers : ReadOutcome × ReadOutcome)
-    (p : PortData) → SameWatch w p.watch → Steady w (first_part now s answers p).after
-steady-begun w now s answers p h =
-    let a = greet_part now s p in
-    let b = behind a (read_by answers.0) in
-    steady-behind w b.after b.calls (read_by answers.1)
-    (steady-behind w a.after a.calls (read_by answers.0) (steady-greeted w now s p h)
-    (λ q k. steady-read w answers.0 q k))
-    (λ q k. steady-read w answers.1 q k)
-
-here-same : (w : Watched) (before : PortData) (r : Result PortData Parting) (calls : List Call)
-    → Steady w r → (closed_or_kept before r calls).port.standing ≡ Here
-    → SameWatch w (closed_or_kept before r calls).port.watch
-here-same w before (Ok q) calls h here = h q refl
-here-same w before (Err why) calls h here = absurd cc
-
-come-same : (w : Watched) (before : PortData) (r : Result PortData Parting) (calls : List Call)
-    → Steady w r → (taken_or_closed before r calls).port.standing ≡ Here
-    → SameWatch w (taken_or_closed before r calls).port.watch
-come-same w before (Ok q) calls h here = h q refl
-come-same w before (Err why) calls h here = absurd cc
-
--- behind a turn, while it is there
-attended-same : (w : Watched) (t : ToldTurn) (s : State) (script : Script) (p : PortData)
-    → p.standing ≡ Here → p.watch ≡ Some w → (attendance t s script p).port.standing ≡ Here
-    → SameWatch w (attendance t s script p).port.watch
-attended-same w t s script p here is still =
-    let part = talk_part t s (script.taken, script.heard) p in
-    let whole : attendance t s script p ≡ attended_here p part =
-    ap (λ standing. attended_as standing t s script p) here in
-    subst (λ (a : Attended). a.port.standing ≡ Here → SameWatch w a.port.watch) (sym whole)
-    (here-same w p part.after part.calls
-    (steady-talked w t s (script.taken, script.heard) p (same-watch w p.watch is))) still
-
-accepted-same : (w : Watched) (now : ℕ) (s : State) (taken : Option (Option SocketAddrV4))
-    (heard : ReadOutcome × ReadOutcome) (p : PortData) → p.standing ≡ Away
-    → (emptied Here p).watch ≡ Some w → (accepted_in now s taken heard p).port.standing ≡ Here
-    → SameWatch w (accepted_in now s taken heard p).port.watch
-accepted-same w now s None heard p away is here =
-    let no : Away ≡ Here = sym away ∙ here in absurd cc
-accepted-same w now s (Some None) heard p away is here =
-    let no : Away ≡ Here = sym away ∙ here in absurd cc
-accepted-same w now s (Some (Some from)) heard p away is here =
-    let part = first_part now s heard (emptied Here p) in
-    come-same w p part.after part.calls
-    (steady-begun w now s heard (emptied Here p) (same-watch w (emptied Here p).watch is)) here
 
 -- ---- whose process it is
 
@@ -532,83 +347,3 @@ is-of-this-bay tells duties domain revision us s now event stays of e =
       moment = starts.moment;
       introduces = starts.introduces;
     }
-
--- ---- silence
-
--- unless a part led to a closing, it was heard at most so long ago
-abbrev Heard : ℕ → Result PortData Parting → Type 0
-Heard now r = (q : PortData) (w : Watched) → r ≡ Ok q → q.watch ≡ Some w
-    → now - w.heard ≤ w.duties.limit
-
-heard-quiet : (now : ℕ) (p : PortData) (watch : Option Watched) → p.watch ≡ watch
-    → Heard now (quiet_part now watch p).after
-heard-quiet now p None is = λ q w e watched.
-    let same : p ≡ q = cc in
-    let none : None ≡ Some w =
-    sym is ∙ ap (λ (d : PortData). d.watch) same ∙ watched in absurd cc
-heard-quiet now p (Some v) is = by-span (nat_le (now - v.heard) v.duties.limit) refl
-  where
-    by-span : (b : Bool) → nat_le (now - v.heard) v.duties.limit ≡ b
-        → Heard now (quiet_part now (Some v) p).after
-    by-span true few = rw few (λ q w e watched.
-        let same : p ≡ q = cc in
-        let one : Some v ≡ Some w =
-        sym is ∙ ap (λ (d : PortData). d.watch) same ∙ watched in
-        let both : v ≡ w = cc in
-        let le : now - v.heard ≤ v.duties.limit = grind (arith, nat_tests) in
-        subst (λ (x : Watched). now - x.heard ≤ x.duties.limit) both le)
-    by-span false few = rw few (λ q w e watched. absurd cc)
-
-heard-judged : (now : ℕ) (r : Result LineWord Parting) (p : PortData)
-    → Heard now (line_judged now r p).after
-heard-judged now (Err why) p = λ q w e watched. absurd cc
-heard-judged now (Ok word) p = λ q w e watched. by-watch q w e watched p.watch refl
-  where
-    by-watch : (q : PortData) (w : Watched)
-        → (let r : Result PortData Parting = Ok (record p { watch = heard_at now p.watch }) in r)
-        ≡ Ok q → q.watch ≡ Some w → (o : Option Watched) → p.watch ≡ o
-        → now - w.heard ≤ w.duties.limit
-    by-watch q w e watched None is =
-        let same : record p { watch = heard_at now p.watch } ≡ q = cc in
-        let none : None ≡ Some w =
-        sym (ap (heard_at now) is) ∙ ap (λ (d : PortData). d.watch) same ∙ watched in absurd cc
-    by-watch q w e watched (Some v) is =
-        let same : record p { watch = heard_at now p.watch } ≡ q = cc in
-        let one : Some (record v { heard = now }) ≡ Some w =
-        sym (ap (heard_at now) is) ∙ ap (λ (d : PortData). d.watch) same ∙ watched in
-        let both : record v { heard = now } ≡ w = cc in
-        subst (λ (x : Watched). now - x.heard ≤ x.duties.limit) both (omega arith)
-
-heard-checked : (now : ℕ) (s : State) (p : PortData) → Heard now (line_part now s p).after
-heard-checked now s p = by-front (front p.kept)
-  where
-    by-front : (f : Front) → Heard now (line_in_front now s f p).after
-    by-front Waiting = heard-quiet now p p.watch refl
-    by-front Overlong = λ q w e watched. absurd cc
-    by-front (Whole line rest) = heard-judged now (judged p.watch s now line) p
-
-heard-behind : (now : ℕ) (s : State) (r : Result PortData Parting) (calls : List Call)
-    → (let b : AttendedPart = behind (record { after = r; calls = calls }) (line_part now s) in
-    Heard now b.after)
-heard-behind now s (Err why) calls = λ q w e watched. absurd cc
-heard-behind now s (Ok p) calls = heard-checked now s p
-
-here-heard : (now : ℕ) (before : PortData) (r : Result PortData Parting) (calls : List Call)
-    → Heard now r → (closed_or_kept before r calls).port.standing ≡ Here → (w : Watched)
-    → (closed_or_kept before r calls).port.watch ≡ Some w → now - w.heard ≤ w.duties.limit
-here-heard now before (Ok q) calls h here w is = h q w refl is
-here-heard now before (Err why) calls h here w is = absurd cc
-
--- a process that is still there behind a turn was heard
-pub is-heard : (t : ToldTurn) (s : State) (script : Script) (p : PortData) (w : Watched)
-    → p.standing ≡ Here → (attendance t s script p).port.standing ≡ Here
-    → (attendance t s script p).port.watch ≡ Some w → t.now - w.heard ≤ w.duties.limit
-is-heard t s script p w here =
-    let part = talk_part t s (script.taken, script.heard) p in
-    let whole : attendance t s script p ≡ attended_here p part =
-    ap (λ standing. attended_as standing t s script p) here in
-    let c = behind (behind (told_to t s p) (offer_part script.taken)) (read_by script.heard) in
-    subst (λ (a : Attended). a.port.standing ≡ Here → a.port.watch ≡ Some w
-    → t.now - w.heard ≤ w.duties.limit) (sym whole)
-    (λ still is.
-    here-heard t.now p part.after part.calls (heard-behind t.now s c.after c.calls) still w is)

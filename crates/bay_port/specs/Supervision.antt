@@ -7,7 +7,7 @@ use Rattle.bay_lines.specs.Fronts.{Whole, front}
 use Rattle.bay_port.specs.Attending.{Script, attendance}
 use Rattle.bay_port.specs.Ports.{PortData, bare}
 use Rattle.bay_port.specs.Telling.{ToldTurn}
-use Rattle.bay_port.specs.Uses.{Attends, Takes, Use, after_uses, all_given}
+use Rattle.bay_port.specs.Uses.{Attends, Takes, Use, all_given}
 use Rattle.bay_port.specs.Watching.{Duties, Watched}
 use Rattle.bay_port.specs.declared.port.Presence.TheVariants.{Away, Here}
 use Rattle.bay_port.specs.Introduction.{introduced_at}
@@ -60,3 +60,11 @@ abbrev pub IsHeard : ToldTurn → State → Script → PortData → Type 0
 IsHeard t s script p = (w : Watched) → p.standing ≡ Here
     → (attendance t s script p).port.standing ≡ Here
     → (attendance t s script p).port.watch ≡ Some w → t.now - w.heard ≤ w.duties.limit
+
+-- It is there, it has said whose process it is, and it was heard at most so long before a moment.
+pub record IsLive (now : ℕ) (p : PortData) : Type 0 where
+  pub here : p.standing ≡ Here
+  pub watch : Watched
+  pub watched : p.watch ≡ Some watch
+  pub introduced : watch.introduced ≡ true
+  pub recent : now - watch.heard ≤ watch.duties.limit
