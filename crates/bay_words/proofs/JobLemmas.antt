@@ -1,5 +1,5 @@
 -- Lemmas on what a command line asks for.
-use Rattle.std.proofs.Common.{◌≡◌, ◌∙◌, ◌⊎◌, inl, inr, ℕ, ◌+◌, ◌^◌, ◌<◌, ◌≤◌, Bool, true, false, subst, List, ◌∷◌, Option, None, Some, Result, Ok, Err, refl, ap, sym, arith, []}
+use Rattle.std.proofs.Common.{◌≡◌, ◌∙◌, ◌⊎◌, inl, inr, ℕ, ◌^◌, ◌<◌, ◌≤◌, Bool, true, false, subst, List, ◌∷◌, Option, None, Some, Result, Ok, Err, refl, ap, sym, arith, []}
 use Rattle.std.specs.Result.{result_ok}
 use Rattle.std.specs.Str.Parse.{IsNumeral, ParsesUnsigned, digits_value, without_leading_plus}
 use Rattle.std.specs.declared.num.ParseIntError.{ParseIntError}
@@ -86,17 +86,25 @@ number-none least greatest text none = by_test (is_unsigned_in least greatest te
 
 -- the number that is read of a text, by what std's `parse` answers at a type of so many bits
 pub parsed-number : (bits least greatest : ℕ) (text : Text) (r : Result ℕ ParseIntError)
-    → ParsesUnsigned bits 10 text r → greatest + 1 ≡ 2 ^ bits → 2 ^ bits ≤ 2 ^ 64
-    → (n : ℕ) → result_ok r ≡ Some n → least ≤ n → number_of least greatest text ≡ Some n
-parsed-number bits least greatest text (Ok m) parsed top within n e low =
+    → ParsesUnsigned bits 10 text r → 2 ^ bits ≤ 2 ^ 64
+    → (n : ℕ) → result_ok r ≡ Some n → least ≤ n → n ≤ greatest
+    → number_of least greatest text ≡ Some n
+parsed-number bits least greatest text (Ok m) parsed within n e low high =
     let same : m ≡ n = cc in
     number-some least greatest text parsed.0.0 (omega (arith, parsed.0.1, within))
-    (omega (arith, low, same, parsed.1)) (omega (arith, parsed.0.1, top))
+    (omega (arith, low, same, parsed.1)) (omega (arith, high, same, parsed.1))
     ∙ ap Some (sym parsed.1 ∙ same)
-parsed-number bits least greatest text (Err fault) parsed top within n e low = absurd cc
+parsed-number bits least greatest text (Err fault) parsed within n e low high = absurd cc
+
+-- it is one of so many bits
+pub parsed-fits : (bits : ℕ) (text : Text) (r : Result ℕ ParseIntError)
+    → ParsesUnsigned bits 10 text r → (n : ℕ) → result_ok r ≡ Some n → n < 2 ^ bits
+parsed-fits bits text (Ok m) parsed n e =
+    let same : m ≡ n = cc in omega (arith, parsed.0.1, parsed.1, same)
+parsed-fits bits text (Err fault) parsed n e = absurd cc
 
 pub unparsed-number : (bits least greatest : ℕ) (text : Text) (r : Result ℕ ParseIntError)
-    → ParsesUnsigned bits 10 text r → greatest + 1 ≡ 2 ^ bits → result_ok r ≡ None
+    → ParsesUnsigned bits 10 text r → greatest < 2 ^ bits → result_ok r ≡ None
     → number_of least greatest text ≡ None
 unparsed-number bits least greatest text (Ok m) parsed top e = absurd cc
 unparsed-number bits least greatest text (Err fault) parsed top e =

@@ -17,9 +17,9 @@ program_view (Image name) = Image name.now
 abbrev pub task_view : Task (Bor (List ℕ)) → Task (List ℕ)
 task_view (Check bay program) = Check bay.now (program_view program)
 task_view Replay = Replay
-task_view (Serve bay program port turns trace process tells) =
+task_view (Serve bay program port turns trace process tells limit key) =
     Serve bay.now (program_view program) port turns (option_map (λ name. name.now) trace) process
-    tells
+    tells limit (option_map (λ name. name.now) key)
 task_view (Compile bay logic out) = Compile bay.now logic.now out.now
 task_view (Audit bay program rules) = Audit bay.now (program_view program) rules.now
 
@@ -40,5 +40,7 @@ job_view job = record {
   turns = job.turns;
   process = job.process;
   tell = option_map (λ name. name.now) job.tell;
+  supervise = job.supervise;
+  key = option_map (λ name. name.now) job.key;
   log = job.log;
 }

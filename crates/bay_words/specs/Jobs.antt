@@ -1,5 +1,5 @@
 -- The commands of the program, and what some words ask for.
-use Rattle.std.specs.Prelude.{ℕ, ◌==◌, Bool, ◌&&◌, true, false, not, List, ◌∷◌, codes, Option, None, Some, is_some, option_and_then, option_map, if◌then◌else◌, []}
+use Rattle.std.specs.Prelude.{ℕ, ◌==◌, Bool, ◌&&◌, true, false, not, List, ◌∷◌, codes, Option, None, Some, is_none, is_some, option_and_then, option_map, if◌then◌else◌, []}
 use Rattle.std.specs.Option.{option_map_or}
 use Rattle.std.specs.Str.{bytes_eq}
 use Rattle.std.specs.Str.Parse.{digits_value, without_leading_plus}
@@ -44,14 +44,16 @@ check_app =
     log_rule
 
 -- `serve --bay F [--logic F] [--image F] --port N --turns N [--trace F] [--process P]
--- [--tell WHAT] [--log]`, with ports from 1 to 65535 and turns below 2 ^ 32
+-- [--tell WHAT] [--supervise MS] [--key F] [--log]`, with ports from 1 to 65535, turns below
+-- 2 ^ 32, and from 100 to 60000 milliseconds
 abbrev pub serve_app : App
 serve_app =
     let named = with_program (with_rule (new_app (codes "serve")) (needed_rule (codes "bay"))) in
-    with_rule (with_rule (with_rule (with_rule (with_rule (with_rule named
+    with_rule (with_rule (with_rule (with_rule (with_rule (with_rule (with_rule (with_rule named
     (number_rule (codes "port") 1 65535 true)) (number_rule (codes "turns") 0 4294967295 true))
     (text_rule (codes "trace"))) (number_rule (codes "process") 1 65535 false))
-    (text_rule (codes "tell"))) log_rule
+    (text_rule (codes "tell"))) (number_rule (codes "supervise") 100 60000 false))
+    (text_rule (codes "key"))) log_rule
 
 -- `replay [--log]`
 abbrev pub replay_app : App
@@ -109,6 +111,10 @@ process_in rows = option_and_then (number_of 1 65535) (first_of (codes "process"
 abbrev pub turns_in : List Row → Option ℕ
 turns_in rows = option_and_then (number_of 0 4294967295) (first_of (codes "turns") rows)
 
+-- the most milliseconds for which a supervised process may be silent, where they were given
+abbrev pub limit_in : List Row → Option ℕ
+limit_in rows = option_and_then (number_of 100 60000) (first_of (codes "supervise") rows)
+
 -- the one or the other, and not both
 abbrev pub either : Option Text → Option Text → Option (ProgramFile Text)
 either (Some logic) None = Some (Logic logic)
@@ -137,18 +143,27 @@ tells_of process None = Some false
 tells_of process (Some word) =
     if is_some process && bytes_eq word (codes "releases") then Some true else None
 
-abbrev pub serve_task : Text → ProgramFile Text → ℕ → ℕ → Option Text → Option ℕ → Bool
-    → Option (Task Text)
-serve_task bay program port turns trace process tells =
-    if is_apart port process then Some (Serve bay program port turns trace process tells) else None
+-- a supervised process has to be there, and a served trace stands for the process; a key is for one
+-- that is supervised
+abbrev pub is_supervisable : Option ℕ → Option Text → Option ℕ → Option Text → Bool
+is_supervisable process trace None key = is_none key
+is_supervisable process trace (Some limit) key = is_some process && is_none trace
 
--- what `serve` asks for: the same, both numbers, a trace and a process, if they were named, and
--- what the process is told
+abbrev pub serve_task : Text → ProgramFile Text → ℕ → ℕ → Option Text → Option ℕ → Option ℕ
+    → Option Text → Bool → Option (Task Text)
+serve_task bay program port turns trace process limit key tells =
+    if is_apart port process && is_supervisable process trace limit key
+    then Some (Serve bay program port turns trace process tells limit key)
+    else None
+
+-- what `serve` asks for: the same, both numbers, a trace and a process, if they were named, what
+-- the process is told, and how it is supervised
 abbrev pub serve_in : List Row → Option (Task Text)
 serve_in rows =
     option_and_then (λ bay. option_and_then (λ program. option_and_then (λ port. option_and_then
     (λ turns. option_and_then
-    (serve_task bay program port turns (first_of (codes "trace") rows) (process_in rows))
+    (serve_task bay program port turns (first_of (codes "trace") rows) (process_in rows)
+    (limit_in rows) (first_of (codes "key") rows))
     (tells_of (process_in rows) (first_of (codes "tell") rows))) (turns_in rows)) (port_in rows))
     (program_in rows)) (first_of (codes "bay") rows)
 
@@ -216,12 +231,14 @@ pub record JobData : Type 0 where
   pub turns : Option ℕ
   pub process : Option ℕ
   pub tell : Option Text
+  pub supervise : Option ℕ
+  pub key : Option Text
   pub log : Bool
 
 abbrev pub verb_of : Task Text → Verb
 verb_of (Check bay program) = verb.Check
 verb_of Replay = verb.Replay
-verb_of (Serve bay program port turns trace process tells) = verb.Serve
+verb_of (Serve bay program port turns trace process tells limit key) = verb.Serve
 verb_of (Compile bay logic out) = verb.Compile
 verb_of (Audit bay program rules) = verb.Audit
 
@@ -239,6 +256,8 @@ with_options rows verb = record {
   turns = turns_in rows;
   process = process_in rows;
   tell = first_of (codes "tell") rows;
+  supervise = limit_in rows;
+  key = first_of (codes "key") rows;
   log = logs rows;
 }
 

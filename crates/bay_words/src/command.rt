@@ -11,7 +11,7 @@ use std::alloc::{AllocError, Global};
 
 // The version of the program, of its formats and of its fault numbers. CHANGELOG.md lists the
 // changes of each version.
-const VERSION: &str = "1.1.0";
+const VERSION: &str = "1.2.0";
 
 // What stands below the options of a command with a program.
 const WANTED: &str = "Exactly one of --logic and --image is wanted.";
@@ -125,6 +125,18 @@ const ENTRIES: [Entry; 5] = [
                 value: Value::Text("WHAT"),
                 required: false,
                 help: "What else the process is told: releases",
+            },
+            Choice {
+                id: "supervise",
+                value: Value::Number("MS", 100, 60_000),
+                required: false,
+                help: "Most milliseconds between two lines of the process",
+            },
+            Choice {
+                id: "key",
+                value: Value::Text("F"),
+                required: false,
+                help: "Key file, whose key the process has to know",
             },
             LOG,
         ],

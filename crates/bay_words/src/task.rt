@@ -27,7 +27,9 @@ pub enum Task<T> {
     Replay,
     /// Serves clients on a port of 127.0.0.1, from 1 on, for the given number of turns. Reads the
     /// trace of the process line by line, if there is one, and then listens to the process itself
-    /// on a port of its own, if it has one, which may be told of releases.
+    /// on a port of its own, if it has one, which may be told of releases. The process may be
+    /// supervised: then it may be silent for at most `limit_ms`, from 100 to 60,000, it has to know
+    /// the key in a file, if that is given, and there is no trace before it.
     Serve {
         bay: T,
         program: ProgramFile<T>,
@@ -36,6 +38,8 @@ pub enum Task<T> {
         trace: Option<T>,
         process: Option<u16>,
         tells_releases: bool,
+        limit_ms: Option<u32>,
+        key: Option<T>,
     },
     /// Answers a text of rules for a bay with a program.
     Audit {

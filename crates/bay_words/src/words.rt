@@ -52,6 +52,10 @@ pub struct Job<'a> {
     pub process: Option<u16>,
     /// What else the process is told.
     pub tell: Option<&'a str>,
+    /// The most milliseconds for which a supervised process may be silent.
+    pub supervise: Option<u32>,
+    /// The file with the key that a supervised process has to know.
+    pub key: Option<&'a str>,
     /// Whether the log is written.
     pub log: bool,
 }
@@ -87,6 +91,18 @@ fn turns_in(found: &ArgMatches<'_>) -> Option<u32>
     ensures { result ≡ spec.turns_in (rows_of (found_of found.now)) }
 {
     value_of(found, "turns")?.parse::<u32>().ok()
+}
+
+// Returns the limit of a supervised process, from 100 to 60,000 milliseconds.
+fn limit_in(found: &ArgMatches<'_>) -> Option<u32>
+    ensures { result ≡ spec.limit_in (rows_of (found_of found.now)) }
+{
+    let limit = value_of(found, "supervise")?.parse::<u32>().ok()?;
+    if limit < 100 || limit > 60_000 {
+        None
+    } else {
+        Some(limit)
+    }
 }
 
 // Returns the program or the image that was named, if exactly one of the two was.
@@ -147,6 +163,23 @@ fn tells_of(process: Option<u16>, word: Option<&str>) -> Option<bool>
     }
 }
 
+// Returns whether the options of a supervised process stand beside those that they need, and not
+// beside a trace.
+fn is_supervisable(
+    process: Option<u16>,
+    trace: Option<&str>,
+    limit: Option<u32>,
+    key: Option<&str>,
+) -> bool
+    ensures { result ≡ spec.is_supervisable process (option_map (λ s. s.now) trace.entry) limit
+        (option_map (λ s. s.now) key.entry) }
+{
+    match limit {
+        Some(_) => process.is_some() && trace.is_none(),
+        None => key.is_none(),
+    }
+}
+
 // Returns what `serve` asks for.
 fn serve_from<'a>(found: &ArgMatches<'a>) -> Option<Task<&'a str>>
     ensures { option_map task_view result ≡ serve_in (rows_of (found_of found.now)) }
@@ -158,7 +191,9 @@ fn serve_from<'a>(found: &ArgMatches<'a>) -> Option<Task<&'a str>>
     let trace = value_of(found, "trace");
     let process = port_in(found, "process");
     let tells_releases = tells_of(process, value_of(found, "tell"))?;
-    if !is_apart(port, process) {
+    let limit_ms = limit_in(found);
+    let key = value_of(found, "key");
+    if !is_apart(port, process) || !is_supervisable(process, trace, limit_ms, key) {
         return None;
     }
     Some(Task::Serve {
@@ -169,6 +204,8 @@ fn serve_from<'a>(found: &ArgMatches<'a>) -> Option<Task<&'a str>>
         trace,
         process,
         tells_releases,
+        limit_ms,
+        key,
     })
 }
 
@@ -259,6 +296,8 @@ fn with_options<'a>(found: &ArgMatches<'a>, verb: Verb) -> Job<'a>
         turns: turns_in(found),
         process: port_in(found, "process"),
         tell: value_of(found, "tell"),
+        supervise: limit_in(found),
+        key: value_of(found, "key"),
         log: logs(found),
     }
 }
@@ -276,7 +315,7 @@ fn job_from<'a>(matches: &ArgMatches<'a>) -> Option<Job<'a>>
 fn usage_of(name: &str) -> &'static str {
     match name {
         "serve" => {
-            "bayctl serve --bay <F> <--logic <F>|--image <F>> --port <N> --turns <N> [--trace <F>] [--process <P>] [--tell <WHAT>] [--log]"
+            "bayctl serve --bay <F> <--logic <F>|--image <F>> --port <N> --turns <N> [--trace <F>] [--process <P>] [--tell <WHAT>] [--supervise <MS>] [--key <F>] [--log]"
         }
         "audit" => "bayctl audit --bay <F> <--logic <F>|--image <F>> --rules <F> [--log]",
         _ => "bayctl check --bay <F> <--logic <F>|--image <F>> [--log]",
@@ -288,19 +327,26 @@ fn wrong_options(found: &ArgMatches<'_>) -> &'static str {
     if program_from(found).is_none() {
         return "exactly one of --logic and --image is wanted";
     }
-    match value_of(found, "tell") {
-        Some(word) if !is_releases(word) => {
-            "invalid value for '--tell <WHAT>'\n  [possible values: releases]"
-        }
-        Some(_) if port_in(found, "process").is_none() => {
-            "the following required arguments were not provided:\n  --process <P>"
-        }
-        _ => "--process wants another port than --port",
+    let tell = value_of(found, "tell");
+    if matches!(tell, Some(word) if !is_releases(word)) {
+        return "invalid value for '--tell <WHAT>'\n  [possible values: releases]";
+    }
+    let process = port_in(found, "process");
+    let limit = limit_in(found);
+    if process.is_none() && (tell.is_some() || limit.is_some()) {
+        "the following required arguments were not provided:\n  --process <P>"
+    } else if limit.is_none() && value_of(found, "key").is_some() {
+        "the following required arguments were not provided:\n  --supervise <MS>"
+    } else if limit.is_some() && value_of(found, "trace").is_some() {
+        "the argument '--trace <F>' cannot be used with '--supervise <MS>'"
+    } else {
+        "--process wants another port than --port"
     }
 }
 
 // Makes the refusal of a command with both or neither of a program and an image, with one port for
-// both the clients and the process, or with something that a process can't be told.
+// both the clients and the process, with something that a process can't be told, or with a
+// supervised process that is not there, a key without one, or a trace before one.
 fn refused_options(alloc: Global, matches: &ArgMatches<'_>) -> WordsFault {
     let (wrong, usage) = match matches.subcommand() {
         Some((name, found)) => (wrong_options(found), usage_of(name)),
@@ -348,9 +394,9 @@ fn matches_of<'a>(alloc: Global, words: &'a [&'a str]) -> Result<ArgMatches<'a>,
 /// Returns what the words after the program's name ask for. A check takes a bay file and either a
 /// program or an image. A replay takes nothing. Serving takes what a check takes, a port and a
 /// number of turns, and optionally a trace and a process on another port, which may be told of
-/// releases. Compiling takes a bay file, a program and the file for the image. An audit takes what
-/// a check takes, and rules. Each may ask for the log. Words that ask for help are refused with the
-/// help.
+/// releases. In place of a trace such a process may be supervised, with a key or without one.
+/// Compiling takes a bay file, a program and the file for the image. An audit takes what a check
+/// takes, and rules. Each may ask for the log. Words that ask for help are refused with the help.
 pub fn task_of<'a>(alloc: Global, words: &'a [&'a str]) -> Result<Asked<&'a str>, WordsFault>
     ensures ok { IfOk result
         (λ t. task_in (map (λ w. w.now) words.entry.now) ≡ Some (asked_view t)) }

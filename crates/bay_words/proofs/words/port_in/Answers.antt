@@ -1,4 +1,4 @@
-use Rattle.std.proofs.Common.{sym, refl, ◌∙◌, arith}
+use Rattle.std.proofs.Common.{sym, ◌∙◌, arith}
 use Rattle.bay_words.proofs.JobLemmas.{parsed-number, unparsed-number}
 use Rattle.bay_words.proofs.words.port_in.Goals as goal
 
@@ -7,11 +7,11 @@ returns-in_err-port c =
     rw (sym c.value_of.ensures, c.in_ok-value_of.was)
     (c.from_residual-in_err-port.ensures ∙ sym
     (unparsed-number 16 1 65535 c.in_ok-value_of.field-0.now c.parse.result c.parse.ensures.value.0
-    refl (sym c.ok.ensures.value ∙ c.in_err-port.was)))
+    (omega arith) (sym c.ok.ensures.value ∙ c.in_err-port.was)))
 
 pub returns-else-port-eq0 : goal.returns-else-port-eq0
 returns-else-port-eq0 c =
     rw (sym c.value_of.ensures, c.in_ok-value_of.was)
     (sym (parsed-number 16 1 65535 c.in_ok-value_of.field-0.now c.parse.result
-    c.parse.ensures.value.0 refl (omega arith) c.in_ok-port.port
-    (sym c.ok.ensures.value ∙ c.in_ok-port.was) (omega (arith, c.if-port-eq0.false))))
+    c.parse.ensures.value.0 (omega arith) c.in_ok-port.port
+    (sym c.ok.ensures.value ∙ c.in_ok-port.was) (omega (arith, c.if-port-eq0.false)) (omega arith)))
