@@ -9,6 +9,10 @@ use Rattle.bay_io.specs.declared.input.ReadFault.{ReadFault}
 abbrev pub FileReads : Type 0 → Type 1
 FileReads F = F → List ℕ → Result (List ℕ) ReadFault → Type 0
 
+-- what a read gave, and whether the file is its owner's alone
+abbrev pub FileGuards : Type 0 → Type 1
+FileGuards F = F → List ℕ → Result (List ℕ × Bool) ReadFault → Type 0
+
 abbrev pub FileWrites : Type 0 → Type 1
 FileWrites F = F → List ℕ → ℕ → List ℕ → Result Bool FileFault → F → Type 0
 

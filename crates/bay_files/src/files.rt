@@ -9,6 +9,7 @@ use bay_io::reader::WatchedReader;
 use std::alloc::{AllocError, Global};
 use std::fs::{File, OpenFile, Permissions};
 use std::io::{ErrorKind, Write};
+use std::os::unix::fs::PermissionsExt;
 use std::path::PathBuf;
 use std::rt::Files;
 use std::{fs, io};
@@ -19,6 +20,9 @@ const FILE_LIMIT: usize = 16_777_216;
 
 // How many temporary names are tried next to the file being written.
 const TRIES: u32 = 100;
+
+// The bits of a file's mode that let its group and others read, write or run it.
+const OTHERS: u32 = 0o077;
 
 // How many links are followed to a file that is written, as the system does.
 const LINKS: u32 = 40;
@@ -39,15 +43,25 @@ impl From<AllocError> for FileFault {
     }
 }
 
+/// What a file holds, and whether its mode keeps all but its owner from it.
+#[derive(Drop)]
+pub struct Guarded {
+    pub octets: Vec<u8>,
+    pub is_private: bool,
+}
+
 /// Files by their names.
 ///
-/// Its meaning is three relations. `reads files name gave`: reading this name gave these octets or
-/// this fault. `writes old name number octets outcome new`: the try with this number to write these
-/// octets to this name led from the files before to those after with this outcome. `same files one
-/// other is_same`: whether both names are of one file. Files in memory give their own meaning.
-/// Nothing is known of the files of a system, and they keep the defaults.
+/// Its meaning is four relations. `reads files name gave`: reading this name gave these octets or
+/// this fault. `guards files name gave`: the same, and whether the file is its owner's alone.
+/// `writes old name number octets outcome new`: the try with this number to write these octets to
+/// this name led from the files before to those after with this outcome. `same files one other
+/// is_same`: whether both names are of one file. Files in memory give their own meaning. Nothing is
+/// known of the files of a system, and they keep the defaults.
 pub trait FileSystem {
     ghost reads: { Self → List ℕ → Result (List ℕ) ReadFault → Type 0 } = { λ _ _ _. Unit {0} };
+
+    ghost guards: { Self → List ℕ → Result (List ℕ × Bool) ReadFault → Type 0 } = { λ _ _ _. Unit {0} };
 
     ghost writes: { Self → List ℕ → ℕ → List ℕ → Result Bool FileFault → Self → Type 0 } = { λ _ _ _ _ _ _. Unit {0} };
 
@@ -57,6 +71,13 @@ pub trait FileSystem {
     fn read(&self, alloc: Global, name: &str) -> Result<Vec<u8>, ReadFault>
         ensures ok { IfOk result (λ octets. reads self.now name.now (Ok octets.items)) }
         ensures err { IfErr result (λ fault. reads self.now name.now (Err fault)) };
+
+    /// Reads all octets of a file, at most 16,777,216, and whether its mode has no bits for its
+    /// group and for others.
+    fn read_guarded(&self, alloc: Global, name: &str) -> Result<Guarded, ReadFault>
+        ensures ok { IfOk result
+            (λ had. guards self.now name.now (Ok (had.octets.items, had.is_private))) }
+        ensures err { IfErr result (λ fault. guards self.now name.now (Err fault)) };
 
     /// Writes octets to the file that a name leads to: fills a new file beside it, whose name has
     /// `.part` and the number of the try behind, and gives it the name. Follows links. Replaces a
@@ -175,6 +196,13 @@ fn file_fault(error: &io::Error) -> FileFault {
     }
 }
 
+// Opens a file to read it, and returns its mode with it.
+fn opened_with_mode<R: Files>(rt: &R, name: &str) -> io::Result<(R::File, u32)> {
+    let file = fs::open(rt, name)?;
+    let mode = file.metadata()?.permissions().mode();
+    Ok((file, mode))
+}
+
 // Where a name leads.
 #[derive(Drop)]
 struct Target {
@@ -241,6 +269,15 @@ impl<R: Files> FileSystem for SystemFiles<'_, R> {
             Ok(file) => read_all(alloc, &mut WatchedReader::new(file), FILE_LIMIT),
             Err(error) => Err(read_fault(&error)),
         }
+    }
+
+    fn read_guarded(&self, alloc: Global, name: &str) -> Result<Guarded, ReadFault> {
+        let (file, mode) = opened_with_mode(self.rt, name).map_err(|error| read_fault(&error))?;
+        let octets = read_all(alloc, &mut WatchedReader::new(file), FILE_LIMIT)?;
+        Ok(Guarded {
+            octets,
+            is_private: mode & OTHERS == 0,
+        })
     }
 
     fn write(
