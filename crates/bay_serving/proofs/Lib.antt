@@ -1,3 +1,4 @@
+pub mod ClockLemmas
 pub mod LogLemmas
 pub mod ServeLemmas
 pub mod TurnLemmas

@@ -1,28 +1,33 @@
 -- Lemmas on serving, turn by turn.
 use Rattle.bay_io.specs.Calls.{WriteCall}
-use Rattle.std.proofs.Common.{◌≡◌, ◌⊎◌, ℕ, suc, ◌+◌, ◌==◌, Bool, true, false, IsErr, MatchBool, List, ◌∷◌, length, drop, slice_get, Option, None, Some, Result, Ok, Err, inl, inr, refl, sym, ap, subst, ◌∙◌, arith, []}
+use Rattle.std.proofs.Common.{◌≡◌, ◌⊎◌, ℕ, suc, ◌+◌, ◌==◌, Bool, true, false, IsErr, MatchBool, List, ◌∷◌, length, Option, None, Some, Result, Ok, Err, inl, inr, refl, sym, ap, subst, ◌∙◌, arith, []}
 use Rattle.std.proofs.lemmas.Bool.Decides.{nat_tests}
 use Rattle.bay_device.specs.Device.{State}
 use Rattle.bay_io.specs.Sent.{Logs}
 use Rattle.bay_io.specs.Watched.{Writing}
 use Rattle.bay_io.specs.declared.outbox.WriteFault.{WriteFault}
 use Rattle.bay_report.proofs.ReportLemmas.{nil-from-length}
+use Rattle.bay_serving.specs.Clock.{ClockData, after_reading, moment_read, shift_of}
 use Rattle.bay_serving.specs.Host.{HostCall, Pauses, Tells}
 use Rattle.bay_report.specs.Report.{IsLast, Prints}
 use Rattle.bay_report.specs.TextLines.{CutsLine, lines_of}
-use Rattle.bay_serving.specs.ServeReport.{AfterTurn, Hearing, Hears, MayPause, Serving, ServesTurns, TellsNews, TellsTurn, TurnFails, TurnGoes, chosen, from_port, is_gone, next_by, told_lines, with_process}
+use Rattle.bay_serving.specs.ServeReport.{AfterTurn, Chosen, Hearing, Hears, MayPause, Serving, ServesTurns, TellsNews, TellsTurn, TellsUnserved, TurnFails, TurnGoes, choice_of, chosen, moment_of, told_lines}
 use Rattle.bay_port.specs.declared.news.News.{News}
 use Rattle.bay_serving.specs.Serving.{TriesTurn}
-use Rattle.bay_serving.specs.LogLines.{used_up_log}
+use Rattle.bay_serving.specs.LogLines.{shift_log, used_up_log}
+use Rattle.bay_serving.specs.Logging.{LogsAll}
 use Rattle.bay_serving.specs.TurnLines.{is_quiet, turn_text}
 use Rattle.bay_serving.specs.declared.serving.Tried.{Tried}
 use Rattle.bay_serving.specs.declared.serving.Tried.TheVariants as tried
 use Rattle.bay_report.proofs.PieceLemmas.{lines-cut}
 use Rattle.bay_serve.specs.Calls.{Call, Called, Talks}
-use Rattle.bay_serve.specs.Served.{Serves, event_in, turn_refusal}
+use Rattle.bay_serve.specs.Served.{Serves, reported_in, turn_refusal}
 use Rattle.bay_serve.specs.Turns.{Held, moment_at}
 use Rattle.bay_serve.specs.declared.told.Turn.{Turn}
-use Rattle.bay_serve.specs.declared.process.ProcessEvent.{ProcessEvent}
+use Rattle.bay_serve.specs.declared.process.Reported.{Reported}
+use Rattle.bay_serve.specs.declared.fault.ServeFault.{ServeFault}
+use Rattle.bay_serving.specs.declared.clock.Clocks.{Clocks}
+use Rattle.bay_serving.specs.declared.clock.Shift.{Shift}
 use Rattle.bay_serving.specs.declared.process.Next.{Next}
 
 -- ---- the lines of a trace that are not empty
@@ -73,12 +78,12 @@ module _ {L B : Type 0} (below : B → L) (does : L → Call → L → Type 0) (
     talks-below calls talks.0 new talks.2,
   )
 
-  pub serves-below : (old new : B) (now : ℕ) (line : Option ProcessEvent) (before after : Held)
+  pub serves-below : (old new : B) (now : ℕ) (given : Reported) (before after : Held)
       (turn : Turn)
       → Serves (Called (λ o call n. does (below o) call (below n)) (λ b. failures (below b))) old
-      new now line before after turn
-      → Serves (Called does failures) (below old) (below new) now line before after turn
-  serves-below old new now line before after turn s = record {
+      new now given before after turn
+      → Serves (Called does failures) (below old) (below new) now given before after turn
+  serves-below old new now given before after turn s = record {
     script = s.script;
     all_read = s.all_read;
     all_offered = s.all_offered;
@@ -90,6 +95,7 @@ module _ {L B : Type 0} (below : B → L) (does : L → Call → L → Type 0) (
     decisions = s.decisions;
     closed = s.closed;
     memory = s.memory;
+    over = s.over;
   }
 
 -- ---- one turn
@@ -99,64 +105,175 @@ module _ {L B H W : Type 0} (below : B → L) (does : L → Call → L → Type 
     (asks : W → WriteCall → W → Type 0) where
   -- a turn was done over the link that has another below it, what it tells was printed, and the
   -- process was attended to
-  pub turn-goes : (next : Next) (clock now : ℕ)
-      (link-before link-after : B) (before after : Held) (host-before host-after : H)
-      (process-before process-after : Option (Hearing L))
-      (old between new : Writing W) (turn : Turn) (s : State) (r answer : Result ℕ WriteFault)
-      → now ≡ moment_at clock before → s ≡ after.device
-      → acts host-before (Tells clock) host-after
-      → turn_refusal clock next.given before ≡ None
+  pub turn-goes : (link-before link-after : B) (held-before held-after : Held)
+      (clock-before clock-after : ClockData) (host-before host-after : H)
+      (process-before process-chosen process-after : Option (Hearing L))
+      (lines-before lines-after : List (ℕ × List ℕ)) (clocks : Clocks) (clock now : ℕ) (next : Next)
+      (shift : Option Shift) (device : State)
+      (old begun between new : Writing W) (turn : Turn) (s : State) (r answer : Result ℕ WriteFault)
+      → clock-after ≡ after_reading clocks clock-before → clock ≡ clock-after.moment
+      → now ≡ moment_at clock held-before
+      → shift ≡ shift_of clock-before.side clock-after.moment clocks.system
+      → device ≡ held-before.device
+      → next ≡ (chosen device now lines-before process-before).next
+      → process-chosen ≡ (chosen device now lines-before process-before).process
+      → lines-after ≡ (chosen device now lines-before process-before).lines
+      → s ≡ held-after.device
+      → acts host-before (Tells clocks.system clocks.steady) host-after
+      → LogsAll contents asks old (shift_log now shift) begun
+      → turn_refusal clock next.given held-before ≡ None
       → Serves (Called (λ o call n. does (below o) call (below n)) (λ b. failures (below b)))
-      link-before link-after (moment_at clock before) (event_in next.given) before after turn
-      → TellsTurn contents asks now next.shown turn s old between r
+      link-before link-after (moment_at clock held-before) (reported_in next.given) held-before
+      held-after turn
+      → TellsTurn contents asks now next.shown turn s begun between r
       → AfterTurn r
-      ((process-after ≡ process-before) × (new ≡ between) × (answer ≡ r))
-      (Hears (Called does failures) contents asks now turn s process-before process-after between
-      new
-      answer)
-      → TurnGoes (Called does failures) acts contents asks next
+      ((process-after ≡ process-chosen) × (new ≡ between) × (answer ≡ r))
+      (Hears (Called does failures) contents asks now turn s process-chosen process-after between
+      new answer)
+      → TurnGoes (Called does failures) acts contents asks
       (record {
         link = below link-before;
-        held = before;
+        held = held-before;
+        clock = clock-before;
         host = host-before;
         process = process-before;
+        lines = lines-before;
       }) old
       (record {
         link = below link-after;
-        held = after;
+        held = held-after;
+        clock = clock-after;
         host = host-after;
         process = process-after;
+        lines = lines-after;
       }) new answer
-  turn-goes next clock now link-before link-after before after host-before host-after
-      process-before process-after old between new turn s r answer is whole told right serves tells
-      hears = record {
-        clock = clock;
-        told = told;
+  turn-goes link-before link-after held-before held-after clock-before clock-after host-before
+      host-after process-before process-chosen process-after lines-before lines-after clocks
+      clock now next shift device old begun between new turn s r answer read is-clock now-is
+      shift-is by-device is-next is-process is-lines is-s told logged at-clock at-clock-serves tells
+      hears =
+      let k : ℕ = moment_read clocks clock-before in
+      let same : clock ≡ k = is-clock ∙ ap (λ (x : ClockData). x.moment) read in
+      let is-now : now ≡ moment_at k held-before =
+      subst (λ m. now ≡ moment_at m held-before) same now-is in
+      let is-shift : shift ≡ shift_of clock-before.side k clocks.system =
+      subst (λ m. shift ≡ shift_of clock-before.side m clocks.system)
+      (ap (λ (x : ClockData). x.moment) read) shift-is in
+      let right : turn_refusal k next.given held-before ≡ None =
+      subst (λ m. turn_refusal m next.given held-before ≡ None) same at-clock in
+      let serves = subst (λ m. Serves (Called (λ o call n. does (below o) call (below n))
+      (λ b. failures (below b))) link-before link-after (moment_at m held-before)
+      (reported_in next.given) held-before held-after turn) same at-clock-serves in
+      let here : Chosen L =
+      chosen held-before.device (moment_at k held-before) lines-before process-before in
+      let here-is : chosen device now lines-before process-before ≡ here =
+      ap (λ d. chosen d now lines-before process-before) by-device
+      ∙ ap (λ m. chosen held-before.device m lines-before process-before) is-now in
+      let next-is : next ≡ here.next = is-next ∙ ap (λ (x : Chosen L). x.next) here-is in
+      let process-is : process-chosen ≡ here.process =
+      is-process ∙ ap (λ (x : Chosen L). x.process) here-is in
+      let serves-turn = serves-below below does failures link-before link-after
+      (moment_at (moment_read clocks clock-before) held-before) (reported_in next.given) held-before
+      held-after turn serves in
+      record {
+        clocks = clocks;
+        begun = begun;
+        asked = record {
+          told = told;
+          logged =
+              subst (λ m. LogsAll contents asks old (shift_log m (shift_of clock-before.side
+              (moment_read clocks clock-before) clocks.system)) begun) is-now
+              (subst (λ x. LogsAll contents asks old (shift_log now x) begun) is-shift logged);
+        };
+        clock = read;
+        lines = is-lines ∙ ap (λ (x : Chosen L). x.lines) here-is;
         turn = turn;
-        right = right;
+        right =
+            subst (λ (n : Next). turn_refusal (moment_read clocks clock-before) n.given held-before
+            ≡ None) next-is right;
         serves =
-            serves-below below does failures link-before link-after (moment_at clock before)
-            (event_in next.given) before after turn serves;
+            subst (λ (n : Next). Serves (Called does failures) (below link-before)
+            (below link-after) (moment_at (moment_read clocks clock-before) held-before)
+            (reported_in n.given) held-before held-after turn) next-is serves-turn;
         between = between;
         outcome = r;
         printed =
-            subst (λ m. TellsTurn contents asks m next.shown turn after.device old between r) is
-            (subst (λ d. TellsTurn contents asks now next.shown turn d old between r) whole tells);
+            subst (λ m. TellsTurn contents asks m here.next.shown turn held-after.device begun
+            between r) is-now
+            (subst (λ d. TellsTurn contents asks now here.next.shown turn d begun between r) is-s
+            (subst (λ (n : Next). TellsTurn contents asks now n.shown turn s begun between r)
+            next-is tells));
         hears =
             subst (λ m. AfterTurn r
-            ((process-after ≡ process-before) × (new ≡ between) × (answer ≡ r))
-            (Hears (Called does failures) contents asks m turn after.device process-before
-            process-after
-            between new answer)) is
+            ((process-after ≡ here.process) × (new ≡ between) × (answer ≡ r))
+            (Hears (Called does failures) contents asks m turn held-after.device here.process
+            process-after between new answer)) is-now
             (subst (λ d. AfterTurn r
-            ((process-after ≡ process-before) × (new ≡ between) × (answer ≡ r))
-            (Hears (Called does failures) contents asks now turn d process-before process-after
-            between
-            new answer)) whole hears);
+            ((process-after ≡ here.process) × (new ≡ between) × (answer ≡ r))
+            (Hears (Called does failures) contents asks now turn d here.process process-after
+            between new answer)) is-s
+            (subst (λ p. AfterTurn r
+            ((process-after ≡ p) × (new ≡ between) × (answer ≡ r))
+            (Hears (Called does failures) contents asks now turn s p process-after between new
+            answer)) process-is hears));
       }
 
 module _ {L H W : Type 0} (step : L → Call → L → Type 0) (acts : H → HostCall L → H → Type 0)
     (contents : W → Option (List ℕ)) (asks : W → WriteCall → W → Type 0) where
+  -- it was not done, and why not is told
+  pub turn-fails : (link : L) (held : Held) (clock-before : ClockData) (host-before host-after : H)
+      (process-before : Option (Hearing L)) (lines-before : List (ℕ × List ℕ)) (clocks : Clocks)
+      (clock now : ℕ) (next : Next) (shift : Option Shift) (device : State)
+      (old begun new : Writing W) (fault : ServeFault) (answer : Result ℕ WriteFault)
+      → clock ≡ moment_read clocks clock-before → now ≡ moment_at clock held
+      → shift ≡ shift_of clock-before.side (moment_read clocks clock-before) clocks.system
+      → device ≡ held.device
+      → next ≡ (chosen device now lines-before process-before).next
+      → acts host-before (Tells clocks.system clocks.steady) host-after
+      → LogsAll contents asks old (shift_log now shift) begun
+      → turn_refusal clock next.given held ≡ Some fault
+      → TellsUnserved contents asks fault next.number next.shown begun new answer
+      → TurnFails step acts contents asks
+      (record {
+        link = link;
+        held = held;
+        clock = clock-before;
+        host = host-before;
+        process = process-before;
+        lines = lines-before;
+      }) old host-after new answer
+  turn-fails link held clock-before host-before host-after process-before lines-before clocks
+      clock now next shift device old begun new fault answer same now-is is-shift is-device is-next
+      told logged at-clock tells =
+      let is-now : now ≡ moment_at (moment_read clocks clock-before) held =
+      subst (λ m. now ≡ moment_at m held) same now-is in
+      let is : turn_refusal (moment_read clocks clock-before) next.given held ≡ Some fault =
+      subst (λ m. turn_refusal m next.given held ≡ Some fault) same at-clock in
+      let k : ℕ = moment_read clocks clock-before in
+      let here : Chosen L = chosen held.device (moment_at k held) lines-before process-before in
+      let here-is : chosen device now lines-before process-before ≡ here =
+      ap (λ d. chosen d now lines-before process-before) is-device
+      ∙ ap (λ m. chosen held.device m lines-before process-before) is-now in
+      let next-is : next ≡ here.next = is-next ∙ ap (λ (x : Chosen L). x.next) here-is in
+      record {
+        clocks = clocks;
+        begun = begun;
+        asked = record {
+          told = told;
+          logged =
+              subst (λ m. LogsAll contents asks old (shift_log m (shift_of clock-before.side
+              (moment_read clocks clock-before) clocks.system)) begun) is-now
+              (subst (λ x. LogsAll contents asks old (shift_log now x) begun) is-shift logged);
+        };
+        fault = fault;
+        is =
+            subst (λ (n : Next). turn_refusal (moment_read clocks clock-before) n.given held
+            ≡ Some fault) next-is is;
+        printed =
+            subst (λ (n : Next). TellsUnserved contents asks fault n.number n.shown begun new
+            answer) next-is tells;
+      }
+
   -- which fault it is makes no difference
   tells-cut : (now : ℕ) (shown : List ℕ) (turn : Turn) (s : State) (old new : Writing W)
       (one other : WriteFault) → TellsTurn contents asks now shown turn s old new (Err one)
@@ -194,28 +311,34 @@ module _ {L H W : Type 0} (step : L → Call → L → Type 0) (acts : H → Hos
     printed = news-cut now h.news old new one other h.printed;
   }
 
-  goes-cut : (next : Next) (before : Serving L H) (old : Writing W)
+  goes-cut : (before : Serving L H) (old : Writing W)
       (after : Serving L H) (new : Writing W) (one other : WriteFault)
-      → TurnGoes step acts contents asks next before old after new (Err one)
-      → TurnGoes step acts contents asks next before old after new (Err other)
-  goes-cut next before old after new one other goes =
+      → TurnGoes step acts contents asks before old after new (Err one)
+      → TurnGoes step acts contents asks before old after new (Err other)
+  goes-cut before old after new one other goes =
       by-outcome goes.outcome goes.printed goes.hears
     where
       now : ℕ
-      now = moment_at goes.clock before.held
+      now = moment_of goes.clocks before
+
+      choice : Chosen L
+      choice = choice_of goes.clocks before
 
       by-outcome : (r : Result ℕ WriteFault)
-          → TellsTurn contents asks now next.shown goes.turn after.held.device old
+          → TellsTurn contents asks now choice.next.shown goes.turn after.held.device goes.begun
           goes.between r
           → AfterTurn r
-          ((after.process ≡ before.process) × (new ≡ goes.between)
+          ((after.process ≡ choice.process) × (new ≡ goes.between)
           × (◌≡◌ {A = Result ℕ WriteFault} (Err one) r))
-          (Hears step contents asks now goes.turn after.held.device before.process after.process
+          (Hears step contents asks now goes.turn after.held.device choice.process after.process
           goes.between new (Err one))
-          → TurnGoes step acts contents asks next before old after new (Err other)
+          → TurnGoes step acts contents asks before old after new (Err other)
       by-outcome (Ok status) printed hears = record {
+        clocks = goes.clocks;
+        begun = goes.begun;
+        asked = goes.asked;
         clock = goes.clock;
-        told = goes.told;
+        lines = goes.lines;
         turn = goes.turn;
         right = goes.right;
         serves = goes.serves;
@@ -223,154 +346,107 @@ module _ {L H W : Type 0} (step : L → Call → L → Type 0) (acts : H → Hos
         outcome = Ok status;
         printed = printed;
         hears =
-            hears-cut now goes.turn after.held.device before.process after.process goes.between new
+            hears-cut now goes.turn after.held.device choice.process after.process goes.between new
             one other hears;
       }
       by-outcome (Err fault) printed hears = record {
+        clocks = goes.clocks;
+        begun = goes.begun;
+        asked = goes.asked;
         clock = goes.clock;
-        told = goes.told;
+        lines = goes.lines;
         turn = goes.turn;
         right = goes.right;
         serves = goes.serves;
         between = goes.between;
         outcome = Err other;
         printed =
-            tells-cut now next.shown goes.turn after.held.device old goes.between fault
-            other printed;
+            tells-cut now choice.next.shown goes.turn after.held.device goes.begun goes.between
+            fault other printed;
         hears = (hears.0, hears.1, refl);
       }
 
   -- its lines could not be written
-  pub tried-cut : (next : Next) (before : Serving L H) (old : Writing W)
-      (after : Serving L H) (new : Writing W) (fault : WriteFault) (r : Result Tried WriteFault)
-      → IsErr r
-      → TurnGoes step acts contents asks next before old after new (Err fault)
-      → TriesTurn step acts contents asks next before old after new r
-  tried-cut next before old after new fault (Ok x) e goes = absurd cc
-  tried-cut next before old after new fault (Err f) e goes =
-      inl (goes-cut next before old after new fault f goes)
+  pub tried-cut : (before : Serving L H) (old : Writing W) (after : Serving L H) (new : Writing W)
+      (fault : WriteFault) (r : Result Tried WriteFault) → IsErr r
+      → TurnGoes step acts contents asks before old after new (Err fault)
+      → TriesTurn step acts contents asks before old after new r
+  tried-cut before old after new fault (Ok x) e goes = absurd cc
+  tried-cut before old after new fault (Err f) e goes =
+      inl (goes-cut before old after new fault f goes)
 
-module _ {L H W : Type 0} (step : L → Call → L → Type 0) (acts : H → HostCall L → H → Type 0)
-    (contents : W → Option (List ℕ)) (asks : W → WriteCall → W → Type 0) where
+  fails-cut : (before : Serving L H) (old : Writing W) (host : H) (new : Writing W)
+      (one other : WriteFault) → TurnFails step acts contents asks before old host new (Err one)
+      → TurnFails step acts contents asks before old host new (Err other)
+  fails-cut before old host new one other fails = record {
+    clocks = fails.clocks;
+    begun = fails.begun;
+    asked = fails.asked;
+    fault = fails.fault;
+    is = fails.is;
+    printed = fails.printed;
+  }
+
+  -- why it was not done could not be written
+  pub failed-cut : (before : Serving L H) (old : Writing W) (after : Serving L H) (new : Writing W)
+      (fault : WriteFault) (r : Result Tried WriteFault) → IsErr r
+      → TurnFails step acts contents asks before old after.host new (Err fault)
+      → TriesTurn step acts contents asks before old after new r
+  failed-cut before old after new fault (Ok x) e fails = absurd cc
+  failed-cut before old after new fault (Err f) e fails =
+      inr (fails-cut before old after.host new fault f fails)
+
   -- there was a pause behind it, or none
-  pub may-pause : (link : L) (held : Held) (process : Option (Hearing L)) (before after : H)
-      → (after ≡ before) ⊎ acts before Pauses after
-      → MayPause acts
-      (record { link = link; held = held; host = before; process = process })
-      (record { link = link; held = held; host = after; process = process })
-  may-pause link held process before after (inl same) =
-      inl (ap (λ (h : H). record { link = link; held = held; host = h; process = process }) same)
-  may-pause link held process before after (inr paused) = inr (paused, refl, refl, refl)
+  pub may-pause : (before : Serving L H) (after : H)
+      → (after ≡ before.host) ⊎ acts before.host Pauses after
+      → MayPause acts before (record before { host = after })
+  may-pause before after (inl same) =
+      inl (ap (λ (h : H). record before { host = h }) same)
+  may-pause before after (inr paused) = inr (paused, refl)
 
 -- ---- how far serving has come
 
 module _ {L H W : Type 0} (step : L → Call → L → Type 0) (acts : H → HostCall L → H → Type 0)
     (contents : W → Option (List ℕ)) (asks : W → WriteCall → W → Type 0) where
   -- what is left to be served goes on to all of it
-  pub record Reached (turns : ℕ) (lines : List (ℕ × List ℕ)) (before : Serving L H)
-      (old : Writing W) (left : ℕ) (rest : List (ℕ × List ℕ)) (here : Serving L H) (mid : Writing W)
-      : Type 0 where
+  pub record Reached (turns : ℕ) (before : Serving L H) (old : Writing W) (left : ℕ)
+      (here : Serving L H) (mid : Writing W) : Type 0 where
     pub goes : (host : H) (new : Writing W) (answer : Result ℕ WriteFault)
-        → ServesTurns step acts contents asks left rest here mid host new answer
-        → ServesTurns step acts contents asks turns lines before old host new answer
+        → ServesTurns step acts contents asks left here mid host new answer
+        → ServesTurns step acts contents asks turns before old host new answer
 
-  pub Reached-start : (turns : ℕ) (lines : List (ℕ × List ℕ)) (before : Serving L H)
-      (old : Writing W) → Reached turns lines before old turns lines before old
-  Reached-start turns lines before old = record { goes = λ host new answer s. s }
+  pub Reached-start : (turns : ℕ) (before : Serving L H) (old : Writing W)
+      → Reached turns before old turns before old
+  Reached-start turns before old = record { goes = λ host new answer s. s }
 
-  module _ (turns : ℕ) (lines : List (ℕ × List ℕ)) (before : Serving L H) (old : Writing W)
-      (left more : ℕ) (rest : List (ℕ × List ℕ)) (here : Serving L H) (mid : Writing W)
-      (reached : Reached turns lines before old left rest here mid) (e : left ≡ suc more)
-      (given : Next) (lines-after : List (ℕ × List ℕ))
-      (process-after : Option (Hearing L))
-      (same : given ≡ (chosen here.held.device rest here.process).next)
-      (dropped : lines-after ≡ (chosen here.held.device rest here.process).lines)
-      (left-as : process-after ≡ (chosen here.held.device rest here.process).process) where
-    -- what is served as the turn begins
-    abbrev pub there : Serving L H
-    there = with_process process-after here
-
-    as-chosen : (after : Serving L H) (new : Writing W) (answer : Result ℕ WriteFault)
-        → TurnGoes step acts contents asks given there mid after new answer
-        → TurnGoes step acts contents asks (chosen here.held.device rest here.process).next
-        (with_process (chosen here.held.device rest here.process).process here) mid after new answer
-    as-chosen after new answer goes =
-        subst (λ l. TurnGoes step acts contents asks l
-        (with_process (chosen here.held.device rest here.process).process here) mid after new
-        answer) same
-        (subst (λ p. TurnGoes step acts contents asks given (with_process p here) mid after new
-        answer)
-        left-as goes)
-
-    fails-chosen : (host : H) (new : Writing W) (answer : Result ℕ WriteFault)
-        → TurnFails step acts contents asks given there mid host new answer
-        → TurnFails step acts contents asks (chosen here.held.device rest here.process).next here
-        mid
-        host new answer
-    fails-chosen host new answer fails =
-        subst (λ l. TurnFails step acts contents asks l here mid host new answer) same
-        (record {
-          clock = fails.clock;
-          told = fails.told;
-          fault = fails.fault;
-          is = fails.is;
-          printed = fails.printed;
-        })
-
+  module _ (turns : ℕ) (before : Serving L H) (old : Writing W) (left more : ℕ)
+      (here : Serving L H) (mid : Writing W)
+      (reached : Reached turns before old left here mid) (e : left ≡ suc more) where
     -- the next is not done
     Reached-stop : (host : H) (new : Writing W) (answer : Result ℕ WriteFault)
-        → TurnFails step acts contents asks given there mid host new answer
-        → ServesTurns step acts contents asks turns lines before old host new answer
-    Reached-stop host new answer fails =
-        reached.goes host new answer (rw e (inl (fails-chosen host new answer fails)))
-
-    -- the lines of the next can't be written
-    Reached-cut : (after : Serving L H) (new : Writing W) (fault : WriteFault)
-        → TurnGoes step acts contents asks given there mid after new (Err fault)
-        → ServesTurns step acts contents asks turns lines before old after.host new (Err fault)
-    Reached-cut after new fault goes =
-        reached.goes after.host new (Err fault)
-        (rw e (inr (
-          after,
-          new,
-          Err fault,
-          as-chosen after new (Err fault) goes,
-          (refl, refl, refl),
-        )))
+        → TurnFails step acts contents asks here mid host new answer
+        → ServesTurns step acts contents asks turns before old host new answer
+    Reached-stop host new answer fails = reached.goes host new answer (rw e (inl fails))
 
     -- one turn was tried, and done
     pub Reached-done : (after next : Serving L H) (new : Writing W) (t : Tried) (was_idle : Bool)
         → t ≡ tried.Done was_idle
-        → TriesTurn step acts contents asks given there mid after new (Ok t)
+        → TriesTurn step acts contents asks here mid after new (Ok t)
         → MayPause acts after next
-        → Reached turns lines before old more lines-after next new
-    Reached-done after next new (tried.Done w) was_idle is goes pause =
-        record {
-          goes = λ host last answer s. reached.goes host last answer
-              (rw e (inr (
-                after,
-                new,
-                Ok goes.0,
-                as-chosen after new (Ok goes.0) goes.1,
-                (
-                  next,
-                  pause,
-                  subst (λ ls. ServesTurns step acts contents asks more ls next new host last
-                      answer) dropped
-                      s,
-                ),
-              )));
-        }
+        → Reached turns before old more next new
+    Reached-done after next new (tried.Done w) was_idle is goes pause = record {
+      goes = λ host last answer s. reached.goes host last answer
+          (rw e (inr (after, new, Ok goes.0, goes.1, (next, pause, s))));
+    }
     Reached-done after next new (tried.Ends s) was_idle is fails pause = absurd cc
 
     -- it was not done
     pub Reached-ends : (after : Serving L H) (new : Writing W) (t : Tried) (status : ℕ)
-        → t ≡ tried.Ends status → TriesTurn step acts contents asks given there mid after new (Ok t)
-        → ServesTurns step acts contents asks turns lines before old after.host new (Ok status)
+        → t ≡ tried.Ends status → TriesTurn step acts contents asks here mid after new (Ok t)
+        → ServesTurns step acts contents asks turns before old after.host new (Ok status)
     Reached-ends after new (tried.Done w) status is goes = absurd cc
     Reached-ends after new (tried.Ends s) status is fails =
-        subst (λ n. ServesTurns step acts contents asks turns lines before old after.host new
-        (Ok n))
+        subst (λ n. ServesTurns step acts contents asks turns before old after.host new (Ok n))
         (ap status-of is) (Reached-stop after.host new (Ok s) fails)
       where
         status-of : Tried → ℕ
@@ -380,28 +456,27 @@ module _ {L H W : Type 0} (step : L → Call → L → Type 0) (acts : H → Hos
     -- what is to be printed for it could not be written
     pub Reached-fails : (after : Serving L H) (new : Writing W) (fault : WriteFault)
         (r : Result ℕ WriteFault) → IsErr r
-        → TriesTurn step acts contents asks given there mid after new (Err fault)
-        → ServesTurns step acts contents asks turns lines before old after.host new r
+        → TriesTurn step acts contents asks here mid after new (Err fault)
+        → ServesTurns step acts contents asks turns before old after.host new r
     Reached-fails after new fault (Ok x) is tries = absurd cc
     Reached-fails after new fault (Err f) is (inl goes) =
-        Reached-cut after new f
-        (goes-cut step acts contents asks given there mid after new fault f goes)
+        reached.goes after.host new (Err f)
+        (rw e (inr (
+          after,
+          new,
+          Err f,
+          goes-cut step acts contents asks here mid after new fault f goes,
+          (refl, refl, refl),
+        )))
     Reached-fails after new fault (Err f) is (inr fails) =
         Reached-stop after.host new (Err f)
-        (record {
-          clock = fails.clock;
-          told = fails.told;
-          fault = fails.fault;
-          is = fails.is;
-          printed = fails.printed;
-        })
+        (fails-cut step acts contents asks here mid after.host new fault f fails)
 
   -- there is none left
-  pub Reached-end : (turns : ℕ) (lines : List (ℕ × List ℕ)) (before : Serving L H)
-      (old : Writing W) (left : ℕ) (rest : List (ℕ × List ℕ)) (here : Serving L H)
-      (mid new : Writing W)
-      → Reached turns lines before old left rest here mid → left ≡ 0
+  pub Reached-end : (turns : ℕ) (before : Serving L H) (old : Writing W) (left : ℕ)
+      (here : Serving L H) (mid new : Writing W)
+      → Reached turns before old left here mid → left ≡ 0
       → Logs contents asks mid (used_up_log here.held.device.moment) new
-      → ServesTurns step acts contents asks turns lines before old here.host new (Ok 0)
-  Reached-end turns lines before old left rest here mid new reached e logged =
+      → ServesTurns step acts contents asks turns before old here.host new (Ok 0)
+  Reached-end turns before old left here mid new reached e logged =
       reached.goes here.host new (Ok 0) (rw e (refl, logged, refl))

@@ -3,8 +3,8 @@ use Rattle.std.specs.Prelude.{ℕ, Result}
 use Rattle.bay_serving.specs.declared.host.BindFault.{BindFault}
 
 -- one call, with what it answered: a port of 127.0.0.1, and a link on it, or why there is none; the
--- clock's moment; a pause
+-- times of the system's clock and of the steady clock; a pause
 pub data HostCall (L : Type 0) : Type 0 where
   Binds : ℕ → Result L BindFault → HostCall L
-  Tells : ℕ → HostCall L
+  Tells : ℕ → ℕ → HostCall L
   Pauses : HostCall L

@@ -2,10 +2,11 @@
 -- implements it.
 --
 -- `ServeReport` is the main file: so many turns, each with what it is given. In each the clock was
--- asked, the turn is one of bay_serve's, and what it tells was printed and flushed; up to a turn
+-- read, the turn is one of bay_serve's, and what it tells was printed and flushed; up to a turn
 -- that is not done, or whose lines could not be written.
 --
--- `Host`: what serving asks of the system: ports and links, the clock's time, a pause. `TurnLines`:
+-- `Host`: what serving asks of the system: ports and links, the times of two clocks, a pause.
+-- `Clock`: the server's clock, which goes as the steady one does. `TurnLines`:
 -- what is printed for a turn, and for one that is not done. `LogLines`: what is logged of ports, of
 -- a turn, of the process and of the end, line by line.
 -- `Logging`: lines that are logged one after the other. `Serving`: what one try of a turn comes to.
@@ -23,6 +24,7 @@ pub use Rattle.bay_serve.specs.Calls
 pub use Rattle.bay_serve.specs.Served
 pub use Rattle.bay_serve.specs.Turns
 -- Its own definitions.
+pub mod Clock
 pub mod Host
 pub mod LogLines
 pub mod Logging

@@ -7,13 +7,12 @@ use Rattle.std.specs.Net.Addr.{ipv4_octets}
 use Rattle.std.specs.Net.Socket.{v4_ip, v4_port}
 use Rattle.std.specs.declared.net.socket_addr.SocketAddrV4.{SocketAddrV4}
 use Rattle.bay_control.specs.declared.cause.AddCause.{AddCause}
-use Rattle.bay_control.specs.declared.cause.AddCause.TheVariants.{NotSupported, SelectFailed, PositionReached, BlockedByMode, BlockedByInterlocking, CommandAlreadyInExecution, OneOfNControl, TimeLimitOver, ObjectNotSelected}
+use Rattle.bay_control.specs.declared.cause.AddCause.TheVariants.{NotSupported, SelectFailed, PositionReached, BlockedByMode, BlockedByProcess, BlockedByInterlocking, CommandAlreadyInExecution, OneOfNControl, TimeLimitOver, ObjectNotSelected}
 use Rattle.bay_device.specs.Device.{State}
 use Rattle.bay_lines.specs.Shown.{shown_text}
 use Rattle.bay_nodes.specs.declared.switch.Operation.{Operation}
 use Rattle.bay_nodes.specs.declared.switch.Operation.TheVariants as operations
 use Rattle.bay_nodes.specs.declared.switch.Switch.{Switch}
-use Rattle.bay_port.specs.Code.{code_of as port_code_of}
 use Rattle.bay_port.specs.declared.news.News.{News}
 use Rattle.bay_port.specs.declared.news.News.TheVariants.{Opened, Closed}
 use Rattle.bay_port.specs.declared.news.Parting.{Parting}
@@ -28,6 +27,9 @@ use Rattle.bay_serve.specs.declared.fault.ServeFault.TheVariants.{BadLine, Momen
 use Rattle.bay_serve.specs.declared.told.Closing.{Closing}
 use Rattle.bay_serve.specs.declared.told.Closing.TheVariants as closing
 use Rattle.bay_serve.specs.declared.told.Turn.{Turn}
+use Rattle.bay_serving.specs.declared.clock.Shift.{Shift}
+use Rattle.bay_serving.specs.declared.clock.Side.{Side}
+use Rattle.bay_serving.specs.declared.clock.Side.TheVariants.{Near, Ahead, Behind}
 use Rattle.bay_serving.specs.declared.host.BindFault.{BindFault}
 use Rattle.bay_serving.specs.declared.host.BindFault.TheVariants.{InUse, Denied, NoDescriptor, Failed}
 
@@ -57,6 +59,23 @@ ports_log now port None =
 ports_log now port (Some process) =
     joined (decimal now ∷ codes " clients on 127.0.0.1:" ∷ decimal port
     ∷ codes ", process on 127.0.0.1:" ∷ decimal process ∷ codes "\n" ∷ [])
+
+-- ---- the clock
+
+-- where the system's time has come to, as the server's clock sees it
+abbrev pub side_line : ℕ → ℕ → Side → List ℕ
+side_line now distance Near =
+    joined (decimal now ∷ codes " the system's clock agrees again\n" ∷ [])
+side_line now distance Ahead =
+    joined (decimal now ∷ codes " the system's clock is " ∷ decimal distance
+    ∷ codes " ms ahead\n" ∷ [])
+side_line now distance Behind =
+    joined (decimal now ∷ codes " the system's clock is " ∷ decimal distance
+    ∷ codes " ms behind\n" ∷ [])
+
+abbrev pub shift_log : ℕ → Option Shift → List (List ℕ)
+shift_log now None = []
+shift_log now (Some shift) = side_line now shift.distance shift.side ∷ []
 
 -- ---- associations
 
@@ -126,6 +145,7 @@ verdict_words (Err SelectFailed) =
 verdict_words (Err PositionReached) =
     codes ": refused 5: the switch is where it is asked to go\n"
 verdict_words (Err BlockedByMode) = codes ": refused 8: the request is a test request\n"
+verdict_words (Err BlockedByProcess) = codes ": refused 9: the process is lost\n"
 verdict_words (Err BlockedByInterlocking) =
     codes ": refused 10: the interlocking does not release the operation\n"
 verdict_words (Err CommandAlreadyInExecution) = codes ": refused 12: the switch is operating\n"
@@ -212,14 +232,30 @@ used_up_log now = joined (decimal now ∷ codes " all turns are served\n" ∷ []
 
 -- ---- the process
 
-abbrev pub parting_words : Parting → List ℕ
-parting_words parting.Ended = codes "it ended its connection"
-parting_words (parting.BadLine line) = line
-parting_words parting.QueueFull = codes "what it is told does not fit its queue"
-parting_words parting.LinkFailed = codes "its connection failed, or sent nothing"
+-- its connection was closed, by the number of the reason and in words
+abbrev pub parted_line : ℕ → ℕ → List ℕ → List ℕ
+parted_line now code words =
+    joined (decimal now ∷ codes " process closed " ∷ decimal code ∷ codes ": " ∷ words
+    ∷ codes "\n" ∷ [])
+
+abbrev pub silent_line : ℕ → ℕ → List ℕ
+silent_line now limit =
+    joined (decimal now ∷ codes " process closed 134: no line for " ∷ decimal limit
+    ∷ codes " ms\n" ∷ [])
+
+abbrev pub parting_line : ℕ → Parting → List ℕ
+parting_line now parting.Ended = parted_line now 0 (codes "it ended its connection")
+parting_line now (parting.BadLine line) = parted_line now 120 line
+parting_line now parting.QueueFull =
+    parted_line now 130 (codes "what it is told does not fit its queue")
+parting_line now parting.LinkFailed =
+    parted_line now 131 (codes "its connection failed, or sent nothing")
+parting_line now parting.Foreign =
+    parted_line now 132 (codes "it is not the process of this bay, or has another key")
+parting_line now parting.Untimely =
+    parted_line now 133 (codes "its time is too far from the server's")
+parting_line now (parting.Silent limit) = silent_line now limit
 
 abbrev pub news_log : ℕ → News → List ℕ
 news_log now Opened = joined (decimal now ∷ codes " process open\n" ∷ [])
-news_log now (Closed why) =
-    joined (decimal now ∷ codes " process closed " ∷ decimal (port_code_of why) ∷ codes ": "
-    ∷ parting_words why ∷ codes "\n" ∷ [])
+news_log now (Closed why) = parting_line now why

@@ -1,26 +1,28 @@
 -- What serving comes to, turn by turn: what each turn does, and what is printed for it.
 use Rattle.bay_io.specs.Calls.{WriteCall}
-use Rattle.std.specs.Prelude.{◌≡◌, ℕ, zero, suc, ◌+◌, List, ◌∷◌, drop, slice_get, Option, None, Some, Result, Ok, Err, ◌⊎◌, MatchBool, Bool, false, if◌then◌else◌, []}
+use Rattle.std.specs.Prelude.{◌≡◌, ℕ, zero, suc, ◌+◌, List, ◌∷◌, drop, slice_get, Option, None, Some, Result, Ok, Err, ◌⊎◌, MatchBool, Bool, false, ◌||◌, []}
 use Rattle.std.specs.Borrow.{Bor}
 use Rattle.bay_device.specs.Device.{State}
 use Rattle.bay_io.specs.Sent.{Logs}
 use Rattle.bay_io.specs.Watched.{Writing}
 use Rattle.bay_io.specs.declared.outbox.WriteFault.{WriteFault}
+use Rattle.bay_serving.specs.Clock.{ClockData, after_reading, moment_read, shift_of}
 use Rattle.bay_serving.specs.Host.{HostCall, Tells, Pauses}
 use Rattle.bay_report.specs.Report.{IsLast, Prints}
 use Rattle.bay_serving.specs.TurnLines.{is_quiet, news_text, turn_text, unserved_text}
 use Rattle.bay_serving.specs.Logging.{LogsAll}
-use Rattle.bay_serving.specs.LogLines.{news_log, turn_log, unserved_log, used_up_log}
+use Rattle.bay_serving.specs.LogLines.{news_log, shift_log, turn_log, unserved_log, used_up_log}
 use Rattle.bay_port.specs.Attending.{Attends, attendance}
 use Rattle.bay_lines.specs.Shown.{shown_text}
-use Rattle.bay_port.specs.Ports.{PortData, is_leaving, shown_line, taken_line}
-use Rattle.bay_port.specs.Telling.{told_text}
+use Rattle.bay_port.specs.Ports.{PortData, shown_line, taken_line, taken_loss}
+use Rattle.bay_port.specs.Telling.{told_turn}
 use Rattle.bay_port.specs.declared.news.News.{News}
 use Rattle.bay_serve.specs.Calls.{Call}
-use Rattle.bay_serve.specs.Served.{Serves, event_in, told_by, turn_refusal, understood}
+use Rattle.bay_serve.specs.Served.{Given, Serves, given_line, reported, reported_in, turn_refusal}
 use Rattle.bay_serve.specs.Turns.{Held, moment_at}
 use Rattle.bay_serve.specs.declared.fault.ServeFault.{ServeFault}
 use Rattle.bay_serve.specs.declared.told.Turn.{Turn}
+use Rattle.bay_serving.specs.declared.clock.Clocks.{Clocks}
 use Rattle.bay_serving.specs.declared.process.Next.{Next}
 
 -- the lines of a trace that are not empty, each with its number among all
@@ -73,13 +75,15 @@ pub record Hearing (L : Type 0) : Type 0 where
   pub link : L
   pub port : PortData
 
--- what is served, before or after a turn: the link, the server, the host, and the process, if one
--- is heard
+-- what is served, before or after a turn: the link, the server, its clock, the host, the process,
+-- if one is heard, and the lines of the trace that are left
 pub record Serving (L H : Type 0) : Type 0 where
   pub link : L
   pub held : Held
+  pub clock : ClockData
   pub host : H
   pub process : Option (Hearing L)
+  pub lines : List (ℕ × List ℕ)
 
 -- ---- what a turn is given
 
@@ -89,60 +93,87 @@ pub record Chosen (L : Type 0) : Type 0 where
   pub lines : List (ℕ × List ℕ)
   pub process : Option (Hearing L)
 
--- a process has gone, and there may be switches that are not bad yet
-abbrev pub is_gone : {L : Type 0} → Option (Hearing L) → Bool
-is_gone None = false
-is_gone (Some p) = is_leaving p.port.standing
+-- a process has gone, and is lost now; and what is heard behind that
+abbrev pub loss_of : {L : Type 0} → Option (Hearing L) → Bool
+loss_of None = false
+loss_of (Some p) = (taken_loss p.port).is_lost
+
+abbrev pub behind_loss : {L : Type 0} → Option (Hearing L) → Option (Hearing L)
+behind_loss None = None
+behind_loss (Some p) = Some (record { link = p.link; port = (taken_loss p.port).port })
+
+-- a turn with a line is also given that the process is lost
+abbrev pub with_loss : Bool → Given → Given
+with_loss is_lost (Err fault) = Err fault
+with_loss is_lost (Ok given) =
+    Ok (record { is_lost = is_lost || given.is_lost; event = given.event })
 
 -- a line of the trace
-abbrev pub next_by : State → ℕ × List ℕ → Next
-next_by s line = record {
+abbrev pub next_by : State → Bool → ℕ × List ℕ → Next
+next_by s is_lost line = record {
   number = line.0;
   shown = shown_text line.1;
-  given = understood (told_by s line.1);
+  given = with_loss is_lost (given_line s line.1);
 }
 
 -- what the port of the process has, if one is heard; it has no number
-abbrev pub from_port : {L : Type 0} → State → List (ℕ × List ℕ) → Option (Hearing L) → Chosen L
-from_port s lines None = record {
-  next = record { number = 0; shown = []; given = Ok None };
+abbrev pub from_port : {L : Type 0} → State → ℕ → List (ℕ × List ℕ) → Option (Hearing L)
+    → Chosen L
+from_port s now lines None = record {
+  next = record { number = 0; shown = []; given = Ok (reported None) };
   lines = lines;
   process = None;
 }
-from_port s lines (Some p) =
-    let taken = taken_line s p.port in
+from_port s now lines (Some p) =
+    let taken = taken_line s now p.port in
     record {
-      next = record { number = 0; shown = shown_line taken.line; given = Ok taken.event };
+      next = record {
+        number = 0;
+        shown = shown_line taken.line;
+        given = Ok (record { is_lost = taken.is_lost; event = taken.event });
+      };
       lines = lines;
       process = Some (record { link = p.link; port = taken.port });
     }
 
--- the next line of the trace, or where there is none what the process has
-abbrev pub from_trace : {L : Type 0} → Option (ℕ × List ℕ) → State → List (ℕ × List ℕ)
+-- The next line of the trace, and beside it that the process is lost; or where there is no line what
+-- the process has.
+abbrev pub from_trace : {L : Type 0} → Option (ℕ × List ℕ) → State → ℕ → List (ℕ × List ℕ)
     → Option (Hearing L) → Chosen L
-from_trace None s lines process = from_port s lines process
-from_trace (Some line) s lines process =
-    record { next = next_by s line; lines = drop 1 lines; process = process }
+from_trace None s now lines process = from_port s now lines process
+from_trace (Some line) s now lines process = record {
+  next = next_by s (loss_of process) line;
+  lines = drop 1 lines;
+  process = behind_loss process;
+}
 
--- Behind a process that has gone no line is taken before each switch is bad.
-abbrev pub chosen : {L : Type 0} → State → List (ℕ × List ℕ) → Option (Hearing L) → Chosen L
-chosen s lines process =
-    if is_gone process then from_port s lines process
-    else from_trace (slice_get lines 0) s lines process
-
--- what is served, with the process as the choice left it
-abbrev pub with_process : {L H : Type 0} → Option (Hearing L) → Serving L H → Serving L H
-with_process process b =
-    record { link = b.link; held = b.held; host = b.host; process = process }
+abbrev pub chosen : {L : Type 0} → State → ℕ → List (ℕ × List ℕ) → Option (Hearing L) → Chosen L
+chosen s now lines process = from_trace (slice_get lines 0) s now lines process
 
 -- ---- a turn
+
+-- the moment of a turn, where the host's clocks answer so
+abbrev pub moment_of : {L H : Type 0} → Clocks → Serving L H → ℕ
+moment_of clocks b = moment_at (moment_read clocks b.clock) b.held
+
+-- what it is given
+abbrev pub choice_of : {L H : Type 0} → Clocks → Serving L H → Chosen L
+choice_of clocks b = chosen b.held.device (moment_of clocks b) b.lines b.process
+
+-- The host's clocks were asked. Where the system's time has come to another side of the server's
+-- clock, that was logged.
+pub record AsksClocks {L H W : Type 0} (acts : H → HostCall L → H → Type 0)
+    (contents : W → Option (List ℕ)) (asks : W → WriteCall → W → Type 0) (clocks : Clocks)
+    (before : Serving L H) (host : H) (old new : Writing W) : Type 0 where
+  pub told : acts before.host (Tells clocks.system clocks.steady) host
+  pub logged : LogsAll contents asks old (shift_log (moment_of clocks before)
+      (shift_of before.clock.side (moment_read clocks before.clock) clocks.system)) new
 
 -- a pause was made, or none
 abbrev pub MayPause : {L H : Type 0} → (H → HostCall L → H → Type 0) → Serving L H → Serving L H
     → Type 0
 MayPause acts before after = (after ≡ before)
-    ⊎ (acts before.host Pauses after.host × (after.link ≡ before.link)
-    × (after.held ≡ before.held) × (after.process ≡ before.process))
+    ⊎ (acts before.host Pauses after.host × (after ≡ record before { host = after.host }))
 
 -- what has become of the process's connection is logged, printed and flushed
 abbrev pub TellsNews : {W : Type 0} → (W → Option (List ℕ)) → (W → WriteCall → W → Type 0) → ℕ
@@ -159,7 +190,7 @@ module _ {L W : Type 0} (step : L → Call → L → Type 0) (contents : W → O
   pub record AttendsTo (now : ℕ) (turn : Turn) (s : State) (before after : Hearing L)
       (old new : Writing W) (answer : Result ℕ WriteFault) : Type 0 where
     pub news : Option News
-    pub attends : Attends step (λ script. attendance (told_text now turn s) s script before.port)
+    pub attends : Attends step (λ script. attendance (told_turn now turn s) s script before.port)
         before.link after.link after.port news
     pub printed : TellsNews contents asks now news old new answer
 
@@ -173,50 +204,53 @@ module _ {L W : Type 0} (step : L → Call → L → Type 0) (contents : W → O
 
 module _ {L H W : Type 0} (step : L → Call → L → Type 0) (acts : H → HostCall L → H → Type 0)
     (contents : W → Option (List ℕ)) (asks : W → WriteCall → W → Type 0) where
-  -- the clock was asked for the moment of a turn, which was not done: why not is printed, and
-  -- nothing has changed
-  pub record TurnFails (next : Next) (before : Serving L H) (old : Writing W)
-      (host : H) (new : Writing W) (answer : Result ℕ WriteFault) : Type 0 where
-    pub clock : ℕ
-    pub told : acts before.host (Tells clock) host
+  -- The clock was read for the moment of a turn, and what the turn is given was chosen. It was not
+  -- done: why not is printed, and nothing has changed.
+  pub record TurnFails (before : Serving L H) (old : Writing W) (host : H) (new : Writing W)
+      (answer : Result ℕ WriteFault) : Type 0 where
+    pub clocks : Clocks
+    pub begun : Writing W
+    pub asked : AsksClocks acts contents asks clocks before host old begun
     pub fault : ServeFault
-    pub is : turn_refusal clock next.given before.held ≡ Some fault
-    pub printed : TellsUnserved contents asks fault next.number next.shown old new answer
+    pub is : turn_refusal (moment_read clocks before.clock) (choice_of clocks before).next.given
+        before.held ≡ Some fault
+    pub printed : TellsUnserved contents asks fault (choice_of clocks before).next.number
+        (choice_of clocks before).next.shown begun new answer
 
-  -- the clock was asked, the turn was done, what it tells was printed, and then the process was
-  -- attended to; or it could not be printed
-  pub record TurnGoes (next : Next) (before : Serving L H) (old : Writing W)
-      (after : Serving L H) (new : Writing W) (answer : Result ℕ WriteFault) : Type 0 where
-    pub clock : ℕ
-    pub told : acts before.host (Tells clock) after.host
+  -- The clock was read, what the turn is given was chosen, the turn was done, what it tells was
+  -- printed, and then the process was attended to; or it could not be printed.
+  pub record TurnGoes (before : Serving L H) (old : Writing W) (after : Serving L H)
+      (new : Writing W) (answer : Result ℕ WriteFault) : Type 0 where
+    pub clocks : Clocks
+    pub begun : Writing W
+    pub asked : AsksClocks acts contents asks clocks before after.host old begun
+    pub clock : after.clock ≡ after_reading clocks before.clock
+    pub lines : after.lines ≡ (choice_of clocks before).lines
     pub turn : Turn
-    pub right : turn_refusal clock next.given before.held ≡ None
-    pub serves : Serves step before.link after.link (moment_at clock before.held)
-        (event_in next.given) before.held after.held turn
+    pub right : turn_refusal (moment_read clocks before.clock) (choice_of clocks before).next.given
+        before.held ≡ None
+    pub serves : Serves step before.link after.link (moment_of clocks before)
+        (reported_in (choice_of clocks before).next.given) before.held after.held turn
     pub between : Writing W
     pub outcome : Result ℕ WriteFault
-    pub printed : TellsTurn contents asks (moment_at clock before.held) next.shown turn
-        after.held.device old between outcome
+    pub printed : TellsTurn contents asks (moment_of clocks before) (choice_of clocks before).next.shown
+        turn after.held.device begun between outcome
     pub hears : AfterTurn outcome
-        ((after.process ≡ before.process) × (new ≡ between) × (answer ≡ outcome))
-        (Hears step contents asks (moment_at clock before.held) turn after.held.device
-        before.process
-        after.process between new answer)
+        ((after.process ≡ (choice_of clocks before).process) × (new ≡ between) × (answer ≡ outcome))
+        (Hears step contents asks (moment_of clocks before) turn after.held.device
+        (choice_of clocks before).process after.process between new answer)
 
-  -- So many turns are served, each with what it is given: all of them, which is logged; up to one that is
-  -- not done; or up to one whose lines could not be written.
-  abbrev pub ServesTurns : ℕ → List (ℕ × List ℕ) → Serving L H → Writing W → H → Writing W
-      → Result ℕ WriteFault → Type 0
-  ServesTurns zero lines before old host new answer =
+  -- So many turns are served: all of them, which is logged; up to one that is not done; or up to
+  -- one whose lines could not be written.
+  abbrev pub ServesTurns : ℕ → Serving L H → Writing W → H → Writing W → Result ℕ WriteFault
+      → Type 0
+  ServesTurns zero before old host new answer =
       (host ≡ before.host) × Logs contents asks old (used_up_log before.held.device.moment) new
       × (answer ≡ Ok 0)
-  ServesTurns (suc turns) lines before old host new answer =
-      TurnFails (chosen before.held.device lines before.process).next before old host new answer
+  ServesTurns (suc turns) before old host new answer =
+      TurnFails before old host new answer
       ⊎ ((after : Serving L H) × (mid : Writing W) × (told : Result ℕ WriteFault)
-      × TurnGoes (chosen before.held.device lines before.process).next
-      (with_process (chosen before.held.device lines before.process).process before) old after mid
-      told
+      × TurnGoes before old after mid told
       × AfterTurn told ((host ≡ after.host) × (new ≡ mid) × (answer ≡ told))
       ((next : Serving L H) × MayPause acts after next
-      × ServesTurns turns (chosen before.held.device lines before.process).lines next mid host new
-      answer))
+      × ServesTurns turns next mid host new answer))

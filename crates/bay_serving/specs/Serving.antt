@@ -5,31 +5,32 @@ use Rattle.bay_io.specs.Watched.{Writing}
 use Rattle.bay_io.specs.declared.outbox.WriteFault.{WriteFault}
 use Rattle.bay_serving.specs.Host.{HostCall}
 use Rattle.bay_serving.specs.ServeReport.{Serving, TurnFails, TurnGoes}
-use Rattle.bay_serving.specs.declared.process.Next.{Next}
 use Rattle.bay_serving.specs.declared.serving.Served.{Served}
 use Rattle.bay_serving.specs.declared.serving.Tried.{Tried}
 use Rattle.bay_serving.specs.declared.serving.Tried.TheVariants as tried
 use Rattle.bay_serve.specs.Calls.{Call}
 
--- what is served, with the host
-abbrev pub with_host : {L H : Type 0} → Served L → H → Serving L H
-with_host served host = record {
+-- what is served, with the host and the lines of the trace
+abbrev pub with_host : {L H : Type 0} → Served L → H → List (ℕ × List ℕ) → Serving L H
+with_host served host lines = record {
   link = served.link.link;
   held = served.server;
+  clock = served.clock;
   host = host;
   process = served.process;
+  lines = lines;
 }
 
 module _ {L H W : Type 0} (step : L → Call → L → Type 0) (acts : H → HostCall L → H → Type 0)
     (contents : W → Option (List ℕ)) (asks : W → WriteCall → W → Type 0) where
   -- a turn was done, or it was not, and what is to be printed for it was; or that could not be
   -- written
-  abbrev pub TriesTurn : Next → Serving L H → Writing W → Serving L H → Writing W
+  abbrev pub TriesTurn : Serving L H → Writing W → Serving L H → Writing W
       → Result Tried WriteFault → Type 0
-  TriesTurn next before old after new (Ok (tried.Done was_idle)) =
-      (status : ℕ) × TurnGoes step acts contents asks next before old after new (Ok status)
-  TriesTurn next before old after new (Ok (tried.Ends status)) =
-      TurnFails step acts contents asks next before old after.host new (Ok status)
-  TriesTurn next before old after new (Err fault) =
-      TurnGoes step acts contents asks next before old after new (Err fault)
-      ⊎ TurnFails step acts contents asks next before old after.host new (Err fault)
+  TriesTurn before old after new (Ok (tried.Done was_idle)) =
+      (status : ℕ) × TurnGoes step acts contents asks before old after new (Ok status)
+  TriesTurn before old after new (Ok (tried.Ends status)) =
+      TurnFails step acts contents asks before old after.host new (Ok status)
+  TriesTurn before old after new (Err fault) =
+      TurnGoes step acts contents asks before old after new (Err fault)
+      ⊎ TurnFails step acts contents asks before old after.host new (Err fault)

@@ -42,6 +42,7 @@ fn verdict_words(answer: Result<(), AddCause>) -> &'static [u8]
             b": refused 5: the switch is where it is asked to go\n"
         }
         Err(AddCause::BlockedByMode) => b": refused 8: the request is a test request\n",
+        Err(AddCause::BlockedByProcess) => b": refused 9: the process is lost\n",
         Err(AddCause::BlockedByInterlocking) => {
             b": refused 10: the interlocking does not release the operation\n"
         }

@@ -1,8 +1,9 @@
-// What serving asks of the system: ports, and a clock.
+// What serving asks of the system: ports, and two clocks.
 ghost use Rattle.std.specs.Prelude.{◌≡◌};
 ghost use Rattle.bay_serving.specs.Host.{HostCall, Binds, Tells, Pauses};
 ghost use Rattle.bay_serving.specs.LogLines.{reason_of};
 
+use crate::clock::Clocks;
 use bay_net::readiness::Readiness;
 use bay_net::tcp::TcpLink;
 use std::alloc::Global;
@@ -61,7 +62,7 @@ impl From<io::Error> for BindFault {
     }
 }
 
-/// The ports of 127.0.0.1, on which links listen, and a clock.
+/// The ports of 127.0.0.1, on which links listen, and two clocks.
 ///
 /// Its meaning is `does old call new`: this call, with its result, may have led from the one state
 /// to the other. A host in memory defines its own. Nothing is known of a system's host, which keeps
@@ -73,16 +74,16 @@ pub trait Host<L> {
     fn bind(&mut self, port: u16) -> Result<L, BindFault>
         ensures { does self.old (Binds port result) self.new };
 
-    /// Returns the clock's time, in milliseconds since 1970.
-    fn now(&mut self) -> u64
-        ensures { does self.old (Tells result) self.new };
+    /// Returns the times of the system's clock and of one that does not jump.
+    fn clocks(&mut self) -> Clocks
+        ensures { does self.old (Tells result.system result.steady) self.new };
 
     /// Waits until something may have happened on a link, for at most some milliseconds.
     fn pause(&mut self)
         ensures { does self.old Pauses self.new };
 }
 
-/// The ports and the clock of the system that the program runs on.
+/// The ports and the clocks of the system that the program runs on.
 #[derive(Drop)]
 pub struct SystemHost<'a, R> {
     rt: &'a R,
@@ -96,6 +97,15 @@ impl<'a, R> SystemHost<'a, R> {
             rt,
             readiness: None,
         }
+    }
+}
+
+// Returns a clock's time in milliseconds. One that cannot be read gives 0, which is not later than
+// any time.
+fn milliseconds(time: io::Result<Duration>) -> u64 {
+    match time {
+        Ok(time) => u64::try_from(time.as_millis()).unwrap_or(u64::MAX),
+        Err(_) => 0,
     }
 }
 
@@ -118,12 +128,11 @@ impl<'a, R: Runtime<A = Global> + Net<Listener = TcpListener, Stream = TcpStream
         Ok(TcpLink::bind(self.rt, self.rt, readiness, port)?)
     }
 
-    // A clock that cannot be read gives 0, which is not later than any time.
-    fn now(&mut self) -> u64 {
-        let Ok(now) = self.rt.since_1970() else {
-            return 0;
-        };
-        u64::try_from(now.as_millis()).unwrap_or(u64::MAX)
+    fn clocks(&mut self) -> Clocks {
+        Clocks {
+            system: milliseconds(self.rt.since_1970()),
+            steady: milliseconds(self.rt.monotonic()),
+        }
     }
 
     // Sleeps if there is nothing to wait for.

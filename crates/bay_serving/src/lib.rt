@@ -1,12 +1,13 @@
 // A device is served to clients, turn by turn, and what each turn tells is printed.
 //
-// `host` has ports and a clock, `busy` a link that notes whether its calls left something to do at
-// once, `turns` the lines for a turn, `trace_lines` those of a trace, and `process` the process
-// that is heard; `log_lines` what is logged, and `control_lines` that of controls; `serving` goes
-// turn by turn.
+// `host` has ports and two clocks, `clock` a clock that does not jump, `busy` a link that notes
+// whether its calls left something to do at once, `turns` the lines for a turn, `trace_lines` those
+// of a trace, and `process` the process that is heard; `log_lines` what is logged, and
+// `control_lines` that of controls; `serving` goes turn by turn.
 #![tactic(auto)]
 
 mod busy;
+pub mod clock;
 mod control_lines;
 pub mod host;
 pub mod log_lines;

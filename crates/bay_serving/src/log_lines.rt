@@ -2,11 +2,11 @@
 ghost use Rattle.std.specs.Prelude.{◌≡◌, Some, map};
 ghost use Rattle.bay_io.specs.Sent.{Logs};
 ghost use Rattle.bay_serving.specs.Logging.{LogsAll};
-ghost use Rattle.bay_serving.specs.LogLines.{closed_line, memory_line, news_log, opened_line, opened_log, ports_log, reason_of, refused_line, refused_log, turn_log, unbound_log, unserved_log, used_up_log};
+ghost use Rattle.bay_serving.specs.LogLines.{closed_line, memory_line, news_log, opened_line, opened_log, parted_line, parting_line, ports_log, reason_of, refused_line, refused_log, shift_log, silent_line, turn_log, unbound_log, unserved_log, used_up_log};
 ghost use Rattle.bay_serving.specs.LogLines as spec;
-ghost use Rattle.bay_port.specs.declared.news.News.TheVariants.{Closed};
 ghost use Rattle.bay_serve.specs.declared.fault.ServeFault.TheVariants.{BadLine};
 
+use crate::clock::{Shift, Side};
 use crate::control_lines::log_controls;
 use crate::host::BindFault;
 use bay_device::device::Device;
@@ -62,6 +62,26 @@ pub fn log_ports<W: Sink>(
             LinePart::Number(u64::from(port)),
             LinePart::Text(b"\n"),
         ]),
+    }
+}
+
+/// Logs to which side of the server's clock the system's time has come, if it has.
+pub fn log_shift<W: Sink>(writer: &mut WatchedWriter<W>, moment: u64, shift: Option<Shift>)
+    ensures { LogsAll W.contents W.does writer.old (shift_log moment shift) writer.new }
+{
+    let Some(Shift { side, distance }) = shift else {
+        return;
+    };
+    let moment = LinePart::Number(moment);
+    let is = LinePart::Text(b" the system's clock is ");
+    let distance = LinePart::Number(distance);
+    match side {
+        Side::Near => writer.log(&[
+            moment,
+            LinePart::Text(b" the system's clock agrees again\n"),
+        ]),
+        Side::Ahead => writer.log(&[moment, is, distance, LinePart::Text(b" ms ahead\n")]),
+        Side::Behind => writer.log(&[moment, is, distance, LinePart::Text(b" ms behind\n")]),
     }
 }
 
@@ -271,30 +291,71 @@ pub fn log_used_up<W: Sink>(writer: &mut WatchedWriter<W>, moment: u64)
     ]);
 }
 
-// Returns why the connection of the process was closed, in words.
-fn parting_words(why: &Parting) -> &[u8]
-    ensures { result.now ≡ spec.parting_words why.now }
-{
-    match why {
-        Parting::Ended => b"it ended its connection",
-        Parting::BadLine(line) => line.as_slice(),
-        Parting::QueueFull => b"what it is told does not fit its queue",
-        Parting::LinkFailed => b"its connection failed, or sent nothing",
-    }
-}
-
-// Logs that the connection of the process was closed, and why.
-fn log_parting<W: Sink>(writer: &mut WatchedWriter<W>, moment: u64, why: &Parting)
-    ensures { Logs W.contents W.does writer.old (news_log moment (Closed why.now)) writer.new }
+// Logs that the connection of the process was closed, with the number of the reason and in words.
+fn log_parted<W: Sink>(writer: &mut WatchedWriter<W>, moment: u64, code: u8, words: &[u8])
+    ensures { Logs W.contents W.does writer.old (parted_line moment code words.now) writer.new }
 {
     writer.log(&[
         LinePart::Number(moment),
         LinePart::Text(b" process closed "),
-        LinePart::Number(u64::from(why.code())),
+        LinePart::Number(u64::from(code)),
         LinePart::Text(b": "),
-        LinePart::Text(parting_words(why)),
+        LinePart::Text(words),
         LinePart::Text(b"\n"),
     ]);
+}
+
+// Logs that the connection of the process was closed because it was silent for so long.
+fn log_silence<W: Sink>(writer: &mut WatchedWriter<W>, moment: u64, limit_ms: u32)
+    ensures { Logs W.contents W.does writer.old (silent_line moment limit_ms) writer.new }
+{
+    writer.log(&[
+        LinePart::Number(moment),
+        LinePart::Text(b" process closed 134: no line for "),
+        LinePart::Number(u64::from(limit_ms)),
+        LinePart::Text(b" ms\n"),
+    ]);
+}
+
+// Logs that the connection of the process was closed, and why.
+fn log_parting<W: Sink>(writer: &mut WatchedWriter<W>, moment: u64, why: &Parting)
+    ensures { Logs W.contents W.does writer.old (parting_line moment why.now) writer.new }
+{
+    match why {
+        Parting::Ended => log_parted(writer, moment, 0, b"it ended its connection"),
+        Parting::BadLine(line) => log_parted(writer, moment, 120, line.as_slice()),
+        Parting::QueueFull => {
+            log_parted(
+                writer,
+                moment,
+                130,
+                b"what it is told does not fit its queue",
+            )
+        }
+        Parting::LinkFailed => {
+            log_parted(
+                writer,
+                moment,
+                131,
+                b"its connection failed, or sent nothing",
+            )
+        }
+        Parting::Foreign => log_parted(
+            writer,
+            moment,
+            132,
+            b"it is not the process of this bay, or has another key",
+        ),
+        Parting::Untimely => {
+            log_parted(
+                writer,
+                moment,
+                133,
+                b"its time is too far from the server's",
+            )
+        }
+        Parting::Silent(limit_ms) => log_silence(writer, moment, *limit_ms),
+    }
 }
 
 /// Logs what happened to the connection of the process.

@@ -1,7 +1,8 @@
 // The process that is heard, and what a turn is given.
 ghost use Rattle.std.specs.Prelude.{◌≡◌, []};
 ghost use Rattle.bay_serve.specs.Calls.{Called};
-ghost use Rattle.bay_serving.specs.ServeReport.{AttendsTo, Hears, chosen, from_port, is_gone, next_by};
+ghost use Rattle.bay_serving.specs.ServeReport.{AttendsTo, Hears, behind_loss, chosen, from_port, loss_of, next_by};
+ghost use Rattle.bay_serving.specs.ServeReport as spec;
 
 use crate::trace_lines::TraceLines;
 use crate::turns::tell_news;
@@ -14,7 +15,7 @@ use bay_port::attending::attend;
 use bay_port::port::Port;
 use bay_report::output::Status;
 use bay_serve::link::Link;
-use bay_serve::process::{Given, read_line};
+use bay_serve::process::{Given, Reported, read_line};
 use bay_serve::told::Turn;
 use std::marker::Model;
 
@@ -75,67 +76,80 @@ pub fn was_busy<L>(process: &mut Option<Process<L>>) -> bool
     }
 }
 
-// Whether a process has gone and some switches may not be bad yet.
-fn is_leaving<L>(process: &Option<Process<L>>) -> bool
-    ensures { result ≡ is_gone process.now }
-{
-    match process {
-        Some(process) => process.port.is_leaving(),
-        None => false,
-    }
-}
-
 // Takes what the port of the process has, if one is heard.
-fn take_said<L>(process: &mut Option<Process<L>>, device: &Device) -> Next
-    ensures next { result ≡ (from_port device.now [] process.old).next }
-    ensures process { process.new ≡ (from_port device.now [] process.old).process }
+fn take_said<L>(process: &mut Option<Process<L>>, device: &Device, moment: u64) -> Next
+    ensures next { result ≡ (from_port device.now moment [] process.old).next }
+    ensures process { process.new ≡ (from_port device.now moment [] process.old).process }
 {
     match process {
         Some(process) => {
-            let said = process.port.take_line(device);
+            let said = process.port.take_line(device, moment);
             Next {
                 number: 0,
                 shown: said.shown,
-                given: Ok(said.event),
+                given: Ok(Reported {
+                    is_lost: said.is_lost,
+                    event: said.event,
+                }),
             }
         }
         None => Next {
             number: 0,
             shown: Shown::new(b""),
-            given: Ok(None),
+            given: Ok(Reported::of(None)),
         },
     }
 }
 
-// Reads a line of the trace, with its number.
-fn read_next(device: &Device, line: (usize, &[u8])) -> Next
-    ensures { result ≡ next_by device.now (line.entry.0, line.entry.1.now) }
+// Takes whether a process has gone, and is lost now.
+fn take_loss<L>(process: &mut Option<Process<L>>) -> bool
+    ensures lost { result ≡ loss_of process.old }
+    ensures process { process.new ≡ behind_loss process.old }
+{
+    match process {
+        Some(process) => process.port.take_loss(),
+        None => false,
+    }
+}
+
+// Gives a turn with a line also that the process is lost.
+fn with_loss(given: Given, is_lost: bool) -> Given
+    ensures { result ≡ spec.with_loss is_lost given }
+{
+    let given = given?;
+    Ok(Reported {
+        is_lost: is_lost || given.is_lost,
+        event: given.event,
+    })
+}
+
+// Reads a line of the trace, with its number, for a turn that may be given that the process is lost.
+fn read_next(device: &Device, is_lost: bool, line: (usize, &[u8])) -> Next
+    ensures { result ≡ next_by device.now is_lost (line.entry.0, line.entry.1.now) }
 {
     let (number, text) = line;
     Next {
         number,
         shown: Shown::new(text),
-        given: read_line(device, text),
+        given: with_loss(read_line(device, text), is_lost),
     }
 }
 
-/// Chooses what a turn is given: the next line of the trace, or after the last one what the process
-/// has. While a process has gone and not every switch is bad, that comes first.
+/// Chooses what a turn at a moment is given: the next line of the trace, or after the last one what
+/// the process has. That the process is lost is given beside a line of the trace.
 pub fn choose<L>(
     lines: &mut TraceLines<'_>,
     process: &mut Option<Process<L>>,
     device: &Device,
+    moment: u64,
 ) -> Next
-    ensures next { result ≡ (chosen device.now lines.old process.old).next }
-    ensures lines { lines.new ≡ (chosen device.now lines.old process.old).lines }
-    ensures process { process.new ≡ (chosen device.now lines.old process.old).process }
+    ensures next { result ≡ (chosen device.now moment lines.old process.old).next }
+    ensures lines { lines.new ≡ (chosen device.now moment lines.old process.old).lines }
+    ensures process { process.new ≡ (chosen device.now moment lines.old process.old).process }
 {
-    if is_leaving(process) {
-        return take_said(process, device);
-    }
     match lines.next_line() {
-        Some(line) => read_next(device, line),
-        None => take_said(process, device),
+        Some(line) => read_next(device, take_loss(process), line),
+        None => take_said(process, device, moment),
     }
 }
 

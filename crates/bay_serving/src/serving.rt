@@ -7,9 +7,10 @@ ghost use Rattle.bay_serving.specs.Serving.{TriesTurn, with_host};
 ghost use Rattle.bay_serve.specs.Calls.{Called};
 
 use crate::busy::BusyLink;
+use crate::clock::ServeClock;
 use crate::host::Host;
-use crate::log_lines::log_used_up;
-use crate::process::{Next, Process, attend_process, choose, was_busy};
+use crate::log_lines::{log_shift, log_used_up};
+use crate::process::{Process, attend_process, choose, was_busy};
 use crate::trace_lines::TraceLines;
 use crate::turns::{tell_turn, tell_unserved};
 use bay_io::calls::Sink;
@@ -17,7 +18,7 @@ use bay_io::outbox::WriteFault;
 use bay_io::writer::WatchedWriter;
 use bay_report::output::Status;
 use bay_serve::link::Link;
-use bay_serve::process::Given;
+use bay_serve::process::{Given, Reported};
 use bay_serve::server::Server;
 use bay_serve::turn::serve_event;
 
@@ -30,10 +31,11 @@ pub enum Tried {
     Ends(u8),
 }
 
-// A device that is served to clients over their link, and the process, if one is heard.
+// A device that is served to clients over their link by a clock, and the process, if one is heard.
 #[derive(Drop)]
 struct Served<L> {
     server: Server,
+    clock: ServeClock,
     link: BusyLink<L>,
     process: Option<Process<L>>,
 }
@@ -42,29 +44,34 @@ impl<L> Served<L> {
     // Whether a turn left nothing to do at once, given what it was given.
     fn is_idle(&mut self, given: Given) -> bool
         ensures server { self.new.server ≡ self.old.server }
+        ensures clock { self.new.clock ≡ self.old.clock }
         ensures link { self.new.link.link ≡ self.old.link.link }
         ensures process { self.new.process ≡ self.old.process }
     {
         let was_link_busy = self.link.was_busy();
         let was_process_busy = was_busy(&mut self.process);
-        let had_event = matches!(given, Ok(Some(_)));
+        let had_event = matches!(given, Ok(Reported { event: Some(_), .. }));
         !was_link_busy && !was_process_busy && !had_event
     }
 }
 
-// Tries a turn, logs and prints what it reports, and then attends to the process.
+// Reads the clock, chooses what a turn is given, and tries the turn. Logs and prints what it
+// reports, and then attends to the process.
 fn try_turn<L: Link, H: Host<L>, W: Sink>(
     served: &mut Served<L>,
     host: &mut H,
-    next: &Next,
+    lines: &mut TraceLines<'_>,
     writer: &mut WatchedWriter<W>,
 ) -> Result<Tried, WriteFault>
-    ensures { TriesTurn (Called L.does L.failures) H.does W.contents W.does next.now
-        (with_host served.old host.old) writer.old (with_host served.new host.new) writer.new
-        result }
+    ensures { TriesTurn (Called L.does L.failures) H.does W.contents W.does
+        (with_host served.old host.old lines.old) writer.old
+        (with_host served.new host.new lines.new) writer.new result }
 {
-    let clock = host.now();
+    let reading = served.clock.read(host.clocks());
+    let clock = reading.moment;
     let moment = clock.max(served.server.device().moment());
+    log_shift(writer, moment, reading.shift);
+    let next = choose(lines, &mut served.process, served.server.device(), moment);
     match serve_event(&mut served.server, &mut served.link, clock, next.given) {
         Ok(turn) => {
             let device = served.server.device();
@@ -89,9 +96,9 @@ fn rest<L, H: Host<L>>(host: &mut H, was_idle: bool)
     }
 }
 
-// Serves the given number of turns, each with what it is given, and logs and prints what each
-// reports, and logs that all are served. Returns the exit status: 0 after the last turn, or 3 at a
-// turn that is not done. Pauses after a turn that left nothing to do at once.
+// Serves the given number of turns, logs and prints what each reports, and logs that all are
+// served. Returns the exit status: 0 after the last turn, or 3 at a turn that is not done. Pauses
+// after a turn that left nothing to do at once.
 fn serve_lines<L: Link, H: Host<L>, W: Sink>(
     served: &mut Served<L>,
     host: &mut H,
@@ -99,12 +106,11 @@ fn serve_lines<L: Link, H: Host<L>, W: Sink>(
     turns: u32,
     writer: &mut WatchedWriter<W>,
 ) -> Result<u8, WriteFault>
-    ensures { ServesTurns (Called L.does L.failures) H.does W.contents W.does turns lines.old
-        (with_host served.old host.old) writer.old host.new writer.new result }
+    ensures { ServesTurns (Called L.does L.failures) H.does W.contents W.does turns
+        (with_host served.old host.old lines.old) writer.old host.new writer.new result }
 {
     for turn in 0..turns {
-        let next = choose(lines, &mut served.process, served.server.device());
-        match try_turn(served, host, &next, writer)? {
+        match try_turn(served, host, lines, writer)? {
             Tried::Ends(status) => return Ok(status),
             Tried::Done { was_idle } => rest::<L, H>(host, was_idle),
         }
@@ -113,10 +119,11 @@ fn serve_lines<L: Link, H: Host<L>, W: Sink>(
     Ok(Status::Clean.code())
 }
 
-/// Serves the given number of turns over a link, each with the next line of a trace, or after the
-/// last one with what the process reports, if there is one.
+/// Serves the given number of turns over a link by a clock, each with the next line of a trace, or
+/// after the last one with what the process reports, if there is one.
 pub fn serve_turns<L: Link + Drop, H: Host<L>, W: Sink>(
     server: Server,
+    clock: ServeClock,
     link: L,
     process: Option<Process<L>>,
     host: &mut H,
@@ -125,12 +132,18 @@ pub fn serve_turns<L: Link + Drop, H: Host<L>, W: Sink>(
     writer: &mut WatchedWriter<W>,
 ) -> Result<u8, WriteFault>
     ensures { ServesTurns (Called L.does L.failures) H.does W.contents W.does turns
-        (told_lines 1 (lines_of trace.now))
-        (record { link = link; held = server; host = host.old; process = process }) writer.old
-        host.new writer.new result }
+        (record {
+          link = link;
+          held = server;
+          clock = clock;
+          host = host.old;
+          process = process;
+          lines = told_lines 1 (lines_of trace.now);
+        }) writer.old host.new writer.new result }
 {
     let mut served = Served {
         server,
+        clock,
         link: BusyLink::new(link),
         process,
     };

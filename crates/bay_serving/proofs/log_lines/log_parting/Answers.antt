@@ -1,5 +1,4 @@
 use Rattle.bay_serving.proofs.log_lines.log_parting.Goals as goal
 
-pub returns : goal.returns
-returns g c =
-    rw (c.from.ensures, c.code.ensures, c.parting_words.ensures) at c.log.ensures
+pub returns-in-BadLine : goal.returns-in-BadLine
+returns-in-BadLine g c = rw c.in-BadLine.is (rw c.as_slice.ensures at c.log_parted-in-BadLine.ensures)

@@ -8,6 +8,6 @@ abbrev pub invariant-loop-turn : goal.invariant-loop-turn
 invariant-loop-turn g l = record {
   within : l.turn ≤ l.turns;
   reached : Reached (Called g.L.Link.does g.L.Link.failures) g.H.Host.does g.W.Sink.contents
-      g.W.Sink.does l.turns l.initial.lines (with_host l.initial.served l.initial.host)
-      l.initial.writer (l.turns - l.turn) l.lines (with_host l.served l.host) l.writer;
+      g.W.Sink.does l.turns (with_host l.initial.served l.initial.host l.initial.lines)
+      l.initial.writer (l.turns - l.turn) (with_host l.served l.host l.lines) l.writer;
 }
