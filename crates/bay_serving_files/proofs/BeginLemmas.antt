@@ -45,10 +45,14 @@ pub begun-of : (bay : List ℕ) (form : Form) (program : List ℕ) (device : Sta
 begun-of bay form program device loads =
     record { loaded = came-of bay form program device loads; empty = refl }
 
+-- such a server owes nothing
+pub begun-tidy : (begun : Held) → IsBegun begun → IsTidy begun
+begun-tidy begun is =
+    subst (λ (qs : List (List ℕ)). IsTidy (record { device = begun.device; queues = qs }))
+    (sym is.empty) (made-tidy begun.device)
+
 pub ordered-from : (begun : Held) (turns : List DoneTurn) → IsBegun begun → AreTurns begun turns
     → AreOrdered begun.device begun [] turns
 ordered-from begun turns is are =
-    let tidy : IsTidy begun =
-    subst (λ (qs : List (List ℕ)). IsTidy (record { device = begun.device; queues = qs }))
-    (sym is.empty) (made-tidy begun.device) in
-    all-ordered begun.device begun [] turns are tidy (stands-first begun.device is.loaded)
+    all-ordered begun.device begun [] turns are (begun-tidy begun is)
+    (stands-first begun.device is.loaded)

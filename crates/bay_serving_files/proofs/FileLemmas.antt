@@ -1,5 +1,12 @@
 -- Lemmas on serving files.
-use Rattle.std.proofs.Common.{◌≡◌, ℕ, IsErr, List, Option, Result, Ok, Err, refl}
+use Rattle.std.proofs.Common.{◌≡◌, ◌≤◌, ◌&&◌, ℕ, nat_le, min, Bool, true, false, if◌then◌else◌, IsErr, List, length, take, drop, Option, None, Some, Result, Ok, Err, refl, sym, subst, arith}
+use Rattle.std.specs.Char.{is_ascii_hexdigit}
+use Rattle.std.specs.List.{prefix_len}
+use Rattle.std.proofs.lemmas.Bool.{and_parts}
+use Rattle.std.proofs.lemmas.Bool.Decides.{nat_tests}
+use Rattle.std.proofs.lemmas.List.{length-take}
+use Rattle.bay_files.specs.Files.{FileGuards}
+use Rattle.bay_files.specs.Keys.{ReadsNamedKey, is_end, key_in}
 use Rattle.bay_device.specs.Device.{State}
 use Rattle.bay_device.specs.Report.{IsReport}
 use Rattle.bay_device.specs.declared.report.Report.{Report}
@@ -16,13 +23,43 @@ use Rattle.bay_report_laws.specs.ReadBack.{HaveIds}
 use Rattle.bay_serve.specs.Calls.{Call}
 use Rattle.bay_serving.specs.Host.{HostCall}
 use Rattle.bay_serving.specs.ServeReport.{Serving, ServesTurns}
-use Rattle.bay_serving_files.specs.Serve.{RunsText, ServesLoaded, ServesRun}
+use Rattle.bay_serving_files.specs.Serve.{RunsText, key_of, ServesLoaded, ServesRun}
 use Rattle.bay_serving_files.specs.declared.serve.Loaded.{Loaded}
 use Rattle.bay_serving_files.specs.declared.serve.Numbers.{Numbers}
 use Rattle.bay_serving_files.specs.Service.{DoneTurn, IsBegun, turns_in}
 use Rattle.bay_serving_files.proofs.BeginLemmas.{ordered-from}
+use Rattle.bay_serving_files.proofs.LiveLemmas.{commands-live}
 use Rattle.bay_serving_files.proofs.TextLemmas.{printed-from}
 use Rattle.bay_serving_files.proofs.TurnLemmas.{service-of, turned}
+
+-- a key has at most 64 digits
+key-short : (text key : List ℕ) → key_in text ≡ Some key → length key ≤ 64
+key-short text key e =
+    by-test ((nat_le 32 digits && nat_le digits 64) && is_end (drop digits text)) refl e
+  where
+    digits : ℕ
+    digits = prefix_len is_ascii_hexdigit text
+
+    by-test : (v : Bool)
+        → ((nat_le 32 digits && nat_le digits 64) && is_end (drop digits text)) ≡ v
+        → (if v then Some (take digits text) else None) ≡ Some key → length key ≤ 64
+    by-test false is e = absurd cc
+    by-test true is e =
+        let few : nat_le digits 64 ≡ true =
+        (and_parts (nat_le 32 digits) (nat_le digits 64)
+        (and_parts (nat_le 32 digits && nat_le digits 64) (is_end (drop digits text)) is).0).1 in
+        let same : take digits text ≡ key = cc in
+        let within : length (take digits text) ≡ min digits (length text) =
+        length-take digits text in
+        let low : digits ≤ 64 = grind (arith, nat_tests) in
+        subst (λ k. length k ≤ 64) same (omega arith)
+
+pub named-short : {F : Type 0} (guards : FileGuards F) (files : F) (named key : Option (List ℕ))
+    → ReadsNamedKey guards files named (Ok key) → length (key_of key) ≤ 64
+named-short guards files None key read =
+    let none : key ≡ None = cc in subst (λ k. length (key_of k) ≤ 64) (sym none) (omega arith)
+named-short guards files (Some name) None read = absurd read
+named-short guards files (Some name) (Some key) read = key-short read.0 key read.2
 
 -- a device that was loaded from a text runs it
 pub text-runs : (form : Form) (both : FilesData) (s : State)
@@ -35,24 +72,26 @@ text-runs Image both s loads = tt
 module _ {L H W : Type 0} (step : L → Call → L → Type 0) (acts : H → HostCall L → H → Type 0)
     (contents : W → Option (List ℕ)) (asks : W → WriteCall → W → Type 0) where
   -- turns of a server as it was made are one run
-  pub one-run : (turns : ℕ) (lines : List (ℕ × List ℕ)) (before : Serving L H) (old : Writing W)
+  pub one-run : (turns : ℕ) (before : Serving L H) (old : Writing W)
       (host : H) (new : Writing W) (answer : Result ℕ WriteFault)
-      → ServesTurns step acts contents asks turns lines before old host new answer
+      → ServesTurns step acts contents asks turns before old host new answer
       → IsBegun before.held → HaveIds before.held.device.switches
-      → ServesRun step acts contents asks turns lines before old new host answer
-  one-run turns lines before old host new answer serves begun ids =
+      → ServesRun step acts contents asks turns before old new host answer
+  one-run turns before old host new answer serves begun ids =
       let done : List DoneTurn =
-      turns_in step acts contents asks turns lines before old host new answer serves in
-      let are = turned step acts contents asks turns lines before old host new answer serves in
+      turns_in step acts contents asks turns before old host new answer serves in
+      let are = turned step acts contents asks turns before old host new answer serves in
       record {
         serves = serves;
         done = done;
         are = refl;
         run =
-            service-of step acts contents asks turns lines before old new host answer serves
+            service-of step acts contents asks turns before old new host answer serves
             begun.loaded;
         ordered = ordered-from before.held done begun are;
         printed = printed-from before.held done begun ids are;
+        live = λ duties supervised. commands-live step acts contents asks duties turns before old
+            host new answer serves begun supervised;
       }
 
   -- the line of a load could not be written

@@ -2,6 +2,7 @@ pub mod BeginLemmas
 pub mod FileLemmas
 pub mod FrontLemmas
 pub mod HistoryLemmas
+pub mod LiveLemmas
 pub mod OnceLemmas
 pub mod OrderLemmas
 pub mod ScanLemmas

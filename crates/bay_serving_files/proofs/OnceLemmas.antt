@@ -1,25 +1,24 @@
 -- In a turn octets of an association come once: all that the link gave of it.
-use Rattle.std.proofs.Common.{◌≡◌, ◌≢◌, ◌+◌, ◌<◌, ◌≤◌, ◌⊎◌, ℕ, Bool, true, false, cond, List, [], ◌∷◌, ◌++◌, length, position, is_none, is_some, Option, Some, None, inl, inr, refl, ap, sym, subst, ◌∙◌, append_assoc, append-nil, arith}
+use Rattle.std.proofs.Common.{◌≡◌, ◌≢◌, ◌+◌, ◌<◌, ◌≤◌, ◌⊎◌, ℕ, Bool, true, false, cond, List, [], ◌∷◌, ◌++◌, length, position, is_none, is_some, Option, Some, inl, inr, refl, ap, sym, subst, ◌∙◌, append_assoc, append-nil, arith}
 use Rattle.std.specs.Borrow.{Bor}
 use Rattle.std.specs.List.{Contains}
-use Rattle.std.specs.declared.net.socket_addr.SocketAddrV4.{SocketAddrV4}
 use Rattle.std.proofs.lemmas.Bool.{eq-eqb, ne_eqb}
 use Rattle.std.proofs.lemmas.List.Elements.{All-cons, All-contains, All-head, All-nil, All-tail, Contains-append_cases}
 use Rattle.bay_device.specs.Device.{State}
 use Rattle.bay_device.specs.Outcomes.{connection_at}
 use Rattle.bay_device.specs.declared.event.Event.{Event}
-use Rattle.bay_device.specs.declared.event.Event.TheVariants.{Open, Recv, Close, Contact, Input, Measure, Scan}
+use Rattle.bay_device.specs.declared.event.Event.TheVariants.{Open, Recv, Close, Contact, Input, Measure, BadMeasure, Lost, Scan}
 use Rattle.bay_trace.specs.Placing.{lying}
 use Rattle.bay_serve.specs.Calls.{ReadOutcome, Octets, Silence, Over, Broken}
-use Rattle.bay_serve.specs.Turns.{Held, Reading, Script, after_turn}
-use Rattle.bay_serve.specs.declared.process.ProcessEvent.{ProcessEvent}
+use Rattle.bay_serve.specs.Turns.{Held, Reading, Script, after_turn, first_of}
+use Rattle.bay_serve.specs.declared.process.Reported.{Reported}
 use Rattle.bay_serve.specs.declared.told.Closing.{Closing}
 use Rattle.bay_serve_laws.specs.Causes.{is_queue_full, tells}
-use Rattle.bay_serve_laws.specs.Events.{ChosenEvent, surely, turn_events}
+use Rattle.bay_serve_laws.specs.Events.{ChosenEvent, done_at, surely, turn_events}
 use Rattle.bay_serve_laws.specs.Flows.{brought_by, received_of}
-use Rattle.bay_serve_laws.specs.Order.{Then, ThenReads, brought, opened, opened_at, read_at}
+use Rattle.bay_serve_laws.specs.Order.{Then, ThenReads, brought, opened, read_at, told_at}
 use Rattle.bay_serve_laws.proofs.OrderLemmas.{in-order}
-use Rattle.bay_serving_files.proofs.FrontLemmas.{AreWithout, Behind, IsFree, IsWithout, behind-without, closing-without, why_closed}
+use Rattle.bay_serving_files.proofs.FrontLemmas.{AreWithout, Begins, Behind, IsFree, IsWithout, Reads, behind-without, closing-without, opened-free, told-without, why_closed}
 
 -- ---- no octets
 
@@ -30,6 +29,8 @@ without-one a (Close b) free = refl
 without-one a (Contact k position) free = refl
 without-one a (Input k value) free = refl
 without-one a (Measure k field value) free = refl
+without-one a (BadMeasure k field) free = refl
+without-one a Lost free = refl
 without-one a Scan free = refl
 
 without-none : (a : ℕ) (es : List ChosenEvent) → AreWithout es → received_of a es ≡ []
@@ -50,13 +51,6 @@ only : (x y : ChosenEvent) → Contains (y ∷ []) x → x ≡ y
 only x y has =
     All-contains (λ z. z ≡ y) (y ∷ []) x
     (All-cons (λ z. z ≡ y) y [] refl (All-nil (λ z. z ≡ y))) has
-
-opened-without : (place : Option ℕ) (accepted : Option (Option SocketAddrV4))
-    → AreWithout (opened_at place accepted)
-opened-without (Some place) (Some (Some from)) = All-cons IsFree _ [] tt (All-nil IsFree)
-opened-without (Some place) (Some None) = All-nil IsFree
-opened-without (Some place) None = All-nil IsFree
-opened-without None accepted = All-nil IsFree
 
 -- ---- one read
 
@@ -192,27 +186,44 @@ module _ (now : ℕ) (told : List (ℕ × Closing)) (a : ℕ) where
               omega arith,
             )
 
-pub received-once : (now : ℕ) (line : Option ProcessEvent) (script : Script) (h : Held) (c : Option ℕ)
+pub received-once : (now : ℕ) (given : Reported) (script : Script) (h : Held) (c : Option ℕ)
     (a : ℕ) (octets : Bor (List ℕ)) → length script.readings ≡ 8 → length script.offers ≡ 8
-    → Contains (turn_events now line script h) (c, Recv a octets)
-    → received_of a (turn_events now line script h) ≡ octets.now
-received-once now line script h c a octets readings offers has =
-    let told = (after_turn now line script h).noted.closed in
-    let why : ℕ → Bool = why_closed now line script h in
-    let events : List ChosenEvent = turn_events now line script h in
+    → Contains (turn_events now given script h) (c, Recv a octets)
+    → received_of a (turn_events now given script h) ≡ octets.now
+received-once now given script h c a octets readings offers has =
+    let told = (after_turn now given script h).noted.closed in
+    let events : List ChosenEvent = turn_events now given script h in
     let first : List ChosenEvent = opened script.accepted h.device in
-    let Reads : State → List ChosenEvent → Type 0 =
-    ThenReads now told 0 script.readings (Behind now told why line) in
-    let t : Then now told first Reads h.device events =
-    in-order now line script h readings offers in
-    let none : AreWithout first =
-    opened-without (position is_none h.device.connections) script.accepted in
-    elim (then-has now told a first Reads h.device events t c octets has) [
-      | inl own ↦ absurd (All-contains IsFree first (c, Recv a octets) none own)
+    let t : Then now told first (Begins now given script h) h.device events =
+    in-order now given script h readings offers in
+    elim (then-has now told a first (Begins now given script h) h.device events t c octets has) [
+      | inl own ↦ absurd (All-contains IsFree first (c, Recv a octets) (free given script h) own)
       | inr later ↦
-          then-received now told a first Reads h.device events t
-          ∙ ap (λ l. l ++ received_of a t.rest) (without-none a first none)
-          ∙ (reads-once now told a (Behind now told why line)
-          (behind-without now told why line) 0 script.readings _ t.rest c octets t.goes_on
-          later).0
+          then-received now told a first (Begins now given script h) h.device events t
+          ∙ ap (λ l. l ++ received_of a t.rest) (without-none a first (free given script h))
+          ∙ begun (done_at now (first ++ t.cut) h.device).after t.rest t.goes_on later
     ]
+  where
+    free : (given : Reported) (script : Script) (h : Held)
+        → AreWithout (opened script.accepted h.device)
+    free given script h =
+        opened-free (position is_none h.device.connections) script.accepted
+
+    begun : (d : State) (events : List ChosenEvent) → Begins now given script h d events
+        → Contains events (c, Recv a octets) → received_of a events ≡ octets.now
+    begun d events t has =
+        let told = (after_turn now given script h).noted.closed in
+        let lost : List ChosenEvent = told_at (first_of given) in
+        elim (then-has now told a lost (Reads now given script h) d events t c octets has) [
+          | inl own ↦
+              absurd (All-contains IsFree lost (c, Recv a octets) (told-without (first_of given))
+              own)
+          | inr later ↦
+              then-received now told a lost (Reads now given script h) d events t
+              ∙ ap (λ l. l ++ received_of a t.rest)
+              (without-none a lost (told-without (first_of given)))
+              ∙ (reads-once now told a
+              (Behind now told (why_closed now given script h) given.event)
+              (behind-without now told (why_closed now given script h) given.event) 0
+              script.readings _ t.rest c octets t.goes_on later).0
+        ]

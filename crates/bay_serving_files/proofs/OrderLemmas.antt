@@ -14,7 +14,7 @@ use Rattle.bay_device.specs.Outcomes.{Outcome, last_moment, outcome, place_of, r
 use Rattle.bay_device.specs.Steps.{Steps}
 use Rattle.bay_device.specs.Told.{pdu_in, pdus_in, talk_at}
 use Rattle.bay_device.specs.declared.event.Event.{Event}
-use Rattle.bay_device.specs.declared.event.Event.TheVariants.{Open, Recv, Close, Contact, Input, Measure, Scan}
+use Rattle.bay_device.specs.declared.event.Event.TheVariants.{Open, Recv, Close, Contact, Input, Measure, BadMeasure, Lost, Scan}
 use Rattle.bay_device.specs.declared.event.Sent.{Sent}
 use Rattle.bay_device.specs.declared.event.Step.{Step}
 use Rattle.bay_device.specs.declared.fault.StepFault.{StepFault}
@@ -178,9 +178,9 @@ on-time : (late : Bool) (now : ℕ) (rest : Outcome) (s : State) (step : Step)
 on-time true now rest s step is e = absurd cc
 on-time false now rest s step is e = grind (arith, nat_tests)
 
-stays-tidy : (h : Held) (t : DoneTurn) → IsTurn h t → IsTidy h → IsTidy (held_behind t h)
+pub stays-tidy : (h : Held) (t : DoneTurn) → IsTurn h t → IsTidy h → IsTidy (held_behind t h)
 stays-tidy h t is tidy =
-    (loses-nothing t.now t.line t.script h tidy is.in_time is.all_offered).tidy
+    (loses-nothing t.now t.given t.script h tidy is.in_time is.all_offered).tidy
 
 -- ---- a command
 
@@ -196,7 +196,7 @@ module _ (first : State) (h : Held) (t : DoneTurn) (past : List Past) (command :
 
   -- the event is one of octets
   asked : (event : Event)
-      → turn_events t.now t.line t.script h ≡ front ++ (choice, event) ∷ back
+      → turn_events t.now t.given t.script h ≡ front ++ (choice, event) ∷ back
       → (outcome choice t.now event mid).answer ≡ Ok step
       → AreRepliedAt t.now event (bay_of first) mid.connections step
       → IsReleasedAt t.now mid command
@@ -207,8 +207,8 @@ module _ (first : State) (h : Held) (t : DoneTurn) (past : List Past) (command :
     where
       before : OfAssociations front
       before =
-          before-octets t.now t.line t.script h front choice a octets back is.all_read
-          is.all_offered split
+          before-octets t.now t.given t.script h front choice a octets back is.all_read
+          is.all_offered is.in_time split allowed.heard
 
       heard : IsHeard h t
       heard = record {
@@ -219,8 +219,8 @@ module _ (first : State) (h : Held) (t : DoneTurn) (past : List Past) (command :
         back = back;
         is = split;
         first = before;
-        given = turn-brings a t.now t.line t.script h
-            ∙ received-once t.now t.line t.script h choice a octets is.all_read is.all_offered
+        given = turn-brings a t.now t.given t.script h
+            ∙ received-once t.now t.given t.script h choice a octets is.all_read is.all_offered
             (subst (λ es. Contains es (choice, Recv a octets)) (sym split)
             (Contains-append_right front ((choice, Recv a octets) ∷ back) (choice, Recv a octets)
             (0, omega arith, refl)));
@@ -256,7 +256,7 @@ module _ (first : State) (h : Held) (t : DoneTurn) (past : List Past) (command :
                 (answer-stands a step m.item m.among to)));
             place = there.0;
             number = there.1;
-            flows = (loses-nothing t.now t.line t.script h tidy is.in_time is.all_offered).flows
+            flows = (loses-nothing t.now t.given t.script h tidy is.in_time is.all_offered).flows
                 there.0 there.2;
             accepts = subst (λ p. Contains (operates_in (accepted_in t.now a r.pdu (bay_of first)
                 p)) command) (sym m.is) r.accepts;
@@ -272,14 +272,18 @@ module _ (first : State) (h : Held) (t : DoneTurn) (past : List Past) (command :
       absurd (none-among _ command replied has)
   asked (Measure k field value) split answered replied allowed =
       absurd (none-among _ command replied has)
+  asked (BadMeasure k field) split answered replied allowed =
+      absurd (none-among _ command replied has)
+  asked Lost split answered replied allowed = absurd (none-among _ command replied has)
   asked Scan split answered replied allowed = absurd (none-among _ command replied has)
 
-ordered : (first : State) (h : Held) (t : DoneTurn) (past : List Past) (command : Command)
+-- what stands behind a command of a turn
+pub ordered : (first : State) (h : Held) (t : DoneTurn) (past : List Past) (command : Command)
     → IsTurn h t → IsTidy h → Stands first past h.device → Contains t.told.commands command
     → IsOrdered first h t past command
 ordered first h t past command is tidy at has =
-    let events : List ChosenEvent = turn_events t.now t.line t.script h in
-    let commands = is.commands ∙ (Part-turn t.now t.line t.script h).commands in
+    let events : List ChosenEvent = turn_events t.now t.given t.script h in
+    let commands = is.commands ∙ (Part-turn t.now t.given t.script h).commands in
     let f : Found first t.now events h.device past command =
     found first t.now command events h.device past at
     (subst (λ cs. Contains cs command) commands has) in
@@ -302,8 +306,8 @@ pub all-ordered : (first : State) (h : Held) (past : List Past) (ts : List DoneT
     → AreTurns h ts → IsTidy h → Stands first past h.device → AreOrdered first h past ts
 all-ordered first h past [] are tidy at = tt
 all-ordered first h past (t ∷ ts) are tidy at =
-    let events : List ChosenEvent = turn_events t.now t.line t.script h in
-    let whole = Part-turn t.now t.line t.script h in
+    let events : List ChosenEvent = turn_events t.now t.given t.script h in
+    let whole = Part-turn t.now t.given t.script h in
     let behind : List Past = past_behind t.now events h.device past in (
       λ command has. ordered first h t past command are.0 tidy at has,
       all-ordered first (held_behind t h) behind ts are.1 (stays-tidy h t are.0 tidy)

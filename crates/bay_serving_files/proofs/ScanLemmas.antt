@@ -1,10 +1,9 @@
 -- The scan behind a device releases what may be operated.
-use Rattle.std.proofs.Common.{◌≡◌, ◌+◌, ◌-◌, ◌≤◌, ℕ, true, List, ap, sym, ◌∙◌, arith}
+use Rattle.std.proofs.Common.{◌≡◌, ◌+◌, ◌≤◌, ℕ, true, not, List, ap, sym, ◌∙◌, arith}
 use Rattle.bay_process.specs.Values.{is_truth}
 use Rattle.bay_services.specs.Released.{releasing}
 use Rattle.bay_services.specs.declared.answer.Command.{Command}
 use Rattle.bay_tree.specs.Rows.{leaf_of}
-use Rattle.bay_tree.specs.declared.leaf.Leaf.TheVariants as leaf
 use Rattle.bay_device.specs.Commands.{IsReleasedAt}
 use Rattle.bay_device.specs.Device.{State}
 use Rattle.bay_device.specs.Fresh.{Past}
@@ -26,7 +25,8 @@ released-by past old s now age command tracks same aged released =
     let near : now ≤ r.at + age = omega arith in
     let rows : s.rows ≡ w.scan.after.rows = ap (λ (p : Parts). p.rows) same ∙ w.rows in
     record {
-      scan = has-since now age r.at past old w near;
+      scan = has-since now age r.at past old w near
+          (tracks.heard ∙ ap not (sym (ap (λ (p : Parts). p.lost) same) ∙ released.heard));
       enabled =
           ap (λ rows. is_truth true (leaf_of (releasing command.switch command.operation) rows))
           (sym rows) ∙ released.enabled;

@@ -195,8 +195,8 @@ module _ (first : State) (ids : HaveIds first.switches) where
       → AreOrdered first h past ts → ArePrinted first h past ts
   all-printed h past [] at orders = tt
   all-printed h past (t ∷ ts) at orders =
-      let events : List ChosenEvent = turn_events t.now t.line t.script h in
-      let whole = Part-turn t.now t.line t.script h in
+      let events : List ChosenEvent = turn_events t.now t.given t.script h in
+      let whole = Part-turn t.now t.given t.script h in
       let behind : List Past = past_behind t.now events h.device past in
       let next : Stands first behind (held_behind t h).device =
       subst (Stands first behind) (sym whole.device)

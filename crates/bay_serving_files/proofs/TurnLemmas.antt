@@ -14,9 +14,9 @@ use Rattle.bay_serve.specs.declared.fault.ServeFault.TheVariants.{MomentTooLarge
 use Rattle.bay_serve_laws.specs.Events.{turn_events}
 use Rattle.bay_serve_laws.specs.Flows.{IsInTime}
 use Rattle.bay_serve_laws.proofs.PartLemmas.{Part-turn}
+use Rattle.bay_serving.specs.Clock.{moment_read}
 use Rattle.bay_serving.specs.Host.{HostCall}
-use Rattle.bay_serving.specs.ServeReport.{AfterTurn, MayPause, Serving, ServesTurns, TurnGoes}
-use Rattle.bay_serving.specs.declared.process.Next.{Next}
+use Rattle.bay_serving.specs.ServeReport.{AfterTurn, MayPause, Serving, ServesTurns, TurnGoes, choice_of}
 use Rattle.bay_serving_files.specs.Service.{AreTurns, DoneTurn, IsService, IsTurn, held_after, held_behind, later_turns, past_behind, past_of, turn_in, turns_in}
 use Rattle.bay_serving_files.proofs.HistoryLemmas.{Stands, one-run, stands-events, stands-first}
 
@@ -26,8 +26,8 @@ pub stands-turns : (first : State) (ts : List DoneTurn) (h : Held) (past : List 
     → Stands first past h.device → Stands first (past_of ts h past) (held_after ts h).device
 stands-turns first [] h past at = at
 stands-turns first (t ∷ ts) h past at =
-    let events = turn_events t.now t.line t.script h in
-    let whole = Part-turn t.now t.line t.script h in
+    let events = turn_events t.now t.given t.script h in
+    let whole = Part-turn t.now t.given t.script h in
     stands-turns first ts (held_behind t h) (past_behind t.now events h.device past)
     (subst (Stands first (past_behind t.now events h.device past)) (sym whole.device)
     (stands-events first t.now events h.device past at))
@@ -54,47 +54,48 @@ later-are Ends Goes h (Ok status) goes more each = each goes
 
 module _ {L H W : Type 0} (step : L → Call → L → Type 0) (acts : H → HostCall L → H → Type 0)
     (contents : W → Option (List ℕ)) (asks : W → WriteCall → W → Type 0) where
-  paused-held : (after next : Serving L H) → MayPause acts after next → next.held ≡ after.held
+  pub paused-held : (after next : Serving L H) → MayPause acts after next → next.held ≡ after.held
   paused-held after next (inl same) = ap (λ (b : Serving L H). b.held) same
-  paused-held after next (inr paused) = paused.2
+  paused-held after next (inr paused) = ap (λ (b : Serving L H). b.held) paused.1
 
-  is-turn : (next : Next) (before : Serving L H) (old : Writing W)
-      (after : Serving L H) (new : Writing W) (answer : Result ℕ WriteFault)
-      (goes : TurnGoes step acts contents asks next before old after new answer)
-      → IsTurn before.held (turn_in step acts contents asks next before old after new answer goes)
-  is-turn next before old after new answer goes = record {
+  pub is-turn : (before : Serving L H) (old : Writing W) (after : Serving L H) (new : Writing W)
+      (answer : Result ℕ WriteFault)
+      (goes : TurnGoes step acts contents asks before old after new answer)
+      → IsTurn before.held (turn_in step acts contents asks before old after new answer goes)
+  is-turn before old after new answer goes = record {
     all_read = goes.serves.all_read;
     all_offered = goes.serves.all_offered;
-    in_time = in-time goes.clock next.given before.held goes.right;
+    in_time =
+        in-time (moment_read goes.clocks before.clock) (choice_of goes.clocks before).next.given before.held
+        goes.right;
     commands = goes.serves.commands;
   }
 
-  pub turned : (turns : ℕ) (lines : List (ℕ × List ℕ)) (before : Serving L H) (old : Writing W)
+  pub turned : (turns : ℕ) (before : Serving L H) (old : Writing W)
       (host : H) (new : Writing W) (answer : Result ℕ WriteFault)
-      (serves : ServesTurns step acts contents asks turns lines before old host new answer)
+      (serves : ServesTurns step acts contents asks turns before old host new answer)
       → AreTurns before.held
-      (turns_in step acts contents asks turns lines before old host new answer serves)
-  turned zero lines before old host new answer serves = tt
-  turned (suc turns) lines before old host new answer (inl fails) = tt
-  turned (suc turns) lines before old host new answer (inr did) = (
-    is-turn _ _ _ _ _ _ did.3,
+      (turns_in step acts contents asks turns before old host new answer serves)
+  turned zero before old host new answer serves = tt
+  turned (suc turns) before old host new answer (inl fails) = tt
+  turned (suc turns) before old host new answer (inr did) = (
+    is-turn _ _ _ _ _ did.3,
     later-are _ _ _ did.2 did.4 _ (λ rest.
-        subst (λ h. AreTurns h (turns_in step acts contents asks turns _ rest.0 did.1 host new
-        answer
+        subst (λ h. AreTurns h (turns_in step acts contents asks turns rest.0 did.1 host new answer
         rest.2)) (paused-held did.0 rest.0 rest.1 ∙ did.3.serves.server)
-        (turned turns _ rest.0 _ host new answer rest.2)),
+        (turned turns rest.0 _ host new answer rest.2)),
   )
 
-  pub service-of : (turns : ℕ) (lines : List (ℕ × List ℕ)) (before : Serving L H)
+  pub service-of : (turns : ℕ) (before : Serving L H)
       (old new : Writing W) (host : H) (answer : Result ℕ WriteFault)
-      (serves : ServesTurns step acts contents asks turns lines before old host new answer)
+      (serves : ServesTurns step acts contents asks turns before old host new answer)
       → Came [] before.held.device → IsService before.held
-      (turns_in step acts contents asks turns lines before old host new answer serves)
-  service-of turns lines before old new host answer serves begin =
-      let ts = turns_in step acts contents asks turns lines before old host new answer serves in
+      (turns_in step acts contents asks turns before old host new answer serves)
+  service-of turns before old new host answer serves begin =
+      let ts = turns_in step acts contents asks turns before old host new answer serves in
       let first : State = before.held.device in
       record {
-        are = turned turns lines before old host new answer serves;
+        are = turned turns before old host new answer serves;
         run = one-run first (past_of ts before.held []) (held_after ts before.held).device begin
             (stands-turns first ts before.held [] (stands-first first begin));
       }

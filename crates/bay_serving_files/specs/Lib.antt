@@ -7,7 +7,8 @@
 --
 -- `Service`: the turns that were served, one after the other, and all that happened to the device in
 -- them since load, which is one run of it. `Orders`: what stands behind each command that a turn
--- tells; `Texts`: the same, read off the lines that are printed.
+-- tells; `Texts`: the same, read off the lines that are printed. `Live`: at each command of a
+-- supervised process it lived as the turn began.
 
 -- What public clauses cite of the crates below.
 pub use Rattle.bay_device.specs.Commands
@@ -17,6 +18,10 @@ pub use Rattle.bay_device.specs.Operates
 pub use Rattle.bay_device.specs.Steps
 pub use Rattle.bay_device.specs.Told
 pub use Rattle.bay_files.specs.Files
+pub use Rattle.bay_files.specs.Keys
+pub use Rattle.bay_port.specs.Ports
+pub use Rattle.bay_port.specs.Supervision
+pub use Rattle.bay_port.specs.Watching
 pub use Rattle.bay_replay.specs.History
 pub use Rattle.bay_report.specs.Load
 pub use Rattle.bay_report.specs.Report
@@ -30,6 +35,7 @@ pub use Rattle.bay_serving.specs.Host
 pub use Rattle.bay_serving.specs.LogLines
 pub use Rattle.bay_serving.specs.ServeReport
 -- Its own definitions.
+pub mod Live
 pub mod Orders
 pub mod Serve
 pub mod Service

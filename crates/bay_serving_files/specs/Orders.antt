@@ -40,7 +40,7 @@ StandIn octets all = (before : List ℕ) × (after : List ℕ) × (all ≡ befor
 -- all that the device sends to an association in a turn
 abbrev pub sent_in : ℕ → DoneTurn → Held → List ℕ
 sent_in a t h =
-    sent_to a (done_at t.now (turn_events t.now t.line t.script h) h.device).answers
+    sent_to a (done_at t.now (turn_events t.now t.given t.script h) h.device).answers
 
 -- In a turn octets of an association were heard, behind some of its events, each of which is one of
 -- an association. They stand among those that the link gave of the association in the turn, and
@@ -51,9 +51,9 @@ pub record IsHeard (h : Held) (t : DoneTurn) : Type 0 where
   pub association : ℕ
   pub octets : Bor (List ℕ)
   pub back : List ChosenEvent
-  pub is : turn_events t.now t.line t.script h ≡ front ++ (choice, Recv association octets) ∷ back
+  pub is : turn_events t.now t.given t.script h ≡ front ++ (choice, Recv association octets) ∷ back
   pub first : All (λ (e : ChosenEvent). OfAssociation e.1) front
-  pub given : given_of association (turn_calls t.now t.line t.script h) ≡ octets.now
+  pub given : given_of association (turn_calls t.now t.given t.script h) ≡ octets.now
   pub step : Step
   pub answered : (outcome choice t.now (Recv association octets)
       (done_at t.now front h.device).after).answer ≡ Ok step
@@ -78,7 +78,7 @@ pub record IsOrdered (first : State) (h : Held) (t : DoneTurn) (past : List Past
   pub stands : StandIn sent.octets (sent_in heard.association t h)
   pub place : ℕ
   pub number : heard.association ≡ place + 1
-  pub flows : FlowsAt t.now t.line t.script h place
+  pub flows : FlowsAt t.now t.given t.script h place
   pub accepts : Contains (operates_in (accepted_in t.now heard.association pdu (bay_of first)
       (pdu_in sent.octets))) command
   pub allowed : IsReleasedAt t.now (done_at t.now heard.front h.device).after command
@@ -91,4 +91,4 @@ AreOrdered first h past [] = Unit {0}
 AreOrdered first h past (t ∷ ts) =
     ((command : Command) → Contains t.told.commands command → IsOrdered first h t past command)
     × AreOrdered first (held_behind t h)
-    (past_behind t.now (turn_events t.now t.line t.script h) h.device past) ts
+    (past_behind t.now (turn_events t.now t.given t.script h) h.device past) ts

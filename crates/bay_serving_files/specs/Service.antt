@@ -1,5 +1,5 @@
 -- The turns of a service, and all that happens to its device in them.
-use Rattle.std.specs.Prelude.{ℕ, ◌≡◌, ◌≤◌, zero, suc, List, [], ◌∷◌, length, replicate, Option, Result, Ok, Err}
+use Rattle.std.specs.Prelude.{ℕ, ◌≡◌, zero, suc, List, [], ◌∷◌, length, replicate, Option, Result, Ok, Err}
 use mathlib.Core.Logic.{inl, inr}
 use Rattle.bay_device.specs.Device.{State}
 use Rattle.bay_device.specs.Fresh.{Came, Past}
@@ -9,15 +9,14 @@ use Rattle.bay_io.specs.Watched.{Writing}
 use Rattle.bay_io.specs.declared.outbox.WriteFault.{WriteFault}
 use Rattle.bay_replay.specs.Runs.{IsOneRun}
 use Rattle.bay_serve.specs.Calls.{Call}
-use Rattle.bay_serve.specs.Served.{event_in}
-use Rattle.bay_serve.specs.Turns.{Held, Script, after_turn, moment_at}
-use Rattle.bay_serve.specs.declared.process.ProcessEvent.{ProcessEvent}
+use Rattle.bay_serve.specs.Served.{reported_in}
+use Rattle.bay_serve.specs.Turns.{Held, Script, after_turn}
+use Rattle.bay_serve.specs.declared.process.Reported.{Reported}
 use Rattle.bay_serve.specs.declared.told.Turn.{Turn}
 use Rattle.bay_serve_laws.specs.Events.{ChosenEvent, turn_events}
 use Rattle.bay_serve_laws.specs.Flows.{IsInTime}
 use Rattle.bay_serving.specs.Host.{HostCall}
-use Rattle.bay_serving.specs.ServeReport.{AfterTurn, Serving, ServesTurns, TurnGoes}
-use Rattle.bay_serving.specs.declared.process.Next.{Next}
+use Rattle.bay_serving.specs.ServeReport.{AfterTurn, Serving, ServesTurns, TurnGoes, choice_of, moment_of}
 
 -- ---- a server as it is made
 
@@ -28,17 +27,17 @@ pub record IsBegun (h : Held) : Type 0 where
 
 -- ---- turns
 
--- a turn that was done: its moment, what happened to the process, what the link and the memory
+-- a turn that was done: its moment, what it was given of the process, what the link and the memory
 -- decided, and what it told
 pub record DoneTurn : Type 0 where
   pub now : ℕ
-  pub line : Option ProcessEvent
+  pub given : Reported
   pub script : Script
   pub told : Turn
 
 -- what the server holds behind a turn
 abbrev pub held_behind : DoneTurn → Held → Held
-held_behind t h = (after_turn t.now t.line t.script h).server
+held_behind t h = (after_turn t.now t.given t.script h).server
 
 -- behind all of them
 abbrev pub held_after : List DoneTurn → Held → Held
@@ -51,7 +50,7 @@ pub record IsTurn (h : Held) (t : DoneTurn) : Type 0 where
   pub all_read : length t.script.readings ≡ associations
   pub all_offered : length t.script.offers ≡ associations
   pub in_time : IsInTime t.now h
-  pub commands : t.told.commands ≡ (after_turn t.now t.line t.script h).noted.commands
+  pub commands : t.told.commands ≡ (after_turn t.now t.given t.script h).noted.commands
 
 -- So was each, on what the turns before it left.
 abbrev pub AreTurns : Held → List DoneTurn → Type 0
@@ -68,26 +67,26 @@ later_turns Ends Goes (Ok status) goes more = more goes
 
 module _ {L H W : Type 0} (step : L → Call → L → Type 0) (acts : H → HostCall L → H → Type 0)
     (contents : W → Option (List ℕ)) (asks : W → WriteCall → W → Type 0) where
-  abbrev pub turn_in : (next : Next) (before : Serving L H) (old : Writing W)
-      (after : Serving L H) (new : Writing W) (answer : Result ℕ WriteFault)
-      → TurnGoes step acts contents asks next before old after new answer → DoneTurn
-  turn_in next before old after new answer goes = record {
-    now = moment_at goes.clock before.held;
-    line = event_in next.given;
+  abbrev pub turn_in : (before : Serving L H) (old : Writing W) (after : Serving L H)
+      (new : Writing W) (answer : Result ℕ WriteFault)
+      → TurnGoes step acts contents asks before old after new answer → DoneTurn
+  turn_in before old after new answer goes = record {
+    now = moment_of goes.clocks before;
+    given = reported_in (choice_of goes.clocks before).next.given;
     script = goes.serves.script;
     told = goes.turn;
   }
 
   -- each turn that was done, in their order
-  abbrev pub turns_in : (turns : ℕ) (lines : List (ℕ × List ℕ)) (before : Serving L H)
-      (old : Writing W) (host : H) (new : Writing W) (answer : Result ℕ WriteFault)
-      → ServesTurns step acts contents asks turns lines before old host new answer
+  abbrev pub turns_in : (turns : ℕ) (before : Serving L H) (old : Writing W) (host : H)
+      (new : Writing W) (answer : Result ℕ WriteFault)
+      → ServesTurns step acts contents asks turns before old host new answer
       → List DoneTurn
-  turns_in zero lines before old host new answer serves = []
-  turns_in (suc turns) lines before old host new answer (inl fails) = []
-  turns_in (suc turns) lines before old host new answer (inr did) =
-      turn_in _ _ _ _ _ _ did.3
-      ∷ later_turns _ _ did.2 did.4 (λ rest. turns_in turns _ rest.0 _ host new answer rest.2)
+  turns_in zero before old host new answer serves = []
+  turns_in (suc turns) before old host new answer (inl fails) = []
+  turns_in (suc turns) before old host new answer (inr did) =
+      turn_in _ _ _ _ _ did.3
+      ∷ later_turns _ _ did.2 did.4 (λ rest. turns_in turns rest.0 _ host new answer rest.2)
 
 -- ---- what has happened
 
@@ -104,7 +103,7 @@ abbrev pub past_of : List DoneTurn → Held → List Past → List Past
 past_of [] h past = past
 past_of (t ∷ ts) h past =
     past_of ts (held_behind t h)
-    (past_behind t.now (turn_events t.now t.line t.script h) h.device past)
+    (past_behind t.now (turn_events t.now t.given t.script h) h.device past)
 
 -- ---- one run
 

@@ -40,4 +40,4 @@ ArePrinted first h past (t ∷ ts) =
     → IsTurnLine t (held_behind t h).device line → printed_command line ≡ Some printed
     → IsPrintedFor first h t past printed)
     × ArePrinted first (held_behind t h)
-    (past_behind t.now (turn_events t.now t.line t.script h) h.device past) ts
+    (past_behind t.now (turn_events t.now t.given t.script h) h.device past) ts

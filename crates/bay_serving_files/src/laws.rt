@@ -14,6 +14,8 @@ ghost use Rattle.bay_report_laws.specs.ReadBack.{HaveIds};
 ghost use Rattle.bay_serve.specs.Calls.{Called};
 ghost use Rattle.bay_serve.specs.Turns.{Held};
 ghost use Rattle.bay_serving.specs.ServeReport.{Serving, ServesTurns};
+ghost use Rattle.bay_port.specs.Watching.{Duties};
+ghost use Rattle.bay_serving_files.specs.Live.{CommandsLive, IsSupervised};
 ghost use Rattle.bay_serving_files.specs.Orders.{AreOrdered};
 ghost use Rattle.bay_serving_files.specs.Texts.{ArePrinted};
 ghost use Rattle.bay_serving_files.specs.Service.{AreTurns, DoneTurn, IsBegun, IsService, turns_in};
@@ -29,12 +31,12 @@ use bay_serving::host::Host;
 /// the octets of the answer accept, backed by a select where its switch has to be selected. Each
 /// scan of a device that runs a program leaves what the program means.
 pub fn all_turns_are_one_run<L: Link, H: Host<L>, W: Sink>(_link: &L, _host: &H, _sink: &W)
-    ensures run { (turns : ℕ) (lines : List (ℕ × List ℕ)) (before : Serving L H)
-        (old new : Writing W) (host : H) (answer : Result ℕ WriteFault)
-        (serves : ServesTurns (Called L.does L.failures) H.does W.contents W.does turns lines before
-        old host new answer) → Came [] before.held.device
+    ensures run { (turns : ℕ) (before : Serving L H) (old new : Writing W) (host : H)
+        (answer : Result ℕ WriteFault)
+        (serves : ServesTurns (Called L.does L.failures) H.does W.contents W.does turns before old
+        host new answer) → Came [] before.held.device
         → IsService before.held (turns_in (Called L.does L.failures) H.does W.contents W.does turns
-        lines before old host new answer serves) }
+        before old host new answer serves) }
     // A server is served as it is made, of a device that was just loaded.
     ensures begins { (bay : List ℕ) (form : Form) (program : List ℕ) (device : State)
         → LoadsTo bay form program (Ok device)
@@ -54,12 +56,12 @@ pub fn all_turns_are_one_run<L: Link, H: Host<L>, W: Sink>(_link: &L, _host: &H,
 /// switch's interlocking value TRUE, and since then the process has not changed: in the turn itself
 /// only events of associations come before the octets.
 pub fn each_command_is_asked_for<L: Link, H: Host<L>, W: Sink>(_link: &L, _host: &H, _sink: &W)
-    ensures { (turns : ℕ) (lines : List (ℕ × List ℕ)) (before : Serving L H) (old new : Writing W)
-        (host : H) (answer : Result ℕ WriteFault)
-        (serves : ServesTurns (Called L.does L.failures) H.does W.contents W.does turns lines before
-        old host new answer) → IsBegun before.held
+    ensures { (turns : ℕ) (before : Serving L H) (old new : Writing W) (host : H)
+        (answer : Result ℕ WriteFault)
+        (serves : ServesTurns (Called L.does L.failures) H.does W.contents W.does turns before old
+        host new answer) → IsBegun before.held
         → AreOrdered before.held.device before.held [] (turns_in (Called L.does L.failures) H.does
-        W.contents W.does turns lines before old host new answer serves) }
+        W.contents W.does turns before old host new answer serves) }
 {}
 
 /// Each line that a server prints for its turns, or tells its process, and that reads as a command,
@@ -67,12 +69,12 @@ pub fn each_command_is_asked_for<L: Link, H: Host<L>, W: Sink>(_link: &L, _host:
 /// with this id, behind which the client's octets, the success sent to it and the scan of an
 /// earlier turn stand.
 pub fn printed_commands_are_asked_for<L: Link, H: Host<L>, W: Sink>(_link: &L, _host: &H, _sink: &W)
-    ensures lines { (turns : ℕ) (lines : List (ℕ × List ℕ)) (before : Serving L H)
-        (old new : Writing W) (host : H) (answer : Result ℕ WriteFault)
-        (serves : ServesTurns (Called L.does L.failures) H.does W.contents W.does turns lines before
-        old host new answer) → IsBegun before.held → HaveIds before.held.device.switches
+    ensures lines { (turns : ℕ) (before : Serving L H) (old new : Writing W) (host : H)
+        (answer : Result ℕ WriteFault)
+        (serves : ServesTurns (Called L.does L.failures) H.does W.contents W.does turns before old
+        host new answer) → IsBegun before.held → HaveIds before.held.device.switches
         → ArePrinted before.held.device before.held [] (turns_in (Called L.does L.failures) H.does
-        W.contents W.does turns lines before old host new answer serves) }
+        W.contents W.does turns before old host new answer serves) }
     // The switches of a device that was loaded have ids.
     ensures names { (bay : List ℕ) (form : Form) (program : List ℕ) (device : State)
         → LoadsTo bay form program (Ok device) → HaveIds device.switches }
@@ -84,4 +86,17 @@ pub fn printed_commands_are_asked_for<L: Link, H: Host<L>, W: Sink>(_link: &L, _
 pub fn no_octets_command_alone()
     ensures { (begun : Held) (turns : List DoneTurn) → IsBegun begun → AreTurns begun turns
         → AreOrdered begun.device begun [] turns }
+{}
+
+/// Commands need a live process: where a server's process is supervised, and no line of a trace
+/// stands before it, each turn that tells a command began with a process that was there, had said
+/// that it is of this bay, and was heard at most so many milliseconds before the moment of the turn
+/// before: then it was accepted, or a whole line of it stood in front that could be taken.
+pub fn commands_need_a_live_process<L: Link, H: Host<L>, W: Sink>(_link: &L, _host: &H, _sink: &W)
+    ensures { (duties : Duties) (turns : ℕ) (before : Serving L H) (old : Writing W) (host : H)
+        (new : Writing W) (answer : Result ℕ WriteFault)
+        (serves : ServesTurns (Called L.does L.failures) H.does W.contents W.does turns before old
+        host new answer) → IsBegun before.held → IsSupervised duties before
+        → CommandsLive (Called L.does L.failures) H.does W.contents W.does duties turns before old
+        host new answer serves }
 {}

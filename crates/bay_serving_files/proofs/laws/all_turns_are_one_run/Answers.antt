@@ -5,9 +5,9 @@ use Rattle.bay_serving_files.proofs.TurnLemmas.{service-of}
 use Rattle.bay_serving_files.proofs.laws.all_turns_are_one_run.Goals as goal
 
 pub returns-clause-run : goal.returns-clause-run
-returns-clause-run g c = λ turns lines before old new host answer serves loaded.
+returns-clause-run g c = λ turns before old new host answer serves loaded.
     service-of (Called g.L.Link.does g.L.Link.failures) g.H.Host.does g.W.Sink.contents
-    g.W.Sink.does turns lines before old new host answer serves loaded
+    g.W.Sink.does turns before old new host answer serves loaded
 
 pub returns-clause-begins : goal.returns-clause-begins
 returns-clause-begins g c = begun-of

@@ -5,9 +5,9 @@ use Rattle.bay_serving_files.proofs.TurnLemmas.{turned}
 use Rattle.bay_serving_files.proofs.laws.each_command_is_asked_for.Goals as goal
 
 pub returns : goal.returns
-returns g c = λ turns lines before old new host answer serves begun.
+returns g c = λ turns before old new host answer serves begun.
     ordered-from before.held
     (turns_in (Called g.L.Link.does g.L.Link.failures) g.H.Host.does g.W.Sink.contents
-    g.W.Sink.does turns lines before old host new answer serves) begun
+    g.W.Sink.does turns before old host new answer serves) begun
     (turned (Called g.L.Link.does g.L.Link.failures) g.H.Host.does g.W.Sink.contents
-    g.W.Sink.does turns lines before old host new answer serves)
+    g.W.Sink.does turns before old host new answer serves)

@@ -5,12 +5,12 @@ use Rattle.bay_serving_files.proofs.TurnLemmas.{turned}
 use Rattle.bay_serving_files.proofs.laws.printed_commands_are_asked_for.Goals as goal
 
 pub returns-clause-lines : goal.returns-clause-lines
-returns-clause-lines g c = λ turns lines before old new host answer serves begun ids.
+returns-clause-lines g c = λ turns before old new host answer serves begun ids.
     printed-from before.held
     (turns_in (Called g.L.Link.does g.L.Link.failures) g.H.Host.does g.W.Sink.contents
-    g.W.Sink.does turns lines before old host new answer serves) begun ids
+    g.W.Sink.does turns before old host new answer serves) begun ids
     (turned (Called g.L.Link.does g.L.Link.failures) g.H.Host.does g.W.Sink.contents
-    g.W.Sink.does turns lines before old host new answer serves)
+    g.W.Sink.does turns before old host new answer serves)
 
 pub returns-clause-names : goal.returns-clause-names
 returns-clause-names g c = loaded-named

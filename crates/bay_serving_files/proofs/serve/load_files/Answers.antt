@@ -1,7 +1,7 @@
-use Rattle.std.proofs.Common.{inr}
+use Rattle.std.proofs.Common.{inr, option_map}
 use Rattle.std.proofs.lemmas.Result.{err_from_is_err_and}
 use Rattle.bay_files.specs.Files.{FilesData}
-use Rattle.bay_serving_files.proofs.FileLemmas.{text-runs}
+use Rattle.bay_serving_files.proofs.FileLemmas.{named-short, text-runs}
 use Rattle.bay_serving_files.proofs.serve.load_files.Goals as goal
 use Rattle.bay_serving_files.proofs.BeginLemmas.{begun-of}
 use Rattle.bay_serving_files.proofs.TextLemmas.{loaded-named}
@@ -25,7 +25,23 @@ returns-in_err-device-clause-err g c =
     rw (p.1, p.2) (
       both,
       c.in_ok-both.ensures.ok,
-      (c.in_ok-trace.trace.items, c.in_ok-trace.ensures.ok, refused),
+      (
+        c.in_ok-trace.trace.items,
+        c.in_ok-trace.ensures.ok,
+        (option_map (λ k. k.items) c.in_ok-key.key, c.in_ok-key.ensures.ok, refused),
+      ),
+    )
+
+pub returns-in_err-key-clause-err : goal.returns-in_err-key-clause-err
+returns-in_err-key-clause-err g c =
+    let p = err_from_is_err_and c.from_residual-in_err-key.result
+    c.from_residual-in_err-key.ensures.1 in
+    let both : FilesData =
+    record { bay = c.in_ok-both.both.bay.items; program = c.in_ok-both.both.program.items } in
+    rw (p.1, p.2) (
+      both,
+      c.in_ok-both.ensures.ok,
+      (c.in_ok-trace.trace.items, c.in_ok-trace.ensures.ok, c.in_err-key.ensures.err),
     )
 
 pub returns-clause-ok : goal.returns-clause-ok
@@ -37,6 +53,7 @@ returns-clause-ok g c =
       both,
       c.in_ok-both.ensures.ok,
       c.in_ok-trace.ensures.ok,
+      c.in_ok-key.ensures.ok,
       loads,
       text-runs c.args.named.form both c.in_ok-device.device loads,
     )
@@ -46,3 +63,8 @@ returns-clause-begun g c = begun-of _ _ _ _ c.in_ok-device.ensures.ok
 
 pub returns-clause-named : goal.returns-clause-named
 returns-clause-named g c = loaded-named _ _ _ _ c.in_ok-device.ensures.ok
+
+pub returns-clause-short : goal.returns-clause-short
+returns-clause-short g c =
+    named-short g.F.FileSystem.guards _ _ (option_map (λ k. k.items) c.in_ok-key.key)
+    c.in_ok-key.ensures.ok

@@ -20,7 +20,7 @@ returns-in-Ok g c = record {
   goes_on = record {
     bound = Ok c.in-Ok.bound;
     host = c.bind_ports.new.host;
-    binds = c.in-Ok.ensures.binds;
+    binds = rw (c.duties_by-duties.ensures, c.key_octets.ensures) at c.in-Ok.ensures.binds;
     goes_on = rw c.as_slice.ensures.value at c.serve_bound.ensures;
   };
 }
@@ -35,7 +35,7 @@ returns g c = record {
   goes_on = record {
     bound = Err c.in-Err.why;
     host = c.bind_ports.new.host;
-    binds = c.in-Err.ensures.binds;
+    binds = rw (c.duties_by-duties.ensures, c.key_octets.ensures) at c.in-Err.ensures.binds;
     goes_on = (c.tell_unserved.ensures, refl);
   };
 }
