@@ -10,7 +10,7 @@ use Rattle.bay_device.specs.declared.fault.LoadFault.{LoadFault}
 use Rattle.bay_device.specs.declared.fault.LoadFault.TheVariants.{OutOfMemory as wants_memory}
 use Rattle.bay_io.specs.Watched.{Reading, Writing}
 use Rattle.bay_io.specs.declared.outbox.WriteFault.{WriteFault}
-use Rattle.bay_files.specs.Files.{FileReads, FileWrites, FilesData, ReadsBoth, UnreadData, WritesWhole}
+use Rattle.bay_files.specs.Files.{FileGuards, FileReads, FileWrites, FilesData, ReadsBoth, UnreadData, WritesWhole}
 use Rattle.bay_files.specs.declared.files.FileFault.{FileFault}
 use Rattle.bay_files.specs.declared.files.FileFault.TheVariants as unwritten
 use Rattle.bay_report.specs.declared.load.Form.{Form}
@@ -183,8 +183,7 @@ pub record Around (F H R W : Type 0) : Type 0 where
   pub reader : Reading R
   pub writer : Writing W
 
-module _ {F L H R W : Type 0} (reads : FileReads F)
-    (writes : FileWrites F)
+module _ {F L H R W : Type 0} (reads : FileReads F) (guards : FileGuards F) (writes : FileWrites F)
     (same : F → List ℕ → List ℕ → Bool → Type 0)
     (step : L → Call → L → Type 0) (acts : H → HostCall L → H → Type 0)
     (remaining : R → Option (List ℕ)) (contents : W → Option (List ℕ))
@@ -208,11 +207,22 @@ module _ {F L H R W : Type 0} (reads : FileReads F)
   DoesTask Replay old new answer =
       PrintsLogs contents asks (IsReplay (remaining old.reader.inner) new.reader.has_failed)
       old.writer new.writer answer × (new.files ≡ old.files) × (new.host ≡ old.host)
-  DoesTask (Serve bay program port turns trace process tells) old new answer =
-      ServesFiles step acts contents asks reads old.files
-      (record { bay = bay; form = form_of program; program = name_of program; trace = trace })
-      (record { port = port; turns = turns; process = process; tells_releases = tells }) old.host
-      new.host old.writer new.writer answer
+  DoesTask (Serve bay program port turns trace process tells limit key) old new answer =
+      ServesFiles step acts contents asks reads guards old.files
+      (record {
+        bay = bay;
+        form = form_of program;
+        program = name_of program;
+        trace = trace;
+        key = key;
+      })
+      (record {
+        port = port;
+        turns = turns;
+        process = process;
+        tells_releases = tells;
+        limit_ms = limit;
+      }) old.host new.host old.writer new.writer answer
       × (new.files ≡ old.files) × (new.reader ≡ old.reader)
 
   -- The words ask for a task, and it is done, with the log if they ask for it.

@@ -157,8 +157,8 @@ fn do_task<F: FileSystem, L: Link + Drop, H: Host<L>, R: OctetSource, W: Sink>(
     reader: &mut WatchedReader<R>,
     writer: &mut WatchedWriter<W>,
 ) -> Result<u8, WriteFault>
-    ensures { DoesTask F.reads F.writes F.same (Called L.does L.failures) H.does R.remaining
-        W.contents W.does (task_view task.entry)
+    ensures { DoesTask F.reads F.guards F.writes F.same (Called L.does L.failures) H.does
+        R.remaining W.contents W.does (task_view task.entry)
         (record { files = files.old; host = host.old; reader = reader.old; writer = writer.old })
         (record { files = files.new; host = host.new; reader = reader.new; writer = writer.new })
         result }
@@ -177,6 +177,8 @@ fn do_task<F: FileSystem, L: Link + Drop, H: Host<L>, R: OctetSource, W: Sink>(
             trace,
             process,
             tells_releases,
+            limit_ms,
+            key,
         } => {
             let (form, program) = form_of(program);
             let named = NamedFiles {
@@ -184,12 +186,14 @@ fn do_task<F: FileSystem, L: Link + Drop, H: Host<L>, R: OctetSource, W: Sink>(
                 form,
                 program,
                 trace,
+                key,
             };
             let numbers = Numbers {
                 port,
                 turns,
                 process,
                 tells_releases,
+                limit_ms,
             };
             serve(alloc, named, files, host, numbers, writer)
         }
@@ -235,8 +239,8 @@ pub fn obey<F: FileSystem, L: Link + Drop, H: Host<L>, R: OctetSource, W: Sink>(
     reader: &mut WatchedReader<R>,
     writer: &mut WatchedWriter<W>,
 ) -> Ended
-    ensures { Obeys F.reads F.writes F.same (Called L.does L.failures) H.does R.remaining W.contents
-        W.does
+    ensures { Obeys F.reads F.guards F.writes F.same (Called L.does L.failures) H.does R.remaining
+        W.contents W.does
         (map (λ w. w.now) words.now)
         (record { files = files.old; host = host.old; reader = reader.old; writer = writer.old })
         (record { files = files.new; host = host.new; reader = reader.new; writer = writer.new })

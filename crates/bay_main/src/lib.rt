@@ -14,7 +14,7 @@ pub mod program;
 // What a command line asks for, and what it is done on.
 pub use bay_files::files;
 pub use bay_replay::replay;
-pub use bay_serving::host;
+pub use bay_serving::{clock, host};
 pub use bay_words::words;
 // What serves a device over any link.
 pub use bay_serve::fault::ServeFault;
