@@ -9,6 +9,7 @@
 // - `memory_link`: clients in memory.
 // - `turns`: turns of a server over them, of which calls fail.
 // - `serve`: a command over links, a host and files in memory, and what it prints, logs and tells.
+// - `supervised`: the same, with a process that is supervised.
 // - `sockets`: a link over sockets, and a client and the server in turn, on 127.0.0.1.
 // - `session`: what a client sends, and what it is answered.
 #![tactic(auto)]
@@ -29,5 +30,7 @@ mod serve;
 mod session;
 #[cfg(test)]
 mod sockets;
+#[cfg(test)]
+mod supervised;
 #[cfg(test)]
 mod turns;

@@ -6,8 +6,9 @@ use bay_io::calls::{LinePart, Sink};
 use bay_io::input::ReadFault;
 use bay_io::reader::WatchedReader;
 use bay_io::writer::WatchedWriter;
+use bay_main::clock::Clocks;
 use bay_main::commands::obey;
-use bay_main::files::{FileFault, FileSystem};
+use bay_main::files::{FileFault, FileSystem, Guarded};
 use bay_main::host::{BindFault, Host};
 use std::alloc::Global;
 use std::cell::RefCell;
@@ -25,7 +26,7 @@ const LOGIC: &str = "PROGRAM P
 END_PROGRAM
 ";
 
-// A trace, and bay files and programs, each under its own name.
+// A trace, bay files, programs and keys, each under its own name.
 #[derive(Drop)]
 struct Texts<'a> {
     trace: &'a str,
@@ -39,12 +40,21 @@ impl FileSystem for Texts<'_> {
             "trace" => self.trace,
             "two" => session::BAY,
             "free" => session::LOGIC,
+            "key" | "others" => "0123456789abcdefABCDEF0123456789\r\n",
             _ => return Err(ReadFault::Failed(ErrorKind::NotFound)),
         };
         match Vec::from_slice(alloc, text.as_bytes()) {
             Ok(octets) => Ok(octets),
             Err(_) => Err(ReadFault::OutOfMemory),
         }
+    }
+
+    // Others than its owner may read the file `others` alone.
+    fn read_guarded(&self, alloc: Global, name: &str) -> Result<Guarded, ReadFault> {
+        Ok(Guarded {
+            octets: self.read(alloc, name)?,
+            is_private: name != "others",
+        })
     }
 
     fn write(
@@ -98,12 +108,15 @@ impl Sink for Recorder<'_> {
 }
 
 // A host with a port for clients and port 9 for a process, each of which can be opened once. Its
-// clock advances by a second each time it is read.
+// clocks advance by a second each time they are read. The system's is ahead by `jump` at the third
+// reading and the two behind it.
 #[derive(Drop)]
 struct Ports<'a> {
     clients: Option<MemoryLink<'a>>,
     process: Option<MemoryLink<'a>>,
     now: u64,
+    readings: u32,
+    jump: u64,
 }
 
 impl<'a> Host<MemoryLink<'a>> for Ports<'a> {
@@ -115,38 +128,49 @@ impl<'a> Host<MemoryLink<'a>> for Ports<'a> {
         }
     }
 
-    fn now(&mut self) -> u64 {
+    fn clocks(&mut self) -> Clocks {
         self.now = self.now.saturating_add(1000);
-        self.now
+        self.readings = self.readings.saturating_add(1);
+        let jump = match self.readings {
+            3..=5 => self.jump,
+            _ => 0,
+        };
+        Clocks {
+            system: self.now.saturating_add(jump),
+            steady: self.now,
+        }
     }
 
     fn pause(&mut self) {}
 }
 
-// What clients and processes do while a command is done, and what comes of it.
+/// What clients and processes do while a command is done, and what comes of it.
 #[derive(Clone, Copy)]
-struct Row {
-    words: &'static str,
+pub struct Row {
+    pub words: &'static str,
     // what the file `trace` has, and what the command reads
-    trace: &'static str,
+    pub trace: &'static str,
     // how many clients come; `None` where their port can't be had
-    clients: Option<usize>,
+    pub clients: Option<usize>,
     // what each of them sends; those that send nothing end
-    asked: &'static [&'static str],
+    pub asked: &'static [&'static str],
     // how many processes come one after the other; their port can't be had if there is none
-    processes: usize,
+    pub processes: usize,
     // what each of them says, of which so many octets are read at a time
-    said: &'static str,
-    per_read: usize,
+    pub said: &'static str,
+    pub per_read: usize,
+    // whether it says nothing more then, in place of its end
+    pub stays: bool,
     // the call of the process's link that fails, or 0
-    fails_at: u64,
-    // the clock's time before it is first read
-    now: u64,
-    status: u8,
+    pub fails_at: u64,
+    // the clocks' time before they are first read, and by how much the system's jumps for a while
+    pub now: u64,
+    pub jump: u64,
+    pub status: u8,
     // what the process is told
-    told: &'static str,
+    pub told: &'static str,
     // what is printed, and behind a sign what is logged
-    wanted: &'static str,
+    pub wanted: &'static str,
 }
 
 // One client, which ends at once.
@@ -158,15 +182,17 @@ const ENDING: Row = Row {
     processes: 0,
     said: "",
     per_read: 1000,
+    stays: false,
     fails_at: 0,
     now: 0,
+    jump: 0,
     status: 3,
     told: "",
     wanted: "",
 };
 
-// No client, and a process.
-const HEARD: Row = Row {
+/// No client, and a process.
+pub const HEARD: Row = Row {
     words: "serve --log --bay bay --logic logic --port 7 --turns 8 --process 9",
     clients: Some(0),
     status: 0,
@@ -189,7 +215,7 @@ const OPEN: &str =
 const CANCEL: &str =
     "0300005f02f0800100010061523050020103a04ba049020105a544a021301fa01da11b1a04424159311a13435357493124434f24506f732443616e63656ca01fa21d8301ffa20785010289024101860200ff9108000000000000002a830100";
 
-const ROWS: [Row; 18] = [
+const ROWS: [Row; 21] = [
     Row {
         trace: "\n9 contact X 1\r\n\n9 contact Q 1\n",
         status: 0,
@@ -234,6 +260,33 @@ fault 120 line 3
 | 4294967295000 clients on 127.0.0.1:7
 | bayctl: fault 114: the clock is past the last moment
 fault 114
+",
+        ..ENDING
+    },
+    Row {
+        words: "serve --log --bay bay --logic logic --port 7 --turns 6",
+        clients: Some(0),
+        jump: 3_600_000,
+        status: 0,
+        wanted: "instructions=2 depth=1 budget=2
+| 1000 clients on 127.0.0.1:7
+| 3010 the system's clock is 3599990 ms ahead
+| 6020 the system's clock agrees again
+| 7010 all turns are served
+",
+        ..ENDING
+    },
+    Row {
+        words: "serve --log --bay bay --logic logic --port 7 --turns 4 --process 9 --supervise 500 --key others",
+        wanted: "fault 121
+| bayctl: fault 121: others: only its owner may read it
+",
+        ..ENDING
+    },
+    Row {
+        words: "serve --log --bay bay --logic logic --port 7 --turns 4 --process 9 --supervise 500 --key bay",
+        wanted: "fault 121
+| bayctl: fault 121: bay: a key has 32 to 64 hexadecimal digits
 ",
         ..ENDING
     },
@@ -386,7 +439,7 @@ fault 120 line 2
 ",
         ..HEARD
     },
-    // Another process comes only once every switch is bad: here one turn after the closing.
+    // Another process comes behind the turn that tells of the loss, one after the closing.
     Row {
         processes: 2,
         said: "0 contact Q 1\n",
@@ -396,10 +449,10 @@ fault 120 line 2
 2000 process open
 | 3000 process closed 0: it ended its connection
 3000 process closed 0
-| 5000 process open
-5000 process open
-| 6000 process closed 0: it ended its connection
-6000 process closed 0
+| 4000 process open
+4000 process open
+| 5000 process closed 0: it ended its connection
+5000 process closed 0
 | 9000 all turns are served
 ",
         ..HEARD
@@ -414,8 +467,8 @@ fault 121
     },
 ];
 
-// Checks that a command comes to what its row says.
-fn check(rt: &impl Abort, alloc: Global, row: &Row) -> Result<(), Fail> {
+/// Checks that a command comes to what its row says.
+pub fn check(rt: &impl Abort, alloc: Global, row: &Row) -> Result<(), Fail> {
     let (text, told) = (RefCell::new(Vec::new(alloc)), RefCell::new(Vec::new(alloc)));
     let words: Vec<&str> = row.words.split(" ").collect(alloc)?;
     let mut clients = MemoryLink::new(
@@ -426,11 +479,14 @@ fn check(rt: &impl Abort, alloc: Global, row: &Row) -> Result<(), Fail> {
     clients.ends = row.asked.is_empty();
     let mut process = MemoryLink::new(row.processes, row.said.as_bytes().to_vec(alloc)?, &told);
     process.per_read = row.per_read;
+    process.ends = !row.stays;
     process.fails_at = row.fails_at;
     let mut host = Ports {
         clients: row.clients.is_some().then_some(clients),
         process: (row.processes > 0).then_some(process),
         now: row.now,
+        readings: 0,
+        jump: row.jump,
     };
     let ended = obey(
         alloc,

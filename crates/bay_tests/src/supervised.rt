@@ -1,0 +1,139 @@
+// A process that is supervised is served in memory.
+use crate::serve::{HEARD, Row, check};
+use std::test::Fail;
+
+// A process that is supervised, and has to say something in 1,500 ms.
+const SUPERVISED: Row = Row {
+    words: "serve --log --bay bay --logic logic --port 7 --turns 4 --process 9 --supervise 1500",
+    processes: 1,
+    told: "2000 process 1500 B 1\n",
+    ..HEARD
+};
+
+const ROWS: [Row; 9] = [
+    // It names this bay, reports a position, and is answered that the server lives.
+    Row {
+        said: "2000 bay - B 1\n3000 contact Q 1\n4000 alive\n",
+        told: "2000 process 1500 B 1\n5000 alive\n",
+        wanted: "instructions=2 depth=1 budget=2
+| 1000 clients on 127.0.0.1:7, process on 127.0.0.1:9
+| 2000 process open
+2000 process open
+| 5000 process closed 0: it ended its connection
+5000 process closed 0
+| 5000 all turns are served
+",
+        ..SUPERVISED
+    },
+    // It names another bay, or another revision, or reports before it names any.
+    Row {
+        said: "2000 bay - C 1\n",
+        wanted: "instructions=2 depth=1 budget=2
+| 1000 clients on 127.0.0.1:7, process on 127.0.0.1:9
+| 2000 process open
+2000 process open
+| 3000 process closed 132: it is not the process of this bay, or has another key
+3000 process closed 132
+| 5000 all turns are served
+",
+        ..SUPERVISED
+    },
+    Row {
+        said: "2000 bay - B 2\n",
+        wanted: "instructions=2 depth=1 budget=2
+| 1000 clients on 127.0.0.1:7, process on 127.0.0.1:9
+| 2000 process open
+2000 process open
+| 3000 process closed 132: it is not the process of this bay, or has another key
+3000 process closed 132
+| 5000 all turns are served
+",
+        ..SUPERVISED
+    },
+    Row {
+        said: "2000 contact Q 1\n",
+        wanted: "instructions=2 depth=1 budget=2
+| 1000 clients on 127.0.0.1:7, process on 127.0.0.1:9
+| 2000 process open
+2000 process open
+| 3000 process closed 132: it is not the process of this bay, or has another key
+3000 process closed 132
+| 5000 all turns are served
+",
+        ..SUPERVISED
+    },
+    // It has another key, and the right one.
+    Row {
+        said: "2000 bay - B 1\n",
+        words: "serve --log --bay bay --logic logic --port 7 --turns 4 --process 9 --supervise 1500 --key key",
+        wanted: "instructions=2 depth=1 budget=2
+| 1000 clients on 127.0.0.1:7, process on 127.0.0.1:9
+| 2000 process open
+2000 process open
+| 3000 process closed 132: it is not the process of this bay, or has another key
+3000 process closed 132
+| 5000 all turns are served
+",
+        ..SUPERVISED
+    },
+    Row {
+        said: "2000 bay 0123456789abcdefABCDEF0123456789 B 1\n",
+        words: "serve --log --bay bay --logic logic --port 7 --turns 4 --process 9 --supervise 1500 --key key",
+        wanted: "instructions=2 depth=1 budget=2
+| 1000 clients on 127.0.0.1:7, process on 127.0.0.1:9
+| 2000 process open
+2000 process open
+| 3000 process closed 0: it ended its connection
+3000 process closed 0
+| 5000 all turns are served
+",
+        ..SUPERVISED
+    },
+    // Its word is too old when a turn takes it, and one that has not come yet.
+    Row {
+        said: "2000 bay - B 1\n2000 contact Q 1\n",
+        wanted: "instructions=2 depth=1 budget=2
+| 1000 clients on 127.0.0.1:7, process on 127.0.0.1:9
+| 2000 process open
+2000 process open
+| 4000 process closed 133: its time is too far from the server's
+4000 process closed 133
+| 5000 all turns are served
+",
+        ..SUPERVISED
+    },
+    Row {
+        said: "2000 bay - B 1\n9000 contact Q 1\n",
+        wanted: "instructions=2 depth=1 budget=2
+| 1000 clients on 127.0.0.1:7, process on 127.0.0.1:9
+| 2000 process open
+2000 process open
+| 3000 process closed 133: its time is too far from the server's
+3000 process closed 133
+| 5000 all turns are served
+",
+        ..SUPERVISED
+    },
+    // It is silent.
+    Row {
+        said: "2000 bay - B 1\n",
+        stays: true,
+        wanted: "instructions=2 depth=1 budget=2
+| 1000 clients on 127.0.0.1:7, process on 127.0.0.1:9
+| 2000 process open
+2000 process open
+| 4000 process closed 134: no line for 1500 ms
+4000 process closed 134
+| 5000 all turns are served
+",
+        ..SUPERVISED
+    },
+];
+
+#[test]
+fn rules_over_memory(rt: HostRuntime) -> Result<(), Fail> {
+    for row in ROWS.iter() {
+        check(&rt, rt.alloc(), row)?;
+    }
+    Ok(())
+}
