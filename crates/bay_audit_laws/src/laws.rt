@@ -27,9 +27,10 @@ pub fn a_release_waits()
     ensures commands { CommandsWait }
 {}
 
-/// While the process is lost, from its loss to the next contact, input, measured value or doubt of
-/// one that is accepted, the position of each switch is bad with an invalid quality and each input
-/// is FALSE: so each scan reads them, in each run of events from load on.
-pub fn a_lost_process_is_not_believed()
+/// A lost process releases only what its loss does: from the loss to the next contact, input,
+/// measured value or doubt of one that is accepted, the position of each switch is bad with an
+/// invalid quality and each input is FALSE: so each scan reads them, in each run of events from load
+/// on.
+pub fn a_lost_process_releases_only_what_lost_does()
     ensures { LostIsBlind }
 {}

@@ -1,5 +1,5 @@
 use Rattle.bay_audit_laws.proofs.BlindLemmas.{lost-is-blind}
-use Rattle.bay_audit_laws.proofs.laws.a_lost_process_is_not_believed.Goals as goal
+use Rattle.bay_audit_laws.proofs.laws.a_lost_process_releases_only_what_lost_does.Goals as goal
 
 pub returns : goal.returns
 returns c = lost-is-blind
