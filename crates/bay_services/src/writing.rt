@@ -353,18 +353,17 @@ impl Invocation<'_> {
     // Does an operate that was written.
     fn write_operate(
         &self,
-        switch: usize,
-        row: Handle,
+        part: SwitchRow,
         given: &Data<'_>,
         controls: &mut Controls,
         written: &mut Written,
     ) -> Result<(), AllocError>
-        requires there { IsHandle self.now.bay.now.tree row }
-        requires switch { switch < length self.now.bay.now.switches }
+        requires there { IsHandle self.now.bay.now.tree part.row }
+        requires switch { part.switch < length self.now.bay.now.switches }
         ensures { OnOk result
             (writing self.now.bay.now controls.new written.new
-            ≡ operate_asked self.now.client (bay_of self.now) switch
-            (name_at self.now.bay.now.tree row)
+            ≡ operate_asked self.now.client (bay_of self.now) part.switch
+            (name_at self.now.bay.now.tree part.row)
             (writing self.now.bay.now controls.old written.old) (operate_in (datum_of given.now))) }
     {
         let operate = match operate_of(given) {
@@ -374,47 +373,14 @@ impl Invocation<'_> {
         let answer = controls.operate(
             &self.bay.control_table,
             self.client.association,
-            switch,
+            part.switch,
             ask_of(&operate),
-            self.bay.view(self.client, switch),
+            self.bay.view(self.client, part.switch),
             self.client.now,
         );
         let to = ControlPart::Operate;
-        let part = SwitchRow { switch, row };
         self.put_decision(part, to, &operate.control, answer, written)?;
-        self.accept(switch, row, &operate, answer, written)
-    }
-
-    // Writes a variable that is there.
-    fn write_row(
-        &self,
-        row: Handle,
-        given: &Data<'_>,
-        controls: &mut Controls,
-        written: &mut Written,
-    ) -> Result<(), AllocError>
-        requires { IsFound self.now.bay.now.tree row }
-        ensures { OnOk result
-            (writing self.now.bay.now controls.new written.new
-            ≡ spec.write_row self.now.client (bay_of self.now) (datum_of given.now)
-            (writing self.now.bay.now controls.old written.old) (Some row)) }
-    {
-        let target = match self.bay.target(row) {
-            Some(target) => target,
-            None => return written.response.failure(DENIED),
-        };
-        let part = SwitchRow {
-            switch: target.switch,
-            row,
-        };
-        match target.part {
-            ControlPart::Select => written.response.failure(DENIED),
-            ControlPart::SelectWith => self.write_select_with(part, given, controls, written),
-            ControlPart::Operate => {
-                self.write_operate(target.switch, row, given, controls, written)
-            }
-            ControlPart::Cancel => self.write_cancel(part, given, controls, written),
-        }
+        self.accept(part.switch, part.row, &operate, answer, written)
     }
 
     // Writes a variable.
@@ -431,9 +397,18 @@ impl Invocation<'_> {
             (datum_of given.now)
             (writing self.now.bay.now controls.old written.old)) }
     {
-        match self.bay.row_named(name) {
-            Some(row) => self.write_row(row, given, controls, written),
-            None => written.response.failure(DataAccessError::ObjectNonExistent),
+        let Some(row) = self.bay.row_named(name) else {
+            return written.response.failure(DataAccessError::ObjectNonExistent);
+        };
+        let Some(Target { switch, part }) = self.bay.target(row) else {
+            return written.response.failure(DENIED);
+        };
+        let place = SwitchRow { switch, row };
+        match part {
+            ControlPart::Select => written.response.failure(DENIED),
+            ControlPart::SelectWith => self.write_select_with(place, given, controls, written),
+            ControlPart::Operate => self.write_operate(place, given, controls, written),
+            ControlPart::Cancel => self.write_cancel(place, given, controls, written),
         }
     }
 
