@@ -16,7 +16,7 @@ use Rattle.bay_port.specs.declared.news.News.{News}
 use Rattle.bay_port.specs.declared.news.News.TheVariants.{Opened, Closed}
 use Rattle.bay_port.specs.declared.news.Parting.{Parting}
 use Rattle.bay_port.specs.declared.port.Presence.TheVariants.{Away, Leaving, Here}
-use Rattle.bay_port.specs.declared.watching.LineWord.{LineWord}
+use Rattle.bay_port.specs.declared.watching.TimedWord.{TimedWord}
 
 -- ---- the parts
 
@@ -63,10 +63,9 @@ quiet-calls now (Some w) p = by-span (nat_le (now - w.heard) w.duties.limit) ref
     by-span true e = rw e refl
     by-span false e = rw e refl
 
-judged-calls : (now : ℕ) (r : Result LineWord Parting) (p : PortData)
-    → (line_judged now r p).calls ≡ []
-judged-calls now (Ok word) p = refl
-judged-calls now (Err why) p = refl
+judged-calls : (r : Result TimedWord Parting) (p : PortData) → (line_judged r p).calls ≡ []
+judged-calls (Ok said) p = refl
+judged-calls (Err why) p = refl
 
 checked-calls : (now : ℕ) (s : State) (p : PortData) → (line_part now s p).calls ≡ []
 checked-calls now s p = by-front (front p.kept)
@@ -74,7 +73,7 @@ checked-calls now s p = by-front (front p.kept)
     by-front : (f : Front) → (line_in_front now s f p).calls ≡ []
     by-front Waiting = quiet-calls now p.watch p
     by-front Overlong = refl
-    by-front (Whole line rest) = judged-calls now (judged p.watch s now line) p
+    by-front (Whole line rest) = judged-calls (judged p.watch s now line) p
 
 module _ {L : Type 0} (step : L → Call → L → Type 0) where
   -- what waits was offered

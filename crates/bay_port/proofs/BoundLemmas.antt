@@ -26,9 +26,10 @@ answered-duties : (watch : Option Watched) → duties_in (answered watch) ≡ du
 answered-duties None = refl
 answered-duties (Some w) = refl
 
-heard-duties : (now : ℕ) (watch : Option Watched) → duties_in (heard_at now watch) ≡ duties_in watch
-heard-duties now None = refl
-heard-duties now (Some w) = refl
+heard-duties : (moment : ℕ) (watch : Option Watched)
+    → duties_in (heard_at moment watch) ≡ duties_in watch
+heard-duties moment None = refl
+heard-duties moment (Some w) = refl
 
 -- where only this was changed
 pub bound-answered : (p q : PortData) → q ≡ record p { watch = answered p.watch } → StaysBound p q
@@ -37,11 +38,11 @@ bound-answered p q is = record {
   duties = ap (λ (d : PortData). duties_in d.watch) is ∙ answered-duties p.watch;
 }
 
-pub bound-heard : (now : ℕ) (p q : PortData) → q ≡ record p { watch = heard_at now p.watch }
-    → StaysBound p q
-bound-heard now p q is = record {
+pub bound-heard : (moment : ℕ) (p q : PortData)
+    → q ≡ record p { watch = heard_at moment p.watch } → StaysBound p q
+bound-heard moment p q is = record {
   told = ap (λ (d : PortData). is_some d.told) is;
-  duties = ap (λ (d : PortData). duties_in d.watch) is ∙ heard-duties now p.watch;
+  duties = ap (λ (d : PortData). duties_in d.watch) is ∙ heard-duties moment p.watch;
 }
 
 pub bound-told : (s : State) (p q : PortData) → q.told ≡ told_after s p.told

@@ -15,7 +15,7 @@ use Rattle.bay_port.specs.declared.news.Parting.{Parting}
 use Rattle.bay_port.specs.declared.news.Parting.TheVariants.{Silent}
 use Rattle.bay_port.specs.declared.port.Presence.{Presence}
 use Rattle.bay_port.specs.declared.port.Presence.TheVariants.{Away, Leaving, Here}
-use Rattle.bay_port.specs.declared.watching.LineWord.{LineWord}
+use Rattle.bay_port.specs.declared.watching.TimedWord.{TimedWord}
 use Rattle.bay_serve.specs.Calls.{Call, Accepts, Reads, Writes, Closes, ReadOutcome, Octets, Silence, Over, Broken}
 use Rattle.bay_serve.specs.Served.{reported, told_by, understood}
 use Rattle.bay_port.proofs.AttendLemmas.{greet-calls}
@@ -24,12 +24,12 @@ use Rattle.bay_port.proofs.FitLemmas.{judged-readable}
 -- ---- lines that are read
 
 by-readable : (watch : Option Watched) (s : State) (now : ℕ) (text rest : List ℕ) (p : PortData)
-    (line : List ℕ) (r : Result LineWord Parting) → judged watch s now text ≡ r
+    (line : List ℕ) (r : Result TimedWord Parting) → judged watch s now text ≡ r
     → (taken_by r text rest p).line ≡ Some line
     → understood (told_by s line) ≡ Ok (reported (taken_by r text rest p).event)
 by-readable watch s now text rest p line (Err why) is e = absurd cc
-by-readable watch s now text rest p line (Ok word) is e =
-    judged-readable watch s now text line word is e
+by-readable watch s now text rest p line (Ok said) is e =
+    judged-readable watch s now text line said is e
 
 front-readable : (s : State) (now : ℕ) (f : Front) (p : PortData) (line : List ℕ)
     → (taken_front s now f p).line ≡ Some line
@@ -318,10 +318,10 @@ tells-quiet now (Some w) p = by-span (nat_le (now - w.heard) w.duties.limit) ref
     by-span true e = rw e (tells-same p p refl)
     by-span false e = rw e (tells-none p (Silent w.duties.limit))
 
-tells-judged : (now : ℕ) (r : Result LineWord Parting) (p : PortData)
-    → Tells p.queue (line_judged now r p)
-tells-judged now (Err why) p = tells-none p why
-tells-judged now (Ok word) p = tells-same p (record p { watch = heard_at now p.watch }) refl
+tells-judged : (r : Result TimedWord Parting) (p : PortData) → Tells p.queue (line_judged r p)
+tells-judged (Err why) p = tells-none p why
+tells-judged (Ok said) p =
+    tells-same p (record p { watch = heard_at said.moment p.watch }) refl
 
 tells-checked : (now : ℕ) (s : State) (p : PortData) → Tells p.queue (line_part now s p)
 tells-checked now s p = by-front (front p.kept)
@@ -329,7 +329,7 @@ tells-checked now s p = by-front (front p.kept)
     by-front : (f : Front) → Tells p.queue (line_in_front now s f p)
     by-front Waiting = tells-quiet now p.watch p
     by-front Overlong = tells-none p (overlong p.watch p.kept)
-    by-front (Whole line rest) = tells-judged now (judged p.watch s now line) p
+    by-front (Whole line rest) = tells-judged (judged p.watch s now line) p
 
 tells-talked : (t : ToldTurn) (s : State) (answers : Option ℕ × ReadOutcome) (p : PortData)
     → Tells (p.queue ++ all_told t s p) (talk_part t s answers p)

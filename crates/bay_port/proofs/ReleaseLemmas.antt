@@ -19,7 +19,7 @@ use Rattle.bay_port.specs.Uses.{IsUpToDate, StaysHere, Use, Takes, Attends, afte
 use Rattle.bay_port.specs.Watching.{Duties, Watched, answered, heard_at, judged, overlong}
 use Rattle.bay_port.specs.declared.news.Parting.{Parting}
 use Rattle.bay_port.specs.declared.news.Parting.TheVariants.{QueueFull, Silent}
-use Rattle.bay_port.specs.declared.watching.LineWord.{LineWord}
+use Rattle.bay_port.specs.declared.watching.TimedWord.{TimedWord}
 use Rattle.bay_port.specs.declared.port.Presence.{Presence}
 use Rattle.bay_port.specs.declared.port.Presence.TheVariants.{Away, Leaving, Here}
 use Rattle.bay_serve.specs.Calls.{Call, ReadOutcome, Octets, Silence, Over, Broken}
@@ -251,10 +251,11 @@ has-quiet now (Some w) p = by-span (nat_le (now - w.heard) w.duties.limit) refl
     by-span true e = rw e (has-port p p.told refl)
     by-span false e = rw e (has-closed (Silent w.duties.limit) p.told)
 
-has-judged : (now : ℕ) (r : Result LineWord Parting) (p : PortData)
-    → HasTold p.told (line_judged now r p).after
-has-judged now (Err why) p = has-closed why p.told
-has-judged now (Ok word) p = has-port (record p { watch = heard_at now p.watch }) p.told refl
+has-judged : (r : Result TimedWord Parting) (p : PortData)
+    → HasTold p.told (line_judged r p).after
+has-judged (Err why) p = has-closed why p.told
+has-judged (Ok said) p =
+    has-port (record p { watch = heard_at said.moment p.watch }) p.told refl
 
 has-checked : (now : ℕ) (s : State) (p : PortData) → HasTold p.told (line_part now s p).after
 has-checked now s p = by-front (front p.kept)
@@ -262,7 +263,7 @@ has-checked now s p = by-front (front p.kept)
     by-front : (f : Front) → HasTold p.told (line_in_front now s f p).after
     by-front Waiting = has-quiet now p.watch p
     by-front Overlong = has-closed (overlong p.watch p.kept) p.told
-    by-front (Whole line rest) = has-judged now (judged p.watch s now line) p
+    by-front (Whole line rest) = has-judged (judged p.watch s now line) p
 
 has-greeted : (now : ℕ) (s : State) (p : PortData) → HasTold p.told (greet_part now s p).after
 has-greeted now s p = by-room (fits_in p.queue (greeting now s p.watch)) refl
@@ -330,9 +331,9 @@ attended-known Here said t s script p h =
     let part = talk_part t s (script.taken, script.heard) p in
     here-known s said p part.after part.calls h (has-talked t s (script.taken, script.heard) p)
 
-by-known : (said : List (ℕ × Release)) (r : Result LineWord Parting) (line rest : List ℕ)
+by-known : (said : List (ℕ × Release)) (r : Result TimedWord Parting) (line rest : List ℕ)
     (p : PortData) → (taken_by r line rest p).port.told ≡ p.told
-by-known said (Ok word) line rest p = refl
+by-known said (Ok timed) line rest p = refl
 by-known said (Err why) line rest p = refl
 
 front-known : (said : List (ℕ × Release)) (s : State) (now : ℕ) (f : Front) (p : PortData)

@@ -14,29 +14,17 @@ use Rattle.bay_port.specs.Ports.{PortData, Taken, bare, taken_as, taken_by, take
 use Rattle.bay_port.specs.Supervision.{AreOf, IsOfThisBay, IsOnTime}
 use Rattle.bay_port.specs.Uses.{StaysHere, Use, Takes, Attends, after_uses, octets_given, port_after}
 use Rattle.bay_port.proofs.UseLemmas.{attends-keep, comes-keep, cut-is, cut_of, judged_cut, moves_of, starts-follow}
+use Rattle.bay_port.proofs.FitLemmas.{timely-event, timely-is, word-event}
 use Rattle.bay_port.proofs.WatchLemmas.{accepted-same, attended-same}
-use Rattle.bay_port.specs.Watching.{Duties, Watched, event_in, introduction, is_timely, judged, known_behind, known_by, report, timely, unheard, word_of}
+use Rattle.bay_port.specs.Watching.{Duties, Watched, event_in, introduction, is_timely, judged, known_as, known_behind, known_by, report, timely, unheard, word_of}
 use Rattle.bay_port.specs.declared.news.Parting.{Parting}
 use Rattle.bay_port.specs.declared.port.Presence.{Presence}
 use Rattle.bay_port.specs.declared.port.Presence.TheVariants.{Away, Leaving, Here}
 use Rattle.bay_port.specs.declared.watching.LineWord.{LineWord}
 use Rattle.bay_port.specs.declared.watching.LineWord.TheVariants.{Blank, Reports, Introduces, Lives}
+use Rattle.bay_port.specs.declared.watching.TimedWord.{TimedWord}
 
 -- ---- no old word
-
-timely-near : (limit now moment : ℕ) (word is : LineWord) → timely limit now moment word ≡ Ok is
-    → is_timely limit now moment ≡ true
-timely-near limit now moment word is e = by-time (is_timely limit now moment) refl
-  where
-    by-time : (v : Bool) → is_timely limit now moment ≡ v → is_timely limit now moment ≡ true
-    by-time true t = t
-    by-time false t = let none : Err _ ≡ Ok is = rw t at e in absurd cc
-
-timely-word : (limit now moment : ℕ) (word is : LineWord) → timely limit now moment word ≡ Ok is
-    → word ≡ is
-timely-word limit now moment word is e =
-    let near = timely-near limit now moment word is e in
-    let same : (let r : Result LineWord Parting = Ok word in r) ≡ Ok is = rw near at e in cc
 
 -- a line that reports what happened
 record ReportsOf (s : State) (now : ℕ) (w : Watched) (line : List ℕ) (event : ProcessEvent)
@@ -47,54 +35,55 @@ record ReportsOf (s : State) (now : ℕ) (w : Watched) (line : List ℕ) (event 
   event_is : timed.event ≡ Some event
   near : is_timely w.duties.limit now timed.moment ≡ true
 
-word-event : (event : Option ProcessEvent) → event_in (word_of event) ≡ event
-word-event None = refl
-word-event (Some event) = refl
-
-report-of : (s : State) (now : ℕ) (w : Watched) (line : List ℕ) (word : LineWord)
+report-of : (s : State) (now : ℕ) (w : Watched) (line : List ℕ) (said : TimedWord)
     (event : ProcessEvent) → w.introduced ≡ true
-    → report line w.duties now (timed_line_of s line) ≡ Ok word → event_in word ≡ Some event
-    → ReportsOf s now w line event
-report-of s now w line word event known e is = by-line (timed_line_of s line) refl e
+    → report line w.duties now (timed_line_of s line) ≡ Ok said
+    → event_in said.word ≡ Some event → ReportsOf s now w line event
+report-of s now w line said event known e is = by-line (timed_line_of s line) refl e
   where
     by-line : (o : Option TimedLine) → timed_line_of s line ≡ o
-        → report line w.duties now o ≡ Ok word → ReportsOf s now w line event
+        → report line w.duties now o ≡ Ok said → ReportsOf s now w line event
     by-line None read r = absurd cc
     by-line (Some timed) read r =
-        let same = timely-word w.duties.limit now timed.moment (word_of timed.event) word r in
+        let word = word_of timed.event in
+        let t = timely-is w.duties.limit now timed.moment word said r in
         record {
           introduced = known;
           timed = timed;
           reads = read;
-          event_is = sym (word-event timed.event) ∙ ap event_in same ∙ is;
-          near = timely-near w.duties.limit now timed.moment (word_of timed.event) word r;
+          event_is =
+              sym (word-event timed.event)
+              ∙ timely-event w.duties.limit now timed.moment word said t ∙ is;
+          near = t.near;
         }
 
-introduction-none : (duties : Duties) (now : ℕ) (o : Option ℕ) (word : LineWord)
-    (event : ProcessEvent) → introduction duties now o ≡ Ok word → event_in word ≡ Some event → ⊥
-introduction-none duties now None word event e is = absurd cc
-introduction-none duties now (Some moment) word event e is =
-    let same = timely-word duties.limit now moment Introduces word e in
-    let none : None ≡ Some event = ap event_in same ∙ is in cc
+introduction-none : (duties : Duties) (now : ℕ) (o : Option ℕ) (said : TimedWord)
+    (event : ProcessEvent) → introduction duties now o ≡ Ok said
+    → event_in said.word ≡ Some event → ⊥
+introduction-none duties now None said event e is = absurd cc
+introduction-none duties now (Some moment) said event e is =
+    let none : None ≡ Some event =
+    timely-event duties.limit now moment Introduces said
+    (timely-is duties.limit now moment Introduces said e) ∙ is in cc
 
-judged-of : (s : State) (now : ℕ) (w : Watched) (line : List ℕ) (word : LineWord)
-    (event : ProcessEvent) → judged (Some w) s now line ≡ Ok word → event_in word ≡ Some event
-    → ReportsOf s now w line event
-judged-of s now w line word event e is = by-known w.introduced refl
+judged-of : (s : State) (now : ℕ) (w : Watched) (line : List ℕ) (said : TimedWord)
+    (event : ProcessEvent) → judged (Some w) s now line ≡ Ok said
+    → event_in said.word ≡ Some event → ReportsOf s now w line event
+judged-of s now w line said event e is = by-known w.introduced refl
   where
     by-known : (v : Bool) → w.introduced ≡ v → ReportsOf s now w line event
-    by-known true known = report-of s now w line word event known (rw known at e) is
+    by-known true known = report-of s now w line said event known (rw known at e) is
     by-known false known =
         absurd (introduction-none w.duties now
-        (introduced_at w.duties.key s.domain s.revision line) word event (rw known at e) is)
+        (introduced_at w.duties.key s.domain s.revision line) said event (rw known at e) is)
 
 by-on-time : (s : State) (now : ℕ) (p : PortData) (w : Watched) (event : ProcessEvent)
-    (line rest : List ℕ) (r : Result LineWord Parting) → front p.kept ≡ Whole line rest
+    (line rest : List ℕ) (r : Result TimedWord Parting) → front p.kept ≡ Whole line rest
     → judged (Some w) s now line ≡ r → (taken_by r line rest p).event ≡ Some event
     → IsOnTime s now p w event
 by-on-time s now p w event line rest (Err why) there is e = absurd cc
-by-on-time s now p w event line rest (Ok word) there is e =
-    let r = judged-of s now w line word event is e in
+by-on-time s now p w event line rest (Ok said) there is e =
+    let r = judged-of s now w line said event is e in
     let both = and_parts (nat_le (now - r.timed.moment) w.duties.limit)
     (nat_le (r.timed.moment - now) w.duties.limit) r.near in
     let old = both.0 in
@@ -156,19 +145,20 @@ record StaysWatched (duties : Duties) (watch : Option Watched) : Type 0 where
   is : watch ≡ Some later
   owes : later.duties ≡ duties
 
-known-duties : (word : LineWord) (w : Watched) → (known_by word w).duties ≡ w.duties
-known-duties Blank w = refl
-known-duties (Reports event) w = refl
-known-duties Introduces w = refl
-known-duties Lives w = refl
+known-duties : (moment : ℕ) (word : LineWord) (w : Watched)
+    → (known_as moment word w).duties ≡ w.duties
+known-duties moment Blank w = refl
+known-duties moment (Reports event) w = refl
+known-duties moment Introduces w = refl
+known-duties moment Lives w = refl
 
-by-watched : (w : Watched) (r : Result LineWord Parting) (line rest : List ℕ) (p : PortData)
+by-watched : (w : Watched) (r : Result TimedWord Parting) (line rest : List ℕ) (p : PortData)
     → p.watch ≡ Some w → StaysWatched w.duties (taken_by r line rest p).port.watch
 by-watched w (Err why) line rest p is = record { later = w; is = is; owes = refl }
-by-watched w (Ok word) line rest p is = record {
-  later = known_by word w;
-  is = ap (known_behind word) is;
-  owes = known-duties word w;
+by-watched w (Ok said) line rest p is = record {
+  later = known_by said w;
+  is = ap (known_behind said) is;
+  owes = known-duties said.moment said.word w;
 }
 
 front-watched : (w : Watched) (s : State) (now : ℕ) (f : Front) (p : PortData)
@@ -197,23 +187,23 @@ uses-watched w (u ∷ us) p here is stays =
     record { later = more.later; is = more.is; owes = more.owes ∙ h.owes }
 
 introduction-starts : (duties : Duties) (s : State) (now : ℕ) (domain revision line : List ℕ)
-    (lines : List (List ℕ)) (word : LineWord) (o : Option ℕ)
+    (lines : List (List ℕ)) (said : TimedWord) (o : Option ℕ)
     → introduced_at duties.key domain revision line ≡ o
-    → introduction duties now o ≡ Ok word → Starts duties.key domain revision (line ∷ lines)
-introduction-starts duties s now domain revision line lines word None read e = absurd cc
-introduction-starts duties s now domain revision line lines word (Some moment) read e =
+    → introduction duties now o ≡ Ok said → Starts duties.key domain revision (line ∷ lines)
+introduction-starts duties s now domain revision line lines said None read e = absurd cc
+introduction-starts duties s now domain revision line lines said (Some moment) read e =
     record { first = line; rest = lines; is = refl; moment = moment; introduces = read }
 
 judged-starts : (w : Watched) (s : State) (now : ℕ) (domain revision line : List ℕ)
-    (lines : List (List ℕ)) (word : LineWord) → w.introduced ≡ false → s.domain ≡ domain
-    → s.revision ≡ revision → judged (Some w) s now line ≡ Ok word
+    (lines : List (List ℕ)) (said : TimedWord) → w.introduced ≡ false → s.domain ≡ domain
+    → s.revision ≡ revision → judged (Some w) s now line ≡ Ok said
     → Starts w.duties.key domain revision (line ∷ lines)
-judged-starts w s now domain revision line lines word new d r e =
+judged-starts w s now domain revision line lines said new d r e =
     let o = introduced_at w.duties.key s.domain s.revision line in
-    let is : introduction w.duties now o ≡ Ok word = rw new at e in
+    let is : introduction w.duties now o ≡ Ok said = rw new at e in
     subst (λ x. Starts w.duties.key domain x (line ∷ lines)) r
     (subst (λ x. Starts w.duties.key x s.revision (line ∷ lines)) d
-    (introduction-starts w.duties s now s.domain s.revision line lines word o refl is))
+    (introduction-starts w.duties s now s.domain s.revision line lines said o refl is))
 
 module _ (w : Watched) (domain revision : List ℕ) (new : w.introduced ≡ false) where
   abbrev UsesBegin : List Use → PortData → List (List ℕ) → Type 0
@@ -221,22 +211,22 @@ module _ (w : Watched) (domain revision : List ℕ) (new : w.introduced ≡ fals
 
   -- a line was taken, and then the other uses
   taken-begin : (s : State) (now : ℕ) (us : List Use) (p : PortData) (line rest : List ℕ)
-      (r : Result LineWord Parting) → p.standing ≡ Here → p.watch ≡ Some w
+      (r : Result TimedWord Parting) → p.standing ≡ Here → p.watch ≡ Some w
       → judged (Some w) s now line ≡ r → s.domain ≡ domain → s.revision ≡ revision
       → StaysHere us (taken_by r line rest p).port
       → (StaysHere us p → UsesBegin us p (cutting_of (moves_of us p) p.kept).lines)
       → (let q = (taken_by r line rest p).port in
       UsesBegin us q (judged_cut r line rest p.kept (moves_of us q)).lines)
   taken-begin s now us p line rest (Err why) here is e d v stays more = more stays
-  taken-begin s now us p line rest (Ok word) here is e d v stays more =
-      let q = (taken_by (Ok word) line rest p).port in
-      let k = uses-watched (known_by word w) us q here (ap (known_behind word) is) stays in
+  taken-begin s now us p line rest (Ok said) here is e d v stays more =
+      let q = (taken_by (Ok said) line rest p).port in
+      let k = uses-watched (known_by said w) us q here (ap (known_behind said) is) stays in
       record {
         later = k.later;
         is = k.is;
-        owes = k.owes ∙ known-duties word w;
+        owes = k.owes ∙ known-duties said.moment said.word w;
         starts = λ i.
-            judged-starts w s now domain revision line (cutting_of (moves_of us q) rest).lines word
+            judged-starts w s now domain revision line (cutting_of (moves_of us q) rest).lines said
             new d v e;
       }
 

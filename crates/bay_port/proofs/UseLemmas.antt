@@ -17,7 +17,7 @@ use Rattle.bay_port.specs.Uses.{LosesNoLine, StaysHere, Use, Takes, Attends, aft
 use Rattle.bay_port.specs.declared.news.Parting.{Parting}
 use Rattle.bay_port.specs.Watching.{Duties, Watched, answered, heard_at, judged, known_behind, overlong}
 use Rattle.bay_port.specs.declared.news.Parting.TheVariants.{Ended, QueueFull, LinkFailed, Silent}
-use Rattle.bay_port.specs.declared.watching.LineWord.{LineWord}
+use Rattle.bay_port.specs.declared.watching.TimedWord.{TimedWord}
 use Rattle.bay_port.proofs.FitLemmas.{judged-line}
 use Rattle.bay_port.specs.declared.port.Presence.TheVariants.{Away, Here}
 
@@ -110,11 +110,11 @@ keeps-quiet now (Some w) p = by-span (nat_le (now - w.heard) w.duties.limit) ref
     by-span true e = rw e (keeps-port p p.kept [] refl refl)
     by-span false e = rw e (keeps-closed (Silent w.duties.limit) p.kept [])
 
-keeps-judged : (now : ℕ) (r : Result LineWord Parting) (p : PortData)
-    → Keeps p.kept (line_judged now r p).after (line_judged now r p).calls
-keeps-judged now (Err why) p = keeps-closed why p.kept []
-keeps-judged now (Ok word) p =
-    keeps-port (record p { watch = heard_at now p.watch }) p.kept [] refl refl
+keeps-judged : (r : Result TimedWord Parting) (p : PortData)
+    → Keeps p.kept (line_judged r p).after (line_judged r p).calls
+keeps-judged (Err why) p = keeps-closed why p.kept []
+keeps-judged (Ok said) p =
+    keeps-port (record p { watch = heard_at said.moment p.watch }) p.kept [] refl refl
 
 keeps-checked : (now : ℕ) (s : State) (p : PortData)
     → Keeps p.kept (line_part now s p).after (line_part now s p).calls
@@ -124,7 +124,7 @@ keeps-checked now s p = by-front (front p.kept)
         → Keeps p.kept (line_in_front now s f p).after (line_in_front now s f p).calls
     by-front Waiting = keeps-quiet now p.watch p
     by-front Overlong = keeps-closed (overlong p.watch p.kept) p.kept []
-    by-front (Whole line rest) = keeps-judged now (judged p.watch s now line) p
+    by-front (Whole line rest) = keeps-judged (judged p.watch s now line) p
 
 keeps-greeted : (now : ℕ) (s : State) (p : PortData)
     → Keeps p.kept (greet_part now s p).after (greet_part now s p).calls
@@ -200,8 +200,8 @@ comes-keep tells duties now s (Some (Some from)) heard here =
 
 -- ---- uses are moves
 
-abbrev pub judged_moves : Result LineWord Parting → List Move → List Move
-judged_moves (Ok word) moves = cuttings.Takes ∷ moves
+abbrev pub judged_moves : Result TimedWord Parting → List Move → List Move
+judged_moves (Ok said) moves = cuttings.Takes ∷ moves
 judged_moves (Err why) moves = moves
 
 abbrev pub move_of : Option Watched → State → ℕ → Front → List Move → List Move
@@ -209,8 +209,8 @@ move_of watch s now Waiting moves = moves
 move_of watch s now Overlong moves = moves
 move_of watch s now (Whole line rest) moves = judged_moves (judged watch s now line) moves
 
-abbrev pub judged_cut : Result LineWord Parting → List ℕ → List ℕ → List ℕ → List Move → Cutting
-judged_cut (Ok word) line rest kept moves = with_line line (cutting_of moves rest)
+abbrev pub judged_cut : Result TimedWord Parting → List ℕ → List ℕ → List ℕ → List Move → Cutting
+judged_cut (Ok said) line rest kept moves = with_line line (cutting_of moves rest)
 judged_cut (Err why) line rest kept moves = cutting_of moves kept
 
 abbrev pub cut_of : Option Watched → State → ℕ → Front → List ℕ → List Move → Cutting
@@ -226,9 +226,9 @@ cut-is watch s now Waiting kept moves is = refl
 cut-is watch s now Overlong kept moves is = refl
 cut-is watch s now (Whole line rest) kept moves is = by-word (judged watch s now line)
   where
-    by-word : (r : Result LineWord Parting)
+    by-word : (r : Result TimedWord Parting)
         → cutting_of (judged_moves r moves) kept ≡ judged_cut r line rest kept moves
-    by-word (Ok word) = ap (λ f. took f kept (cutting_of moves)) is
+    by-word (Ok said) = ap (λ f. took f kept (cutting_of moves)) is
     by-word (Err why) = refl
 
 unfoldable pub moves_of : List Use → PortData → List Move
@@ -268,17 +268,17 @@ record TakeFollows (c : Cutting) (moves : List Move) (us : List Use) (t : Taken)
   all_is : all_of moves ≡ all_given us t.port
 
 takes-judged : (watch : Option Watched) (s : State) (now : ℕ) (line rest : List ℕ)
-    (us : List Use) (p : PortData) (r : Result LineWord Parting) → judged watch s now line ≡ r
+    (us : List Use) (p : PortData) (r : Result TimedWord Parting) → judged watch s now line ≡ r
     → UseFollows us (taken_by r line rest p).port
     → (let moves = moves_of us (taken_by r line rest p).port in
     TakeFollows (judged_cut r line rest p.kept moves) (judged_moves r moves) us
     (taken_by r line rest p))
-takes-judged watch s now line rest us p (Ok word) is h =
-    let q : PortData = record p { kept = rest; watch = known_behind word p.watch } in
+takes-judged watch s now line rest us p (Ok said) is h =
+    let q : PortData = record p { kept = rest; watch = known_behind said p.watch } in
     record {
       keeps = h.keeps;
       had_is =
-          ap (λ o. option_to_list o ++ all_had us q) (judged-line watch s now line word is)
+          ap (λ o. option_to_list o ++ all_had us q) (judged-line watch s now line said is)
           ∙ had-told line (all_had us q) (cutting_of (moves_of us q) rest).lines h.had_is;
       all_is = h.all_is;
     }

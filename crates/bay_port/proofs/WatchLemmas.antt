@@ -1,24 +1,29 @@
 -- Lemmas on what is known of a supervised process while it is there, and for how long it is silent.
-use Rattle.std.proofs.Common.{◌≡◌, ℕ, ◌-◌, ◌≤◌, Bool, true, false, nat_le, drop, if◌then◌else◌, List, [], ◌∷◌, ◌++◌, Option, None, Some, option_map, Result, Ok, Err, refl, sym, ap, ◌∙◌, subst, arith, ◌⊎◌, inl, inr}
+use Rattle.std.proofs.Common.{◌≡◌, ℕ, ◌-◌, ◌≤◌, max, min, Bool, true, false, nat_le, drop, if◌then◌else◌, List, [], ◌∷◌, ◌++◌, Option, None, Some, option_map, Result, Ok, Err, refl, sym, ap, ◌∙◌, subst, arith, ◌⊎◌, inl, inr}
+use Rattle.std.proofs.lemmas.Bool.{and_parts}
 use Rattle.std.proofs.lemmas.Bool.Decides.{nat_tests}
 use Rattle.std.specs.declared.net.socket_addr.SocketAddrV4.{SocketAddrV4}
 use Rattle.bay_device.specs.Device.{State}
 use Rattle.bay_lines.specs.Fronts.{Front, Waiting, Overlong, Whole, front}
 use Rattle.bay_serve.specs.Calls.{Call, ReadOutcome, Octets, Silence, Over, Broken}
 use Rattle.bay_port.specs.Introduction.{introduced_at}
+use Rattle.bay_serve.specs.Supervised.{timed_line_of}
+use Rattle.bay_serve.specs.declared.supervised.TimedLine.{TimedLine}
 use Rattle.bay_port.specs.Attending.{Attended, AttendedPart, Script, accepted_in, all_told, attendance, attended_as, attended_here, behind, closed_or_kept, first_part, greet_part, line_in_front, line_judged, line_part, offer_part, offered_of, on_heard, quiet_part, read_by, taken_or_closed, talk_part, told_to}
 use Rattle.bay_port.specs.Fit.{is_waiting}
 use Rattle.bay_port.specs.Ports.{PortData, Taken, emptied, nothing_of, taken_as, taken_by, taken_front, taken_line}
+use Rattle.bay_port.proofs.FitLemmas.{IsTimely, timely-is}
 use Rattle.bay_port.specs.Releases.{told_after}
 use Rattle.bay_port.specs.Supervision.{IsLive}
 use Rattle.bay_port.specs.Telling.{ToldTurn, fits_in, greeting}
-use Rattle.bay_port.specs.Watching.{Duties, Watched, answered, duties_in, heard_at, introduction, is_timely, judged, known_behind, known_by, overlong, unheard}
+use Rattle.bay_port.specs.Watching.{Duties, Watched, answered, duties_in, heard_at, introduction, is_timely, judged, known_as, known_behind, known_by, overlong, report, unheard, word_of}
 use Rattle.bay_port.specs.declared.news.Parting.{Parting}
 use Rattle.bay_port.specs.declared.news.Parting.TheVariants.{Ended, QueueFull, LinkFailed, Silent, Untimely}
 use Rattle.bay_port.specs.declared.port.Presence.{Presence}
 use Rattle.bay_port.specs.declared.port.Presence.TheVariants.{Away, Leaving, Here}
 use Rattle.bay_port.specs.declared.watching.LineWord.{LineWord}
 use Rattle.bay_port.specs.declared.watching.LineWord.TheVariants.{Blank, Reports, Introduces, Lives}
+use Rattle.bay_port.specs.declared.watching.TimedWord.{TimedWord}
 
 -- ---- what is known of a process while it is there
 
@@ -32,11 +37,11 @@ pub record SameWatch (w : Watched) (watch : Option Watched) : Type 0 where
 same-watch : (w : Watched) (watch : Option Watched) → watch ≡ Some w → SameWatch w watch
 same-watch w watch is = record { later = w; is = is; introduced = refl; duties = refl }
 
-heard-watch : (now : ℕ) (w : Watched) (watch : Option Watched) → SameWatch w watch
-    → SameWatch w (heard_at now watch)
-heard-watch now w watch h = record {
-  later = record h.later { heard = now };
-  is = ap (heard_at now) h.is;
+heard-watch : (moment : ℕ) (w : Watched) (watch : Option Watched) → SameWatch w watch
+    → SameWatch w (heard_at moment watch)
+heard-watch moment w watch h = record {
+  later = record h.later { heard = max h.later.heard moment };
+  is = ap (heard_at moment) h.is;
   introduced = h.introduced;
   duties = h.duties;
 }
@@ -119,12 +124,12 @@ steady-quiet w now (Some v) p h = by-span (nat_le (now - v.heard) v.duties.limit
     by-span true e = rw e (steady-port w p h)
     by-span false e = rw e (steady-closed w (Silent v.duties.limit))
 
-steady-judged : (w : Watched) (now : ℕ) (r : Result LineWord Parting) (p : PortData)
-    → SamePort w p → Steady w (line_judged now r p).after
-steady-judged w now (Err why) p h = steady-closed w why
-steady-judged w now (Ok word) p h =
-    steady-port w (record p { watch = heard_at now p.watch })
-    (record { here = h.here; watch = heard-watch now w p.watch h.watch })
+steady-judged : (w : Watched) (r : Result TimedWord Parting) (p : PortData) → SamePort w p
+    → Steady w (line_judged r p).after
+steady-judged w (Err why) p h = steady-closed w why
+steady-judged w (Ok said) p h =
+    steady-port w (record p { watch = heard_at said.moment p.watch })
+    (record { here = h.here; watch = heard-watch said.moment w p.watch h.watch })
 
 steady-checked : (w : Watched) (now : ℕ) (s : State) (p : PortData) → SamePort w p
     → Steady w (line_part now s p).after
@@ -133,7 +138,7 @@ steady-checked w now s p h = by-front (front p.kept)
     by-front : (f : Front) → Steady w (line_in_front now s f p).after
     by-front Waiting = steady-quiet w now p.watch p h
     by-front Overlong = steady-closed w (overlong p.watch p.kept)
-    by-front (Whole line rest) = steady-judged w now (judged p.watch s now line) p h
+    by-front (Whole line rest) = steady-judged w (judged p.watch s now line) p h
 
 steady-greeted : (w : Watched) (now : ℕ) (s : State) (p : PortData) → SamePort w p
     → Steady w (greet_part now s p).after
@@ -237,24 +242,64 @@ heard-quiet now p (Some v) is = by-span (nat_le (now - v.heard) v.duties.limit) 
         subst (λ (x : Watched). now - x.heard ≤ x.duties.limit) both le)
     by-span false few = rw few (λ q w e watched. absurd cc)
 
-heard-judged : (now : ℕ) (r : Result LineWord Parting) (p : PortData)
-    → Heard now (line_judged now r p).after
-heard-judged now (Err why) p = λ q w e watched. absurd cc
-heard-judged now (Ok word) p = λ q w e watched. by-watch q w e watched p.watch refl
+-- what can be taken was said in time
+said-near : (limit now moment : ℕ) (word : LineWord) (said : TimedWord)
+    → IsTimely limit now moment word said → now - said.moment ≤ limit
+said-near limit now moment word said t =
+    let old = (and_parts (nat_le (now - moment) limit) (nat_le (moment - now) limit) t.near).0 in
+    let le : now - moment ≤ limit = grind (arith, nat_tests) in
+    let few : now - min now moment ≤ limit = omega (arith, le) in
+    subst (λ (x : TimedWord). now - x.moment ≤ limit) t.is few
+
+report-near : (line : List ℕ) (duties : Duties) (now : ℕ) (o : Option TimedLine)
+    (said : TimedWord) → report line duties now o ≡ Ok said → now - said.moment ≤ duties.limit
+report-near line duties now None said e = absurd cc
+report-near line duties now (Some timed) said e =
+    let word = word_of timed.event in
+    said-near duties.limit now timed.moment word said
+    (timely-is duties.limit now timed.moment word said e)
+
+introduction-near : (duties : Duties) (now : ℕ) (o : Option ℕ) (said : TimedWord)
+    → introduction duties now o ≡ Ok said → now - said.moment ≤ duties.limit
+introduction-near duties now None said e = absurd cc
+introduction-near duties now (Some moment) said e =
+    said-near duties.limit now moment Introduces said
+    (timely-is duties.limit now moment Introduces said e)
+
+judged-near : (s : State) (now : ℕ) (w : Watched) (line : List ℕ) (said : TimedWord)
+    → judged (Some w) s now line ≡ Ok said → now - said.moment ≤ w.duties.limit
+judged-near s now w line said e = by-known w.introduced refl
   where
+    by-known : (v : Bool) → w.introduced ≡ v → now - said.moment ≤ w.duties.limit
+    by-known true known = report-near line w.duties now (timed_line_of s line) said (rw known at e)
+    by-known false known =
+        introduction-near w.duties now (introduced_at w.duties.key s.domain s.revision line) said
+        (rw known at e)
+
+heard-judged : (s : State) (now : ℕ) (line : List ℕ) (r : Result TimedWord Parting) (p : PortData)
+    → judged p.watch s now line ≡ r → Heard now (line_judged r p).after
+heard-judged s now line (Err why) p judges = λ q w e watched. absurd cc
+heard-judged s now line (Ok said) p judges = λ q w e watched.
+    by-watch q w e watched p.watch refl
+  where
+    moment : ℕ
+    moment = said.moment
+
     by-watch : (q : PortData) (w : Watched)
-        → (let r : Result PortData Parting = Ok (record p { watch = heard_at now p.watch }) in r)
+        → (let r : Result PortData Parting = Ok (record p { watch = heard_at moment p.watch }) in r)
         ≡ Ok q → q.watch ≡ Some w → (o : Option Watched) → p.watch ≡ o
         → now - w.heard ≤ w.duties.limit
     by-watch q w e watched None is =
-        let same : record p { watch = heard_at now p.watch } ≡ q = cc in
+        let same : record p { watch = heard_at moment p.watch } ≡ q = cc in
         let none : None ≡ Some w =
-        sym (ap (heard_at now) is) ∙ ap (λ (d : PortData). d.watch) same ∙ watched in absurd cc
+        sym (ap (heard_at moment) is) ∙ ap (λ (d : PortData). d.watch) same ∙ watched in absurd cc
     by-watch q w e watched (Some v) is =
-        let same : record p { watch = heard_at now p.watch } ≡ q = cc in
-        let one : Some (record v { heard = now }) ≡ Some w =
-        sym (ap (heard_at now) is) ∙ ap (λ (d : PortData). d.watch) same ∙ watched in
-        let both : record v { heard = now } ≡ w = cc in
+        let same : record p { watch = heard_at moment p.watch } ≡ q = cc in
+        let one : Some (record v { heard = max v.heard moment }) ≡ Some w =
+        sym (ap (heard_at moment) is) ∙ ap (λ (d : PortData). d.watch) same ∙ watched in
+        let both : record v { heard = max v.heard moment } ≡ w = cc in
+        let near : now - said.moment ≤ v.duties.limit =
+        judged-near s now v line said (ap (λ o. judged o s now line) (sym is) ∙ judges) in
         subst (λ (x : Watched). now - x.heard ≤ x.duties.limit) both (omega arith)
 
 heard-checked : (now : ℕ) (s : State) (p : PortData) → Heard now (line_part now s p).after
@@ -263,7 +308,7 @@ heard-checked now s p = by-front (front p.kept)
     by-front : (f : Front) → Heard now (line_in_front now s f p).after
     by-front Waiting = heard-quiet now p p.watch refl
     by-front Overlong = λ q w e watched. absurd cc
-    by-front (Whole line rest) = heard-judged now (judged p.watch s now line) p
+    by-front (Whole line rest) = heard-judged s now line (judged p.watch s now line) p refl
 
 heard-behind : (now : ℕ) (s : State) (r : Result PortData Parting) (calls : List Call)
     → (let b : AttendedPart = behind (record { after = r; calls = calls }) (line_part now s) in
@@ -356,44 +401,39 @@ took-nothing s now p w here watched = record {
     by-known true e = inl e
     by-known false e = inr (e, refl)
 
-stays-known : (word : LineWord) (w : Watched) → w.introduced ≡ true
-    → (known_by word w).introduced ≡ true
-stays-known Blank w known = known
-stays-known (Reports event) w known = known
-stays-known Introduces w known = refl
-stays-known Lives w known = known
+stays-known : (moment : ℕ) (word : LineWord) (w : Watched) → w.introduced ≡ true
+    → (known_as moment word w).introduced ≡ true
+stays-known moment Blank w known = known
+stays-known moment (Reports event) w known = known
+stays-known moment Introduces w known = refl
+stays-known moment Lives w known = known
 
-introduces : (limit now moment : ℕ) (word : LineWord) (v : Bool)
-    → (let r : Result LineWord Parting = if v then Ok Introduces else Err Untimely in r) ≡ Ok word
-    → word ≡ Introduces
-introduces limit now moment word true e = cc
-introduces limit now moment word false e = absurd cc
+known-first : (w : Watched) (now : ℕ) (o : Option ℕ) (said : TimedWord)
+    → introduction w.duties now o ≡ Ok said → (known_by said w).introduced ≡ true
+known-first w now None said e = absurd cc
+known-first w now (Some moment) said e =
+    sym (ap (λ (x : TimedWord). (known_by x w).introduced)
+    (timely-is w.duties.limit now moment Introduces said e).is)
 
-known-first : (w : Watched) (now : ℕ) (o : Option ℕ) (word : LineWord)
-    → introduction w.duties now o ≡ Ok word → (known_by word w).introduced ≡ true
-known-first w now None word e = absurd cc
-known-first w now (Some moment) word e =
-    rw (introduces w.duties.limit now moment word (is_timely w.duties.limit now moment) e) refl
-
-known-later : (s : State) (now : ℕ) (w : Watched) (line : List ℕ) (word : LineWord)
-    → judged (Some w) s now line ≡ Ok word → (known_by word w).introduced ≡ true
-known-later s now w line word e = by-known w.introduced refl
+known-later : (s : State) (now : ℕ) (w : Watched) (line : List ℕ) (said : TimedWord)
+    → judged (Some w) s now line ≡ Ok said → (known_by said w).introduced ≡ true
+known-later s now w line said e = by-known w.introduced refl
   where
-    by-known : (v : Bool) → w.introduced ≡ v → (known_by word w).introduced ≡ true
-    by-known true known = stays-known word w known
+    by-known : (v : Bool) → w.introduced ≡ v → (known_by said w).introduced ≡ true
+    by-known true known = stays-known said.moment said.word w known
     by-known false known =
-        known-first w now (introduced_at w.duties.key s.domain s.revision line) word (rw known at e)
+        known-first w now (introduced_at w.duties.key s.domain s.revision line) said (rw known at e)
 
 took-by : (s : State) (now : ℕ) (p : PortData) (w : Watched) (line rest : List ℕ)
-    (r : Result LineWord Parting) → p.standing ≡ Here → p.watch ≡ Some w
+    (r : Result TimedWord Parting) → p.standing ≡ Here → p.watch ≡ Some w
     → judged (Some w) s now line ≡ r → Took s now p w (taken_by r line rest p)
 took-by s now p w line rest (Err why) here watched e = took-nothing s now p w here watched
-took-by s now p w line rest (Ok word) here watched e = record {
+took-by s now p w line rest (Ok said) here watched e = record {
   not_lost = refl;
   here = here;
-  later = known_by word w;
-  watched = ap (known_behind word) watched;
-  known = inl (known-later s now w line word e);
+  later = known_by said w;
+  watched = ap (known_behind said) watched;
+  known = inl (known-later s now w line said e);
 }
 
 took-front : (s : State) (now : ℕ) (p : PortData) (w : Watched) (f : Front) → p.standing ≡ Here
@@ -426,18 +466,18 @@ pub took-owes : (s : State) (now : ℕ) (p : PortData)
     → duties_in (taken_line s now p).port.watch ≡ duties_in p.watch
 took-owes s now p = by-standing p.standing
   where
-    by-word : (word : LineWord) (watch : Option Watched)
-        → duties_in (known_behind word watch) ≡ duties_in watch
-    by-word word None = refl
-    by-word Blank (Some w) = refl
-    by-word (Reports event) (Some w) = refl
-    by-word Introduces (Some w) = refl
-    by-word Lives (Some w) = refl
+    by-word : (moment : ℕ) (word : LineWord) (watch : Option Watched)
+        → duties_in (option_map (known_as moment word) watch) ≡ duties_in watch
+    by-word moment word None = refl
+    by-word moment Blank (Some w) = refl
+    by-word moment (Reports event) (Some w) = refl
+    by-word moment Introduces (Some w) = refl
+    by-word moment Lives (Some w) = refl
 
-    by-judged : (r : Result LineWord Parting) (line rest : List ℕ)
+    by-judged : (r : Result TimedWord Parting) (line rest : List ℕ)
         → duties_in (taken_by r line rest p).port.watch ≡ duties_in p.watch
     by-judged (Err why) line rest = refl
-    by-judged (Ok word) line rest = by-word word p.watch
+    by-judged (Ok said) line rest = by-word said.moment said.word p.watch
 
     by-front : (f : Front) → duties_in (taken_front s now f p).port.watch ≡ duties_in p.watch
     by-front Waiting = refl

@@ -15,7 +15,7 @@ use Rattle.bay_port.specs.declared.news.Parting.{Parting}
 use Rattle.bay_port.specs.declared.news.Parting.TheVariants.{Ended, QueueFull, LinkFailed, Silent}
 use Rattle.bay_port.specs.declared.port.Presence.{Presence}
 use Rattle.bay_port.specs.declared.port.Presence.TheVariants.{Away, Leaving, Here}
-use Rattle.bay_port.specs.declared.watching.LineWord.{LineWord}
+use Rattle.bay_port.specs.declared.watching.TimedWord.{TimedWord}
 use Rattle.bay_serve.specs.Calls.{Call, Accepts, Reads, Writes, Closes, ReadOutcome, Octets, Silence, Over, Broken, Talks}
 
 -- what the link answered: whether a connection was accepted, how many octets of a write were taken,
@@ -89,15 +89,15 @@ quiet_part now None p = going p []
 quiet_part now (Some w) p =
     if nat_le (now - w.heard) w.duties.limit then going p [] else parting (Silent w.duties.limit) []
 
--- a line that can be taken tells that it lives; another ends the connection
-abbrev pub line_judged : ℕ → Result LineWord Parting → PortData → AttendedPart
-line_judged now (Err why) p = parting why []
-line_judged now (Ok word) p = going (record p { watch = heard_at now p.watch }) []
+-- a line that can be taken tells that it lived when it said so; another ends the connection
+abbrev pub line_judged : Result TimedWord Parting → PortData → AttendedPart
+line_judged (Err why) p = parting why []
+line_judged (Ok said) p = going (record p { watch = heard_at said.moment p.watch }) []
 
 abbrev pub line_in_front : ℕ → State → Front → PortData → AttendedPart
 line_in_front now s Waiting p = quiet_part now p.watch p
 line_in_front now s Overlong p = parting (overlong p.watch p.kept) []
-line_in_front now s (Whole line rest) p = line_judged now (judged p.watch s now line) p
+line_in_front now s (Whole line rest) p = line_judged (judged p.watch s now line) p
 
 -- what stands in front is looked at
 abbrev pub line_part : ℕ → State → PortData → AttendedPart
@@ -105,7 +105,8 @@ line_part now s p = line_in_front now s (front p.kept) p
 
 -- ---- one after the other
 
-abbrev pub part_then : Result PortData Parting → List Call → (PortData → AttendedPart) → AttendedPart
+abbrev pub part_then : Result PortData Parting → List Call → (PortData → AttendedPart)
+    → AttendedPart
 part_then (Err why) calls next = parting why calls
 part_then (Ok p) calls next =
     record { after = (next p).after; calls = calls ++ (next p).calls }
@@ -200,7 +201,8 @@ Leads (Err why) after (Err told) = told ≡ why
 
 module _ {L : Type 0} (step : L → Call → L → Type 0) where
   -- a part was done: with some answers of the link, the calls and the port behind it are the part's
-  pub record Does {C : Type 0} (f : C → PortData → AttendedPart) (old new : L) (before after : PortData)
+  pub record Does {C : Type 0} (f : C → PortData → AttendedPart) (old new : L)
+      (before after : PortData)
       (answer : Result (Unit {0}) Parting) : Type 0 where
     pub answers : C
     pub talks : Talks step old (f answers before).calls new

@@ -1,6 +1,5 @@
 -- Lines of a process, by what they tell alone.
-use Rattle.std.specs.Prelude.{◌≡◌, Bool, true, false, List, length, Option, None, Some, is_some, if◌then◌else◌}
-use Rattle.std.specs.Prelude.{ℕ}
+use Rattle.std.specs.Prelude.{◌≡◌, ℕ, Bool, true, false, List, length, Option, None, Some, is_some, if◌then◌else◌}
 use Rattle.bay_lines.specs.Fronts.{Front, Waiting, Overlong, Whole, LiesIn, front, front_view}
 use Rattle.bay_lines.specs.declared.front.Found.{Found}
 use Rattle.bay_serve.specs.Served.{line_of}

@@ -52,8 +52,8 @@ taken_of (Writes a octets None ∷ calls) = taken_of calls
 taken_of (Writes a octets (Some n) ∷ calls) = take n octets ++ taken_of calls
 taken_of (Closes a ∷ calls) = taken_of calls
 
--- Of a process that is there the link takes what waited, then what is told of the turn, in order; what it does not take still waits, or is lost where the
--- connection is closed.
+-- Of a process that is there the link takes what waited, then what is told of the turn, in order;
+-- what it does not take still waits, or is lost where the connection is closed.
 pub record TellsInOrder (t : ToldTurn) (s : State) (script : Script) (p : PortData)
     : Type 0 where
   pub rest : List ℕ

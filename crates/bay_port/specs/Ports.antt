@@ -8,7 +8,7 @@ use Rattle.bay_port.specs.Watching.{Duties, Watched, duties_in, event_in, judged
 use Rattle.bay_port.specs.declared.news.Parting.{Parting}
 use Rattle.bay_port.specs.declared.port.Presence.{Presence}
 use Rattle.bay_port.specs.declared.port.Presence.TheVariants.{Away, Leaving, Here}
-use Rattle.bay_port.specs.declared.watching.LineWord.{LineWord}
+use Rattle.bay_port.specs.declared.watching.TimedWord.{TimedWord}
 use Rattle.bay_serve.specs.declared.process.ProcessEvent.{ProcessEvent}
 
 -- how the process stands, what it has sent that no turn has taken, what is still to be told to it,
@@ -59,13 +59,13 @@ abbrev pub nothing_of : PortData → Taken
 nothing_of p = record { is_lost = false; event = None; line = None; port = p }
 
 -- a line is taken, unless it ends the connection
-abbrev pub taken_by : Result LineWord Parting → List ℕ → List ℕ → PortData → Taken
+abbrev pub taken_by : Result TimedWord Parting → List ℕ → List ℕ → PortData → Taken
 taken_by (Err why) line rest p = nothing_of p
-taken_by (Ok word) line rest p = record {
+taken_by (Ok said) line rest p = record {
   is_lost = false;
-  event = event_in word;
-  line = line_in word line;
-  port = record p { kept = rest; watch = known_behind word p.watch };
+  event = event_in said.word;
+  line = line_in said.word line;
+  port = record p { kept = rest; watch = known_behind said p.watch };
 }
 
 -- the line in front
@@ -83,7 +83,8 @@ taken_as Away s now p = nothing_of p
 taken_as Leaving s now p = lost_of p
 taken_as Here s now p = taken_front s now (front p.kept) p
 
--- what the port gives a turn that has a line of a trace: that the process is lost, where it has gone
+-- what the port gives a turn that has a line of a trace: that the process is lost, where it has
+-- gone
 abbrev pub loss_as : Presence → PortData → Taken
 loss_as Away p = nothing_of p
 loss_as Leaving p = lost_of p

@@ -54,8 +54,8 @@ pub record IsOfThisBay (tells : Bool) (duties : Duties) (domain revision : List 
 
 -- ---- silence
 
--- A process that is still there behind a turn was heard at most so long before it: then it was
--- accepted, or a whole line of it stood in front that could be taken.
+-- A process that is still there behind a turn was heard at most so long before it: by the moment of
+-- its last word, or before it has said whose it is, of its acceptance.
 abbrev pub IsHeard : ToldTurn → State → Script → PortData → Type 0
 IsHeard t s script p = (w : Watched) → p.standing ≡ Here
     → (attendance t s script p).port.standing ≡ Here

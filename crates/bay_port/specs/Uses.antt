@@ -14,8 +14,8 @@ use Rattle.bay_port.specs.Watching.{Duties}
 use Rattle.bay_port.specs.declared.port.Presence.{Presence}
 use Rattle.bay_port.specs.declared.port.Presence.TheVariants.{Away, Leaving, Here}
 
--- The port is used: a turn takes its line at a moment, or its connection is attended to behind a turn
--- that told this.
+-- The port is used: a turn takes its line at a moment, or its connection is attended to behind a
+-- turn that told this.
 pub data Use : Type 0 where
   Takes : State → ℕ → Use
   Attends : ToldTurn → State → Script → Use

@@ -64,17 +64,17 @@ fn accept<L: Link>(port: &mut Port, link: &mut L, device: &Device, moment: u64) 
     }
 }
 
-/// Attends to the connection of the process after a turn at a moment, given the device after it, and
-/// returns what happened to the connection.
+/// Attends to the connection of the process after a turn at a moment, given the device after it,
+/// and returns what happened to the connection.
 ///
-/// A waiting connection is accepted, greeted if it is supervised, and read; one that has gone itself,
-/// and left no whole line, is closed again and not reported. A connected process is told the turn's
-/// refusal and commands, each line as it is printed, and the releases that have changed, if it is
-/// told of them; what is waiting is offered once; and it is read once if no whole line is kept. A
-/// supervised one is told first that an operate is over, and last that the server lives, if it said
-/// so itself. The connection is closed at its end, for a line that can't be taken, for a full queue,
-/// if a read or a write fails, and if a supervised process is silent. After that, none is accepted
-/// before a turn is told that the process is lost.
+/// A waiting connection is accepted, greeted if it is supervised, and read; one that has gone
+/// itself, and left no whole line, is closed again and not reported. A connected process is told
+/// the turn's refusal and commands, each line as it is printed, and the releases that have changed,
+/// if it is told of them; what is waiting is offered once; and it is read once if no whole line is
+/// kept. A supervised one is told first that an operate is over, and last that the server lives, if
+/// it said so itself. The connection is closed at its end, for a line that can't be taken, for a
+/// full queue, if a read or a write fails, and if a supervised process is silent. After that, none
+/// is accepted before a turn is told that the process is lost.
 pub fn attend<L: Link>(
     port: &mut Port,
     link: &mut L,

@@ -69,7 +69,8 @@ pub fn a_supervised_process_is_of_this_bay()
 {}
 
 /// A silent process does not stay: one that is still there behind a turn was heard at most the
-/// milliseconds ago for which it may be silent.
+/// milliseconds ago for which it may be silent: by the moment of its last word, or before it has said
+/// whose it is, of its acceptance.
 pub fn a_silent_process_is_closed()
     ensures { (t : ToldTurn) (s : State) (script : Script) (p : PortData)
         → IsHeard t s script p }

@@ -86,8 +86,8 @@ impl GivenEvent {
 }
 
 /// The port of a process: its state, what it has sent that no turn has taken, what is still to be
-/// sent to it, which releases it was told last, and what is known of it if it is supervised. The end
-/// of a line is looked for once.
+/// sent to it, which releases it was told last, and what is known of it if it is supervised. The
+/// end of a line is looked for once.
 #[derive(Drop)]
 pub struct Port {
     standing: Presence,
@@ -133,8 +133,8 @@ fn watch_for(duties: Option<Duties>) -> Option<Watched>
 
 impl Port {
     /// Creates a port to which a process may come, which is told of releases if `tells_releases` is
-    /// true, and is supervised if it owes anything. Allocates the room for what is kept and what is to
-    /// be sent.
+    /// true, and is supervised if it owes anything. Allocates the room for what is kept and what is
+    /// to be sent.
     pub fn new(
         alloc: Global,
         tells_releases: bool,
@@ -167,8 +167,8 @@ impl Port {
         (self.kept.as_slice().len(), self.queue.as_slice().len())
     }
 
-    /// Sets the state of the process. Drops everything that is kept or waiting to be sent, and forgets
-    /// which releases were told and what is known of the process.
+    /// Sets the state of the process. Drops everything that is kept or waiting to be sent, and
+    /// forgets which releases were told and what is known of the process.
     pub(crate) fn stand(&mut self, standing: Presence)
         ensures { self.new ≡ emptied standing self.old }
     {
@@ -198,14 +198,14 @@ impl Port {
             Found::Overlong => GivenEvent::none(false),
             Found::Whole { line, end } => {
                 let text = &self.kept.as_slice()[..line];
-                let Ok(word) = judge(&self.watch, device, now, text) else {
+                let Ok(said) = judge(&self.watch, device, now, text) else {
                     return GivenEvent::none(false);
                 };
-                let given = GivenEvent::of(word, text);
+                let given = GivenEvent::of(said.word, text);
                 self.kept.drop_front(end);
                 self.found = line_in_front(self.kept.as_slice());
                 if let Some(watch) = &mut self.watch {
-                    watch.know(word);
+                    watch.know(said);
                 }
                 given
             }
@@ -229,8 +229,8 @@ impl Port {
         }
     }
 
-    /// Takes only that the process is lost, for a turn that has a line of a trace. Returns whether it
-    /// is.
+    /// Takes only that the process is lost, for a turn that has a line of a trace. Returns whether
+    /// it is.
     pub fn take_loss(&mut self) -> bool
         ensures lost { result ≡ (taken_loss self.old).is_lost }
         ensures port { self.new ≡ (taken_loss self.old).port }
@@ -290,7 +290,7 @@ impl Port {
         }
     }
 
-    // The process was heard at a moment.
+    // The process was heard at a moment, if not later.
     fn hear(&mut self, moment: u64)
         ensures after { self.new ≡ record self.old { watch = heard_at moment self.old.watch } }
         ensures bound { StaysBound self.old self.new }
@@ -340,8 +340,8 @@ impl Port {
         }
     }
 
-    /// Greets and reads a process that was accepted. Reads it twice, since one that has gone while it
-    /// waited has left its last octets and then its end.
+    /// Greets and reads a process that was accepted. Reads it twice, since one that has gone while
+    /// it waited has left its last octets and then its end.
     pub(crate) fn begin<L: Link>(
         &mut self,
         link: &mut L,
@@ -369,7 +369,7 @@ impl Port {
         }
     }
 
-    /// Checks the first line, if there is one, and otherwise the time since the last. Why the
+    /// Checks the first line, if there is one, and otherwise the time since the last word. Why the
     /// connection ends is told.
     pub(crate) fn check(&mut self, device: &Device, moment: u64) -> Result<(), Parting>
         ensures leads { Leads (line_part moment device.now self.old).after self.new result }
@@ -379,8 +379,8 @@ impl Port {
             Found::Waiting => self.check_silence(moment),
             Found::Overlong => Err(overlong(&self.watch, self.kept.as_slice())),
             Found::Whole { line, .. } => {
-                judge(&self.watch, device, moment, &self.kept.as_slice()[..line])?;
-                self.hear(moment);
+                let said = judge(&self.watch, device, moment, &self.kept.as_slice()[..line])?;
+                self.hear(said.moment);
                 Ok(())
             }
         }

@@ -161,7 +161,8 @@ pub fn put_alive(queue: &mut Queue, moment: u64, lives: bool) -> bool
     put_parts(queue, &[moments.format(moment).as_bytes(), b" alive\n"])
 }
 
-/// Appends how a process is greeted, if it is supervised. Returns false if there is not room for it.
+/// Appends how a process is greeted, if it is supervised. Returns false if there is not room for
+/// it.
 pub fn put_greeting(
     queue: &mut Queue,
     device: &Device,

@@ -1,5 +1,5 @@
 // What a supervised process owes, what is known of it, and what a line of a process comes to.
-ghost use Rattle.std.specs.Prelude.{◌≡◌, ◌≤◌, ◌-◌, false, Some, length, nat_le, option_map};
+ghost use Rattle.std.specs.Prelude.{◌≡◌, ◌≤◌, ◌-◌, false, Some, length, max, nat_le, option_map};
 ghost use Rattle.bay_port.specs.Watching.{answered, duties_in, heard_at, introduction, is_timely, judged, plain, report, timely, unheard, word_of};
 ghost use Rattle.bay_port.specs.Watching as spec;
 ghost use Rattle.bay_serve.specs.Served.{told_by};
@@ -57,18 +57,21 @@ impl Duties {
     }
 
     // Returns what a line with a moment comes to.
-    fn timely(&self, now: u64, moment: u64, word: LineWord) -> Result<LineWord, Parting>
+    fn timely(&self, now: u64, moment: u64, word: LineWord) -> Result<TimedWord, Parting>
         ensures { result ≡ timely self.now.limit now moment word }
     {
         if self.is_timely(now, moment) {
-            Ok(word)
+            Ok(TimedWord {
+                moment: now.min(moment),
+                word,
+            })
         } else {
             Err(Parting::Untimely)
         }
     }
 
     // Returns what the first line comes to.
-    fn introduction(&self, device: &Device, now: u64, line: &[u8]) -> Result<LineWord, Parting>
+    fn introduction(&self, device: &Device, now: u64, line: &[u8]) -> Result<TimedWord, Parting>
         ensures { result ≡ introduction self.now now
             (introduced_at self.now.key device.now.domain device.now.revision line.now) }
     {
@@ -84,7 +87,7 @@ impl Duties {
     }
 
     // Returns what a later line comes to.
-    fn report(&self, device: &Device, now: u64, line: &[u8]) -> Result<LineWord, Parting>
+    fn report(&self, device: &Device, now: u64, line: &[u8]) -> Result<TimedWord, Parting>
         ensures { result ≡ report line.now self.now now (timed_line_of device.now line.now) }
     {
         match read_timed_line(device, line) {
@@ -127,6 +130,15 @@ impl LineWord {
             LineWord::Blank | LineWord::Introduces | LineWord::Lives => None,
         }
     }
+}
+
+/// What a line of a process comes to, and the moment from which that counts, in milliseconds since
+/// 1970: what the line says, if that is not later than its turn; that of its turn, if it is later or
+/// the process is not supervised.
+#[derive(Clone, Copy)]
+pub struct TimedWord {
+    pub moment: u64,
+    pub word: LineWord,
 }
 
 /// A supervised process.
@@ -173,19 +185,22 @@ impl Watched {
         self.lives = false;
     }
 
-    /// It was heard at a moment.
-    pub(crate) fn hear(&mut self, now: u64)
-        ensures { self.new ≡ record self.old { heard = now } }
+    /// It was heard at a moment, if not later.
+    pub(crate) fn hear(&mut self, moment: u64)
+        ensures { self.new ≡ record self.old { heard = max self.old.heard moment } }
     {
-        self.heard = now;
+        self.heard = self.heard.max(moment);
     }
 
     /// A line was taken.
-    pub(crate) fn know(&mut self, word: LineWord)
-        ensures { self.new ≡ spec.known_by word self.old }
+    pub(crate) fn know(&mut self, said: TimedWord)
+        ensures { self.new ≡ spec.known_by said self.old }
     {
-        match word {
-            LineWord::Introduces => self.introduced = true,
+        match said.word {
+            LineWord::Introduces => {
+                self.introduced = true;
+                self.heard = said.moment;
+            }
             LineWord::Lives => self.lives = true,
             LineWord::Blank | LineWord::Reports(_) => {}
         }
@@ -216,7 +231,7 @@ impl Watched {
     }
 
     // Returns what a line comes to.
-    fn judge(&self, device: &Device, now: u64, line: &[u8]) -> Result<LineWord, Parting>
+    fn judge(&self, device: &Device, now: u64, line: &[u8]) -> Result<TimedWord, Parting>
         ensures { result ≡ judged (Some self.now) device.now now line.now }
     {
         if self.introduced {
@@ -228,28 +243,29 @@ impl Watched {
 }
 
 // Returns what a line of a process that is not supervised comes to.
-fn judge_plain(device: &Device, line: &[u8]) -> Result<LineWord, Parting>
-    ensures { result ≡ plain line.now (told_by device.now line.now) }
+fn judge_plain(device: &Device, now: u64, line: &[u8]) -> Result<TimedWord, Parting>
+    ensures { result ≡ plain now line.now (told_by device.now line.now) }
 {
-    match read_process_event(device, line) {
-        _ if line.is_empty() => Ok(LineWord::Blank),
-        Some(event) => Ok(LineWord::Reports(event)),
-        None => Err(Parting::BadLine(Shown::new(line))),
-    }
+    let word = match read_process_event(device, line) {
+        _ if line.is_empty() => LineWord::Blank,
+        Some(event) => LineWord::Reports(event),
+        None => return Err(Parting::BadLine(Shown::new(line))),
+    };
+    Ok(TimedWord { moment: now, word })
 }
 
-/// Returns what a line comes to at a moment, or why the connection ends.
+/// Returns what a line comes to at a moment, and when that was so, or why the connection ends.
 pub(crate) fn judge(
     watch: &Option<Watched>,
     device: &Device,
     now: u64,
     line: &[u8],
-) -> Result<LineWord, Parting>
+) -> Result<TimedWord, Parting>
     ensures { result ≡ judged watch.now device.now now line.now }
 {
     match watch {
         Some(watch) => watch.judge(device, now, line),
-        None => judge_plain(device, line),
+        None => judge_plain(device, now, line),
     }
 }
 

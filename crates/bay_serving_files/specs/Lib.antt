@@ -5,8 +5,8 @@
 -- bound, and turns are served, which are one run of the device; at the first of these that fails it
 -- says what is printed, and that nothing more was done.
 --
--- `Service`: the turns that were served, one after the other, and all that happened to the device in
--- them since load, which is one run of it. `Orders`: what stands behind each command that a turn
+-- `Service`: the turns that were served, one after the other, and all that happened to the device
+-- in them since load, which is one run of it. `Orders`: what stands behind each command that a turn
 -- tells; `Texts`: the same, read off the lines that are printed. `Live`: at each command of a
 -- supervised process it lived as the turn began.
 

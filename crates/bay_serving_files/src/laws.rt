@@ -91,7 +91,7 @@ pub fn no_octets_command_alone()
 /// Commands need a live process: where a server's process is supervised, and no line of a trace
 /// stands before it, each turn that tells a command began with a process that was there, had said
 /// that it is of this bay, and was heard at most so many milliseconds before the moment of the turn
-/// before: then it was accepted, or a whole line of it stood in front that could be taken.
+/// before: by the moment of its last word, which counts from no later moment than its turn's.
 pub fn commands_need_a_live_process<L: Link, H: Host<L>, W: Sink>(_link: &L, _host: &H, _sink: &W)
     ensures { (duties : Duties) (turns : ℕ) (before : Serving L H) (old : Writing W) (host : H)
         (new : Writing W) (answer : Result ℕ WriteFault)

@@ -41,8 +41,8 @@ pub struct Numbers {
     pub limit_ms: Option<u32>,
 }
 
-/// The names of the files that are served: the bay, a program or an image, the trace of the process,
-/// and the key that it has to know.
+/// The names of the files that are served: the bay, a program or an image, the trace of the
+/// process, and the key that it has to know.
 #[derive(Clone, Copy)]
 pub struct NamedFiles<'a> {
     pub bay: &'a str,
@@ -340,17 +340,17 @@ fn serve_loaded<L: Link + Drop, H: Host<L>, W: Sink>(
     }
 }
 
-/// Serves files by their names. Reads the bay, then the program or the image, then the trace and the
-/// key; loads them and writes the line of the load; binds the port for clients, and then that of the
-/// process, if there is one; and serves the given number of turns. Logs the ports, or why no turn is
-/// served.
+/// Serves files by their names. Reads the bay, then the program or the image, then the trace and
+/// the key; loads them and writes the line of the load; binds the port for clients, and then that
+/// of the process, if there is one; and serves the given number of turns. Logs the ports, or why no
+/// turn is served.
 ///
 /// All turns are one run of the device, from load on. Behind each command that a turn tells, and so
 /// behind each line that is printed, or told the process, and reads as one, stand the octets of a
 /// client that ask for it, the success that is sent to this client, and a scan of an earlier turn
 /// that left the switch's interlocking value TRUE, since which the process has not changed. Where
-/// the process is supervised, it was there as the turn began, it had said that it is of this bay, and
-/// it was heard at most so many milliseconds before the turn before.
+/// the process is supervised, it was there as the turn began, it had said that it is of this bay,
+/// and by the moment of its last word it lived at most so many milliseconds before the turn before.
 pub fn serve<F: FileSystem, L: Link + Drop, H: Host<L>, W: Sink>(
     alloc: Global,
     named: NamedFiles<'_>,

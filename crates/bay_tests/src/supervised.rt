@@ -10,7 +10,7 @@ const SUPERVISED: Row = Row {
     ..HEARD
 };
 
-const ROWS: [Row; 9] = [
+const ROWS: [Row; 10] = [
     // It names this bay, reports a position, and is answered that the server lives.
     Row {
         said: "2000 bay - B 1\n3000 contact Q 1\n4000 alive\n",
@@ -124,6 +124,22 @@ const ROWS: [Row; 9] = [
 2000 process open
 | 4000 process closed 134: no line for 1500 ms
 4000 process closed 134
+| 5000 all turns are served
+",
+        ..SUPERVISED
+    },
+    // It is silent behind its last word, which is older than the turn that took it.
+    Row {
+        said: "2000 bay - B 1\n2900 alive\n",
+        stays: true,
+        words: "serve --log --bay bay --logic logic --port 7 --turns 4 --process 9 --supervise 2000",
+        told: "2000 process 2000 B 1\n4000 alive\n",
+        wanted: "instructions=2 depth=1 budget=2
+| 1000 clients on 127.0.0.1:7, process on 127.0.0.1:9
+| 2000 process open
+2000 process open
+| 5000 process closed 134: no line for 2000 ms
+5000 process closed 134
 | 5000 all turns are served
 ",
         ..SUPERVISED
