@@ -211,8 +211,8 @@ impl Case {
         }
     }
 
-    /// Makes the case of a process that is lost: each of so many switches has position 3, and each of
-    /// so many inputs is FALSE.
+    /// Makes the case of a process that is lost: each of so many switches has position 3, and each
+    /// of so many inputs is FALSE.
     pub fn lost(alloc: Global, switches: usize, inputs: usize) -> Result<Self, AllocError>
         ensures { IfOk result (λ case. case ≡ spec.lost_case switches inputs) }
     {

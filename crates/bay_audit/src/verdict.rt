@@ -173,8 +173,8 @@ fn range_of_goal(
     }
 }
 
-/// Returns what a pass decides of a demand in a case, where what is asked may come to this, and what
-/// it foretells.
+/// Returns what a pass decides of a demand in a case, where what is asked may come to this, and
+/// what it foretells.
 pub(crate) fn pass(
     alloc: Global,
     verified: &Verified,

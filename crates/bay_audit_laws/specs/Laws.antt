@@ -112,7 +112,8 @@ abbrev pub scan_noted : List ConditionItem → ℕ → State → Result Step Ste
 scan_noted condition now s (Ok step) scans = (now, holds condition (process_of s)) ∷ scans
 scan_noted condition now s (Err fault) scans = scans
 
-abbrev pub scans_after : List ConditionItem → ℕ → Event → State → Result Step StepFault → List (ℕ × Bool)
+abbrev pub scans_after : List ConditionItem → ℕ → Event → State → Result Step StepFault
+    → List (ℕ × Bool)
     → List (ℕ × Bool)
 scans_after condition now (Open a) s answer scans = scans
 scans_after condition now (Recv a octets) s answer scans = scans

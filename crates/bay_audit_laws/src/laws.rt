@@ -4,8 +4,8 @@ ghost use Rattle.bay_audit_laws.specs.Laws.{CommandsObey, CommandsWait, ScansObe
 ghost use Rattle.bay_audit_laws.specs.Lost.{LostIsBlind};
 
 /// Where a rule holds of a program, each scan of a device with that program leaves EnaOpn and
-/// EnaCls as the rule has it: of the positions, the inputs and the measured values as the device has
-/// them, in each run of events from load on.
+/// EnaCls as the rule has it: of the positions, the inputs and the measured values as the device
+/// has them, in each run of events from load on.
 pub fn each_scan_obeys()
     ensures { ScansObey }
 {}
@@ -29,8 +29,8 @@ pub fn a_release_waits()
 
 /// A lost process releases only what its loss does: from the loss to the next contact, input,
 /// measured value or doubt of one that is accepted, the position of each switch is bad with an
-/// invalid quality and each input is FALSE: so each scan reads them, in each run of events from load
-/// on.
+/// invalid quality and each input is FALSE: so each scan reads them, in each run of events from
+/// load on.
 pub fn a_lost_process_releases_only_what_lost_does()
     ensures { LostIsBlind }
 {}

@@ -49,7 +49,8 @@ abbrev pub log_in : Option RuleFault → Option (List ℕ)
 log_in refused = option_and_then refused_log refused
 
 -- what is said of rules; or of a text that has none, and which line is logged then
-abbrev pub SaysOf : Bay → Image → Result (List Rule) RuleFault → Option (List ℕ) → List ℕ → ℕ → Type 0
+abbrev pub SaysOf : Bay → Image → Result (List Rule) RuleFault → Option (List ℕ) → List ℕ → ℕ
+    → Type 0
 SaysOf bay image (Ok rules) log text status =
     (log ≡ None) × Answers bay image rules text status
 SaysOf bay image (Err fault) log text status =

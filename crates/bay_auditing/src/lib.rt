@@ -1,7 +1,8 @@
-// The audit of a bay's program: files are read and loaded, rules are answered, and the answers printed.
+// The audit of a bay's program: files are read and loaded, rules are answered, and the answers
+// printed.
 //
-// `audit_files` is all of it. `kept` names what a program keeps from scan to scan, and `text` has the
-// lines of the answers.
+// `audit_files` is all of it. `kept` names what a program keeps from scan to scan, and `text` has
+// the lines of the answers.
 #![tactic(auto)]
 
 pub mod audit_files;

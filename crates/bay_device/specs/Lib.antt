@@ -22,9 +22,9 @@
 -- since which nothing that the process tells has changed, and the process is not lost. `Entries`:
 -- what was asked of controls and accepted, with the device; `Told`: the same by events and answers
 -- alone, through the layers of transport, session and presentation. `Backing` of bay_control is
--- said over these. `Report`: instructions, depth and budget of a program. `LookUps`, `Table`: places
--- of names. `Code` numbers the faults. `StateView`, `Connections` and `HearingViews` say what the
--- code's fields stand for.
+-- said over these. `Report`: instructions, depth and budget of a program. `LookUps`, `Table`:
+-- places of names. `Code` numbers the faults. `StateView`, `Connections` and `HearingViews` say
+-- what the code's fields stand for.
 
 -- What public clauses cite of the crates below.
 pub use Rattle.bay_base.specs.Exact

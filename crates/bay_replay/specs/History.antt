@@ -11,8 +11,8 @@ abbrev pub device_after : State → List Past → State
 device_after first [] = first
 device_after first (p ∷ past) = p.after
 
--- What is said of each event holds: of its moment, of it, of the device before it, of its answer and
--- of the device after it.
+-- What is said of each event holds: of its moment, of it, of the device before it, of its answer
+-- and of the device after it.
 abbrev pub EachPast : (ℕ → Event → State → Result Step StepFault → State → Type 0) → State
     → List Past → Type 0
 EachPast Does first [] = Unit {0}

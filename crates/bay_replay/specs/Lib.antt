@@ -7,7 +7,8 @@
 -- have. `LineAnswers`: what is printed for a line, as a function of a choice: memory was refused
 -- for the bytes of the line (only if they are more than in any line before), or in the device.
 -- `Runs`: each text is that of a run of the scenario's device, and what holds of this run;
--- `History`: what has happened to a device since load. `Answering` is private to how a line is answered: with which choice, and by which steps.
+-- `History`: what has happened to a device since load. `Answering` is private to how a line is
+-- answered: with which choice, and by which steps.
 -- `ScenarioView` maps the code's slices to plain data.
 
 -- What public clauses cite of the crates below.

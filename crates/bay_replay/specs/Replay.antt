@@ -36,8 +36,8 @@ TraceReport r k (line ∷ lines) log text status =
     ((rest : List ℕ) × (text ≡ answer.text ++ rest)
     × TraceReport answer.after (k + 1) lines log rest status))
 
--- the same for a device and its trace: the line of its load is printed, and behind it what its lines
--- are answered; there is no room for octets at first
+-- the same for a device and its trace: the line of its load is printed, and behind it what its
+-- lines are answered; there is no room for octets at first
 abbrev pub DeviceReport : State → List (List ℕ) → Option (List ℕ) → List ℕ → ℕ → Type 0
 DeviceReport s lines log text status =
     (report : Report) × IsReportOf s.machine.image report

@@ -27,8 +27,8 @@ use std::alloc::Global;
 // The maximum number of octets in a scenario.
 const SCENARIO_LIMIT: usize = 16_777_216;
 
-// Flushes what was written up to the last line, whose number is given, and logs the line if it can't
-// be read.
+// Flushes what was written up to the last line, whose number is given, and logs the line if it
+// can't be read.
 fn end_at<W: Sink>(
     writer: &mut WatchedWriter<W>,
     number: usize,
@@ -115,8 +115,8 @@ fn replay_scenario<W: Sink>(
 /// Reads a scenario from a reader, and writes its report to a writer. Returns the exit status: 0, 1
 /// if the load is refused, or 3 for a fault.
 ///
-/// A scenario of more than 16,777,216 octets is a fault, and so is a failed read. A fault is logged. A reader or a
-/// writer that has already failed is not called.
+/// A scenario of more than 16,777,216 octets is a fault, and so is a failed read. A fault is
+/// logged. A reader or a writer that has already failed is not called.
 pub fn replay_watched<R: OctetSource, W: Sink>(
     alloc: Global,
     reader: &mut WatchedReader<R>,

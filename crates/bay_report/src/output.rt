@@ -58,7 +58,8 @@ pub fn write_text<W: Sink>(
     text: &[u8],
     status: Status,
 ) -> Result<u8, WriteFault>
-    ensures { Prints W.contents W.does (IsLast text.now (code_of status)) writer.old writer.new result }
+    ensures { Prints W.contents W.does (IsLast text.now (code_of status)) writer.old writer.new
+        result }
 {
     writer.put(text);
     finish(writer, status)

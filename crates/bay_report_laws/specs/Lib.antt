@@ -1,9 +1,9 @@
 -- What is read off the text of a report.
 --
--- `Printed`: how a line is read, by its words alone; `ReadBack`: so is each that is printed. `Released`
--- is the main file: what stands before a command's line; `Answered`: what stands beside it. `Texts`:
--- that scans are within the budget; `Meant`: that they tell what the program means; `Reports`: what
--- is so of each report.
+-- `Printed`: how a line is read, by its words alone; `ReadBack`: so is each that is printed.
+-- `Released` is the main file: what stands before a command's line; `Answered`: what stands beside
+-- it. `Texts`: that scans are within the budget; `Meant`: that they tell what the program means;
+-- `Reports`: what is so of each report.
 
 -- What public clauses cite of the crates below.
 pub use Rattle.bay_device.specs.Fresh

@@ -5,9 +5,9 @@ ghost use Rattle.bay_report_laws.specs.ReadBack.{ReadsBudgets, ReadsCommands, Re
 ghost use Rattle.bay_report_laws.specs.Released.{CommandsAreReleased};
 ghost use Rattle.bay_report_laws.specs.Texts.{ScansAreWithinBudget};
 
-/// The line of a load, of a scan, of a command and of sent octets is read back: by a definition that
-/// cuts a line into words and knows nothing of how it is printed. Numbers are below 2 ^ 64, and ids
-/// are as a bay file has them.
+/// The line of a load, of a scan, of a command and of sent octets is read back: by a definition
+/// that cuts a line into words and knows nothing of how it is printed. Numbers are below 2 ^ 64,
+/// and ids are as a bay file has them.
 pub fn what_is_printed_is_read_back()
     ensures budgets { ReadsBudgets }
     ensures scans { ReadsScans }
@@ -22,23 +22,23 @@ pub fn scans_are_within_the_budget()
 {}
 
 /// In each text that a replay may print, behind each line `ms command id on` (or `off`) stands,
-/// before it in the same text, a line `m scan ..` with `id=x1` (for `off`: `id=1y`), where ms - m is
-/// at most the bay's `scan_max_age_ms`; and of the events of the trace between the two none has
+/// before it in the same text, a line `m scan ..` with `id=x1` (for `off`: `id=1y`), where ms - m
+/// is at most the bay's `scan_max_age_ms`; and of the events of the trace between the two none has
 /// changed what the process tells: no contact, no input and no measure.
 pub fn printed_commands_are_released()
     ensures { CommandsAreReleased }
 {}
 
-/// In each text that a replay may print, each line of a command is of what is printed for octets of a
-/// client. One of their PDUs asks for the operate of this switch; and among the lines for the same
-/// line of the trace stands one of sent octets, by their hexadecimal digits, whose PDU, read as the
-/// response to that one, has a success as its result.
+/// In each text that a replay may print, each line of a command is of what is printed for octets of
+/// a client. One of their PDUs asks for the operate of this switch; and among the lines for the
+/// same line of the trace stands one of sent octets, by their hexadecimal digits, whose PDU, read
+/// as the response to that one, has a success as its result.
 pub fn printed_commands_are_answered()
     ensures { CommandsAreAnswered }
 {}
 
-/// In each text that a replay may print, each line of a scan is of what is printed for a scan of the
-/// trace, at its moment, and its `id=xy` are, switch by switch, the values that the text of the
+/// In each text that a replay may print, each line of a scan is of what is printed for a scan of
+/// the trace, at its moment, and its `id=xy` are, switch by switch, the values that the text of the
 /// program means for EnaOpn and EnaCls: on what the device keeps, and on the positions, the inputs
 /// and the measured values that it has by then. One that the program does not name is 0.
 pub fn printed_scans_are_meant()

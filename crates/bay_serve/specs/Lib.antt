@@ -4,9 +4,9 @@
 -- server before it and of a script. The script holds all that the turn does not decide itself:
 -- whether a connection waited, what each association brought, where memory ran out for it, and how
 -- much each queue sent. A turn takes a connection, tells the device that the process is lost, if it
--- is, reads each association, takes the line, scans, and offers each queue to the link. After each of these it closes an association to which a reply
--- did not fit. It also gives the calls on the link in their order, and each event is the device's
--- step (`Outcomes` of bay_device).
+-- is, reads each association, takes the line, scans, and offers each queue to the link. After each
+-- of these it closes an association to which a reply did not fit. It also gives the calls on the
+-- link in their order, and each event is the device's step (`Outcomes` of bay_device).
 --
 -- `Calls`: what a link is asked (accept, read, write, close, each with the number of an
 -- association) and what it answers; None stands for a failure. It counts failures up to

@@ -2,8 +2,9 @@
 //
 // What is handed out: `link` (the clients' connections, a trait whose meaning is the calls that
 // were made and what they answered), `server` (a device with what is still to be sent to each
-// client), `process` (what happens to the process, and the line that tells of it), `supervised` (the
-// lines of a process that is supervised), `turn` (one turn of the server), `told` (what a turn tells),
+// client), `process` (what happens to the process, and the line that tells of it), `supervised`
+// (the lines of a process that is supervised), `turn` (one turn of the server), `told` (what a turn
+// tells),
 // `entries` (its lists), `fault` (why a turn is not done).
 //
 // Within: `standing` is how an association stands in a turn, `notes` what a turn has to remember,

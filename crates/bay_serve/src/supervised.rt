@@ -16,8 +16,8 @@ pub struct TimedLine {
     pub event: Option<ProcessEvent>,
 }
 
-/// Reads a line of a supervised process that has said whose it is, with names of a device. An unknown name becomes an
-/// index at which there is nothing.
+/// Reads a line of a supervised process that has said whose it is, with names of a device. An
+/// unknown name becomes an index at which there is nothing.
 pub fn read_timed_line(device: &Device, line: &[u8]) -> Option<TimedLine>
     ensures { result ≡ timed_line_of device.now line.now }
 {

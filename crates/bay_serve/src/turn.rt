@@ -61,12 +61,12 @@ fn scan<L: Link>(server: &mut Server, notes: &mut Notes, link: &mut L, now: u64)
 }
 
 /// Serves one turn, at the later of the clock's time (in milliseconds since 1970) and the last
-/// time. Accepts at most one waiting connection, under the lowest free number. Tells the device that the process is lost, if it
-/// is. Reads each association once, in order, up to 4,096 octets; closes one whose client sends no more, and one
-/// whose read fails, with 131. Does the event of the process that it is given, if it is given one.
-/// Runs the program once. Writes what is still to be sent to each association, as far as the link
-/// takes it. Closes an association with 131 if a write fails, and with 130 if a reply does not fit
-/// into what is still to be sent to it.
+/// time. Accepts at most one waiting connection, under the lowest free number. Tells the device
+/// that the process is lost, if it is. Reads each association once, in order, up to 4,096 octets;
+/// closes one whose client sends no more, and one whose read fails, with 131. Does the event of the
+/// process that it is given, if it is given one. Runs the program once. Writes what is still to be
+/// sent to each association, as far as the link takes it. Closes an association with 131 if a write
+/// fails, and with 130 if a reply does not fit into what is still to be sent to it.
 ///
 /// A line that reports nothing of the process is refused first, then a time that is too late.
 /// Nothing is done then.
@@ -125,7 +125,8 @@ pub fn serve_turn<L: Link>(
 ) -> Result<Turn, ServeFault>
     ensures ok { IfOk result
         (λ turn. Serves (Called L.does L.failures) link.old link.new (moment_at clock server.old)
-        (reported_in (given_by server.old.device (text_in line.entry))) server.old server.new turn) }
+        (reported_in (given_by server.old.device (text_in line.entry))) server.old server.new turn)
+            }
     ensures right { OnOk result
         (turn_refusal clock (given_by server.old.device (text_in line.entry)) server.old ≡ None) }
     ensures refused { IfErr result

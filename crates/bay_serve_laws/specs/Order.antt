@@ -71,8 +71,9 @@ module _ (now : ℕ) (told : List (ℕ × Closing)) where
   ThenReads place (r ∷ rs) Rest d events =
       Then (read_at place r d) (ThenReads (place + 1) rs Rest) d events
 
-  -- A connection is opened, it is told that the process is lost, if it is, each association is read,
-  -- the line is told, the program runs once, and then associations are closed at most, for a reason.
+  -- A connection is opened, it is told that the process is lost, if it is, each association is
+  -- read, the line is told, the program runs once, and then associations are closed at most, for a
+  -- reason.
   abbrev pub AreInOrder : (ℕ → Bool) → Reported → Script → State → List ChosenEvent → Type 0
   AreInOrder has_reason given script d events =
       Then (opened script.accepted d) (λ c. Then (told_at (first_of given))
@@ -89,5 +90,6 @@ abbrev pub IsInOrder : ℕ → Reported → Script → Held → Type 0
 IsInOrder now given script h =
     let told = (after_turn now given script h).noted.closed in
     AreInOrder now told
-    (λ a. tells is_queue_full a told || has_some (fails_for a) (turn_calls now given script h)) given
+    (λ a. tells is_queue_full a told || has_some (fails_for a) (turn_calls now given script h))
+        given
     script h.device (turn_events now given script h)

@@ -55,10 +55,11 @@ pub fn each_closing_has_its_cause()
 /// The device after a turn is the device before it with the turn's events applied, each at the
 /// turn's time, and the commands that the turn reports are those of the events' answers, in order.
 /// The events are, in this order: if a connection was accepted, the lowest free association is
-/// opened; that the process is lost, if it is; for each association that is open when it comes, what its one read brought (its octets
-/// arrive, or it is closed, or nothing); the event of the process, if there is one; and exactly one
-/// scan. Behind each of these, the associations to which a reply did not fit are closed; behind the
-/// scan also those for which a call failed. There is no other event.
+/// opened; that the process is lost, if it is; for each association that is open when it comes,
+/// what its one read brought (its octets arrive, or it is closed, or nothing); the event of the
+/// process, if there is one; and exactly one scan. Behind each of these, the associations to which
+/// a reply did not fit are closed; behind the scan also those for which a call failed. There is no
+/// other event.
 pub fn a_turn_is_its_events()
     ensures events { (now : ℕ) (given : Reported) (script : Script) (h : Held)
         → IsItsEvents now given script h }

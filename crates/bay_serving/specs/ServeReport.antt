@@ -136,8 +136,8 @@ from_port s now lines (Some p) =
       process = Some (record { link = p.link; port = taken.port });
     }
 
--- The next line of the trace, and beside it that the process is lost; or where there is no line what
--- the process has.
+-- The next line of the trace, and beside it that the process is lost; or where there is no line
+-- what the process has.
 abbrev pub from_trace : {L : Type 0} → Option (ℕ × List ℕ) → State → ℕ → List (ℕ × List ℕ)
     → Option (Hearing L) → Chosen L
 from_trace None s now lines process = from_port s now lines process
@@ -233,7 +233,8 @@ module _ {L H W : Type 0} (step : L → Call → L → Type 0) (acts : H → Hos
         (reported_in (choice_of clocks before).next.given) before.held after.held turn
     pub between : Writing W
     pub outcome : Result ℕ WriteFault
-    pub printed : TellsTurn contents asks (moment_of clocks before) (choice_of clocks before).next.shown
+    pub printed : TellsTurn contents asks (moment_of clocks before)
+        (choice_of clocks before).next.shown
         turn after.held.device begun between outcome
     pub hears : AfterTurn outcome
         ((after.process ≡ (choice_of clocks before).process) × (new ≡ between) × (answer ≡ outcome))

@@ -123,7 +123,8 @@ fn with_loss(given: Given, is_lost: bool) -> Given
     })
 }
 
-// Reads a line of the trace, with its number, for a turn that may be given that the process is lost.
+// Reads a line of the trace, with its number, for a turn that may be given that the process is
+// lost.
 fn read_next(device: &Device, is_lost: bool, line: (usize, &[u8])) -> Next
     ensures { result ≡ next_by device.now is_lost (line.entry.0, line.entry.1.now) }
 {
