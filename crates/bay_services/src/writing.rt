@@ -370,17 +370,18 @@ impl Invocation<'_> {
             Ok(operate) => operate,
             Err(error) => return written.response.failure(error),
         };
+        let SwitchRow { switch, row } = part;
         let answer = controls.operate(
             &self.bay.control_table,
             self.client.association,
-            part.switch,
+            switch,
             ask_of(&operate),
-            self.bay.view(self.client, part.switch),
+            self.bay.view(self.client, switch),
             self.client.now,
         );
         let to = ControlPart::Operate;
         self.put_decision(part, to, &operate.control, answer, written)?;
-        self.accept(part.switch, part.row, &operate, answer, written)
+        self.accept(switch, row, &operate, answer, written)
     }
 
     // Writes a variable.
