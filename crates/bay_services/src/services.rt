@@ -236,6 +236,31 @@ impl Invocation<'_> {
             }
         }
     }
+
+    // A service that is asked for under an invoke id.
+    fn serve(&self, call: &Call<'_>, controls: &mut Controls) -> Result<Answer, AllocError>
+        requires sized { IsPduSize self.now.client.size }
+        requires first { controls.old ≡ self.now.bay.now.controls }
+        ensures { IfOk result (λ answer. AnswersAs answer
+            (controls_left self.now.bay.now controls.new)
+            (bay_of self.now)
+            (service_answer self.now.client self.now.id (bay_of self.now) (asking call.now))) }
+    {
+        match call {
+            Call::Identify => self.identify(),
+            Call::Names {
+                class,
+                scope,
+                after,
+            } => {
+                let response = self.write_listing(class, scope, *after);
+                self.responded(response)
+            }
+            Call::Attributes(name) => self.attributes(name),
+            Call::Read(names) => self.read(names, controls),
+            Call::Write { names, values } => self.write(names, values, controls),
+        }
+    }
 }
 
 impl ServedBay {
@@ -258,23 +283,14 @@ impl ServedBay {
             Ok(Request::Initiate(_)) => rejected(alloc, None, RejectReason::InvalidPdu),
             Ok(Request::Conclude) => concluded(alloc),
             Ok(Request::Confirmed { id, call }) => {
-                let asked = Invocation {
-                    bay: self,
+                let bay = self;
+                let invocation = Invocation {
+                    bay,
                     client,
                     id,
                     alloc,
                 };
-                match &call {
-                    Call::Identify => asked.identify(),
-                    Call::Names {
-                        class,
-                        scope,
-                        after,
-                    } => asked.responded(asked.write_listing(class, scope, *after)),
-                    Call::Attributes(name) => asked.attributes(name),
-                    Call::Read(names) => asked.read(names, controls),
-                    Call::Write { names, values } => asked.write(names, values, controls),
-                }
+                invocation.serve(&call, controls)
             }
             Err(fault) => refused(alloc, fault),
         }
