@@ -125,8 +125,7 @@ pub fn serve_turn<L: Link>(
 ) -> Result<Turn, ServeFault>
     ensures ok { IfOk result
         (λ turn. Serves (Called L.does L.failures) link.old link.new (moment_at clock server.old)
-        (reported_in (given_by server.old.device (text_in line.entry))) server.old server.new turn)
-            }
+        (reported_in (given_by server.old.device (text_in line.entry))) server.old server.new turn) }
     ensures right { OnOk result
         (turn_refusal clock (given_by server.old.device (text_in line.entry)) server.old ≡ None) }
     ensures refused { IfErr result

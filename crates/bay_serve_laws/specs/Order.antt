@@ -91,5 +91,5 @@ IsInOrder now given script h =
     let told = (after_turn now given script h).noted.closed in
     AreInOrder now told
     (λ a. tells is_queue_full a told || has_some (fails_for a) (turn_calls now given script h))
-        given
+    given
     script h.device (turn_events now given script h)
