@@ -1,0 +1,1 @@
+"""What tools/certify is made of: an authority of certificates in a folder, over openssl."""
