@@ -77,7 +77,8 @@ class Operator:
         state = self.watcher.state['control']
         if state:
             return answer(False, f'{state["switch"]} is {state["stage"]} by this panel')
-        control = Control(self.watcher.client, switch, 'panel')
+        tls = self.watcher.tls
+        control = Control(self.watcher.client, switch, tls.identity() if tls else 'panel')
         if control.model == STATUS_ONLY:
             return answer(False, f'{switch} is not controlled: {words.CONTROL_MODELS[0]}')
         self.end = time.monotonic() + CONFIRMING

@@ -16,6 +16,7 @@ from wire.client import Client, Lost
 from wire.mms import Failure
 from wire.same_bay import compared
 from wire.sockets import unconnected
+from wire.tls import server_of
 
 from .reasons import Seen, why_not
 
@@ -42,9 +43,9 @@ class Watcher:
     audit by switch and way, once they are known. Where the server has another bay than the file,
     `state['barred']` says that nothing is operated, unless it is to be operated anyway."""
 
-    def __init__(self, file, text, host, port, anyway=False) -> None:
+    def __init__(self, file, text, host, port, anyway=False, tls=None) -> None:
         self.file, self.text, self.host, self.port = file, text, host, port
-        self.anyway, self.differs = anyway, []
+        self.anyway, self.differs, self.tls = anyway, [], tls
         self.conditions, self.lock, self.client = None, threading.RLock(), None
         self.events = collections.deque(maxlen=KEPT)
         self.queues, self.queues_lock = set(), threading.Lock()
@@ -111,7 +112,8 @@ class Watcher:
                 self.client.close()
 
     def connect(self) -> None:
-        client = Client(self.host, self.port, Names(self.text), on_report=lambda told: None)
+        client = Client(self.host, self.port, Names(self.text), on_report=lambda told: None,
+                        tls=self.tls)
         client.on_said = self.said
         held = compared(client, self.file)
         if any(node.startswith(READ) for node in held.absent):
@@ -124,7 +126,9 @@ class Watcher:
 
     def is_connected(self, found) -> None:
         """Notes a new connection, and how its server differs from the bay file."""
-        told = f'connected to port {self.port}' + (f': {OTHER}' if found else '')
+        whose = server_of(self.client.socket) if self.client else ''
+        told = f'connected to port {self.port}' + (f' of {whose}' if whose else '') + (
+            f': {OTHER}' if found else '')
         barred = f'{OTHER}, so nothing is operated' if found and not self.anyway else ''
         self.state.update(connected=True, told=told, barred=barred)
         self.event(told, 'refused' if found else 'quiet')

@@ -34,8 +34,9 @@ class Pages(http.server.ThreadingHTTPServer):
         """A page that went away is no error."""
 
     def page(self) -> str:
-        bay = self.watcher.file['bay']
+        bay, tls = self.watcher.file['bay'], self.watcher.tls
         parts = {'TITLE': bay['domain'], 'DEVICE': f'{bay["vendor"]} {bay["model"]}',
+                 'WHO': f'as {tls.told()}, by TLS' if tls else '',
                  'TOKEN': self.token, 'OPERATES': 'true' if self.operator else 'false',
                  'ZONE': zone_told(time.time_ns() // 1_000_000)}
         found = {name: html.escape(value, quote=True) for name, value in parts.items()}

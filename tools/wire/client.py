@@ -1,6 +1,6 @@
 """A client of MMS over TCP: it connects, asks one thing after the other, and hands on the reports
 that come between."""
-import socket
+import ssl
 import time
 from collections.abc import Callable
 
@@ -12,6 +12,7 @@ from .ber import Unreadable
 from .conversation import Conversation, Said
 from .mms import Data, Failure
 from .sockets import is_taken, unconnected
+from .tls import ALERT, Tls, connected, refusal_in
 
 TOGETHER, PATIENCE, PARTING = 32, 10, 2  # variables of a request; seconds for an answer, at the end
 SHOWN = 12  # octets that are told
@@ -45,17 +46,18 @@ class Trace:
 class Client:
     """An open association. Each report that comes is handed to `on_report` in words, and to
     `on_said` as what was said. An answer that has not come whole within `timeout` seconds is
-    Lost, whatever comes in its place."""
+    Lost, whatever comes in its place. With `tls` the connection is one of TLS."""
 
     def __init__(self, host: str, port: int, bay: Names | None = None, trace: Trace | None = None,
-                 on_report: Callable = print, timeout: float = PATIENCE) -> None:
+                 on_report: Callable = print, timeout: float = PATIENCE,
+                 tls: Tls | None = None) -> None:
         self.bay, self.trace, self.on_report = bay or Names(), trace, on_report
-        self.host, self.port, self.timeout = host, port, timeout
+        self.host, self.port, self.timeout, self.tls = host, port, timeout, tls
         self.conversation, self.answers = Conversation(self.bay), stream.Stream()
         self.waiting, self.invoke, self.size, self.cause = [], 0, 8192, None
         self.came, self.is_lost, self.end = b'', False, time.monotonic() + timeout
         self.on_said = lambda said: None
-        self.socket = socket.create_connection((host, port), timeout)
+        self.socket = connected(host, port, timeout, tls)
         try:
             self.open()
         except BaseException:
@@ -65,14 +67,25 @@ class Client:
     def open(self) -> None:
         """Opens the association."""
         self.note('open')
-        self.send(stream.connection_request())
-        self.size = self.first_answer().size or 65_531
+        self.size = self.confirmed().size or 65_531
         self.begin()
         self.send(stream.wrapped(stream.association_request(mms.initiate_request()), self.size))
         try:
             self.next('accept')
         except TimeoutError:
             raise self.lost('does not answer the request for an association') from None
+
+    def confirmed(self) -> stream.Got:
+        """Asks for a transport connection. By TLS 1.3 a server that refuses a certificate ends the
+        connection only behind the handshake, so that this may not be written any more."""
+        try:
+            self.send(stream.connection_request())
+            return self.first_answer()
+        except (ConnectionError, ssl.SSLEOFError) as error:
+            if self.tls is None:
+                raise
+            raise Lost(f'port {self.port} of {self.host}: '
+                       f'{refusal_in(self.socket, error)}') from None
 
     def first_answer(self) -> stream.Got:
         """The answer to the connection request. A server with eight associations takes no other
@@ -81,6 +94,9 @@ class Client:
         try:
             return self.next('CC')
         except Lost:
+            if self.came.startswith(ALERT):
+                raise Lost(f'{what}: it answers with an alert of TLS: this is a port of TLS, which '
+                           'needs --tls') from None
             if not self.came[:1].isdigit():
                 raise
             raise Lost(f'{what}: it greets a process: this is the port of a process, and not that '
@@ -93,8 +109,9 @@ class Client:
                 raise Lost(f'{what}: the connection waits, and the server does not take it: all '
                            'eight associations are taken, or this is the port of a process'
                            ) from None
+            more = ', and are all eight associations taken?' if self.tls else '?'
             raise Lost(f'{what}: a connection request is not answered: is it the port of the '
-                       'clients?') from None
+                       f'clients{more}') from None
 
     def begin(self) -> None:
         """From now on an answer may take its time."""

@@ -3,6 +3,9 @@ import argparse
 import math
 import pathlib
 import socket
+import ssl
+
+from .tls import failure_told
 
 TABLES = {socket.AF_INET: '/proc/net/tcp', socket.AF_INET6: '/proc/net/tcp6'}
 
@@ -77,4 +80,6 @@ def unconnected(error: OSError) -> str:
         return 'no server listens there'
     if isinstance(error, TimeoutError):
         return 'nothing is answered'
+    if isinstance(error, ssl.SSLError):
+        return failure_told(error)
     return error.strerror or str(error)
