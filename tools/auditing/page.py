@@ -1,6 +1,5 @@
 """The report of an audit: one page of HTML that needs no other file, to be printed and signed."""
 import hashlib
-import html
 import pathlib
 import re
 
@@ -8,7 +7,8 @@ from bay.names import UNIT
 from bay.rules import MEASURE
 from common import moments
 from common.ending import DONE
-from common.texts import counted, in_line
+from common.html_page import code, escaped, page, table
+from common.texts import counted
 
 from . import proving, verdicts
 from .judging import released, uncovered
@@ -54,14 +54,6 @@ code { font-family: "DejaVu Sans Mono", Consolas, monospace; font-size: 0.92em;
 '''
 
 
-def escaped(text) -> str:
-    return html.escape(in_line(str(text)))
-
-
-def code(text) -> str:
-    return f'<code>{escaped(text)}</code>'
-
-
 def sum_of(octets) -> str:
     return hashlib.sha256(octets).hexdigest()
 
@@ -73,17 +65,6 @@ def version() -> str:
                                       for path in (TOOLS / name).glob('*.py'))]
     found = sum_of(b''.join(path.read_bytes() for path in paths))
     return f'{day[1] if day else "of no day"}, SHA-256 of its files {found[:16]}'
-
-
-def table(heads, rows, style='') -> str:
-    """A table; of a head a leading # says that its column has numbers, and ! names."""
-    kinds = [{'#': ' class="number"', '!': ' class="name"'}.get(head[:1], '') for head in heads]
-    told = ''.join(f'<th scope="col"{kind}>{escaped(head.lstrip("#!"))}</th>'
-                   for head, kind in zip(heads, kinds))
-    head = f'<thead><tr>{told}</tr></thead>' if any(heads) else ''
-    body = ''.join('<tr>' + ''.join(f'<td{kind}>{cell}</td>' for kind, cell in zip(kinds, row))
-                   + '</tr>' for row in rows)
-    return f'<table{style}>{head}<tbody>{body}</tbody></table>'
 
 
 def product_list(condition) -> str:
@@ -110,10 +91,7 @@ class Report:
         parts = [f'<h1>{escaped(title)}</h1>', self.verdict(), self.what_was_read(),
                  self.signatures(), self.how(), self.rules(), self.conditions(),
                  self.lost(), self.uncovered(), self.matrix()]
-        return ('<!DOCTYPE html>\n<html lang="en"><head><meta charset="utf-8">'
-                '<meta name="viewport" content="width=device-width">'
-                f'<title>{escaped(title)}</title><style>{style}</style></head>\n<body>\n'
-                + '\n'.join(parts) + '\n</body></html>\n')
+        return page(title, style, parts)
 
     def verdict(self) -> str:
         """The verdict, with what was restricted, and that nothing is proved."""

@@ -22,7 +22,7 @@ ATTRIBUTES = {b'\x55\x04\x03': 'CN', b'\x55\x04\x05': 'serialNumber', b'\x55\x04
               b'\x55\x04\x0b': 'OU', b'\x2a\x86\x48\x86\xf7\x0d\x01\x09\x01': 'emailAddress'}
 WIDE = {0x1C: 'utf-32-be', 0x1E: 'utf-16-be', 0x14: 'latin-1'}  # by tag, where it is not UTF-8
 HOST = re.compile(r'[A-Za-z0-9:](?:[A-Za-z0-9.:-]*[A-Za-z0-9:])?', re.ASCII)
-SPECIAL = re.compile(r'([,+"\\<>;])')
+SPECIAL = re.compile(r'[,+"\\<>;]|^[ #]| $')
 # What a server says of a client's certificate, by the reason of its alert.
 ALERTS = {
     'TLSV13_ALERT_CERTIFICATE_REQUIRED': 'the server asks for a certificate',
@@ -204,9 +204,11 @@ def attribute(octets: bytes) -> tuple[str, str]:
 
 def subject_told(subject: list[tuple[str, str]]) -> str:
     """A subject in one line, as openssl and stunnel have it: O=Station, CN=operator."""
-    return ', '.join(f'{name}={escaped(value)}' for name, value in subject)
+    return ', '.join(f'{name}={quoted(in_line(value))}' for name, value in subject)
 
 
-def escaped(value: str) -> str:
-    """A value with a backslash before what would end it."""
-    return SPECIAL.sub(r'\\\1', in_line(value))
+def quoted(value: str) -> str:
+    """A value, in quotes where it would not end at its end."""
+    if not SPECIAL.search(value):
+        return value
+    return '"' + re.sub(r'(["\\])', r'\\\1', value) + '"'

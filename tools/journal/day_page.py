@@ -1,0 +1,65 @@
+"""The digest of a span as a page of HTML that needs no other file."""
+from common.html_page import escaped, page, table
+from common.texts import counted
+
+from .digest import BAD, GOOD, Digest
+
+MARKS = {GOOD: '<span class="good" title="done">✓</span>',
+         BAD: '<span class="bad" title="refused, closed or lost">✕</span>'}
+STYLE = '''
+* { box-sizing: border-box }
+body { font: 14px/1.45 system-ui, "DejaVu Sans", Verdana, Arial, sans-serif; color: #14212b;
+  max-width: 1200px; margin: 0 auto; padding: 16px }
+h1 { font-size: 21px; margin: 0 } h2 { font-size: 16px; margin: 24px 0 6px;
+  border-bottom: 1px solid #c9d3da; padding-bottom: 3px }
+p { margin: 4px 0 } .quiet { color: #52626e } .warning { color: #8a4b00 }
+table { border-collapse: collapse; width: 100% }
+th, td { text-align: left; vertical-align: top; padding: 3px 12px 3px 0;
+  border-bottom: 1px solid #e3e9ed; overflow-wrap: anywhere }
+td.name { overflow-wrap: normal; white-space: nowrap; font-variant-numeric: tabular-nums }
+td.number, th.number { text-align: right; overflow-wrap: normal }
+.good { color: #1b6b2f } .bad { color: #b3261e }
+@media (max-width: 600px) { body { padding: 8px } th, td { padding-right: 6px }
+  td.name { white-space: normal } }
+@media print { tr { break-inside: avoid } thead { display: table-header-group } }
+'''
+
+
+def page_of(digest: Digest) -> str:
+    """The page of a digest."""
+    title = 'Who asked, what was refused, which links came and went'
+    parts = [f'<h1>{title}</h1>', f'<p class="quiet">{escaped(digest.span.told())}</p>',
+             *(f'<p class="warning">{escaped(it)}</p>' for it in digest.warnings()),
+             *asked(digest), *kept_out(digest), '<h2>The process</h2>',
+             f'<p>{escaped(digest.process())}</p>', *happened(digest)]
+    return page(title, STYLE, parts)
+
+
+def shown(heads: list[str], rows: list[list[object]], none: str) -> str:
+    cells = [[it if str(it).startswith('<span ') else escaped(it) for it in row] for row in rows]
+    return table(heads, cells) if rows else f'<p>{none}</p>'
+
+
+def asked(digest: Digest) -> list[str]:
+    """Who asked, and why what was refused."""
+    rows = [[it.who, it.places, it.links, it.done, it.refused] for it in digest.askers()]
+    whys = [[why, count] for why, count in digest.refusals()]
+    return ['<h2>Who asked</h2>',
+            shown(['Certificate', 'From', '#Associations', '#Done', '#Refused'], rows, 'Nobody.'),
+            '<h2>Why controls were refused</h2>', shown(['Why', '#Times'], whys, 'None was.')]
+
+
+def kept_out(digest: Digest) -> list[str]:
+    rows = [[why, hosts, count] for why, count, hosts in digest.kept_out()]
+    return ['<h2>Who was not let in</h2>', shown(['Why', 'From', '#Times'], rows, 'Nobody.')]
+
+
+def happened(digest: Digest) -> list[str]:
+    """All events."""
+    rows = digest.rows()
+    told = digest.times(rows)
+    cells = [[told(it.moment), MARKS.get(it.kind, '<span class="quiet">·</span>'),
+              it.told, it.who] for it in rows]
+    return [f'<h2>What happened <span class="quiet">({counted(len(rows), "line")})</span></h2>',
+            shown(['!Time', '', 'What', 'Who'], cells, 'Nothing.')]
+

@@ -1,0 +1,99 @@
+"""What a line says that `bayctl serve` prints or logs: USER, 'The log' and 'Serving'."""
+import re
+from collections.abc import Iterable
+from dataclasses import dataclass, replace
+
+from common.positions import WAYS
+
+from .entries import Entry
+
+OPEN, CLOSED, CONTROL, COMMAND, REFUSED = 'open', 'closed', 'control', 'command', 'refused'
+CONNECTED, LOST, LOADED, BEGUN = 'process open', 'process closed', 'loaded', 'begun'
+ENDED, CLOCK, FAULT = 'ended', 'clock', 'fault'
+TWICE = (CLOSED, REFUSED, CONNECTED, LOST)  # printed and logged
+VERDICT = r': (?P<verdict>done|refused (?P<code>\d+): (?P<words>.*))'
+# The kinds of lines that begin with a moment.
+LINES = [
+    (OPEN, r'association (?P<association>\d) open from (?P<address>[\d.]+:\d+)'),
+    (CLOSED, r'association (?P<association>\d) closed (?P<code>\d+|memory)(?:: (?P<words>.*))?'),
+    (CLOSED, r'closed (?P<association>\d) (?P<code>\d+|memory)'),
+    (CONTROL, r'association (?P<association>\d) (?P<verb>select|operate|cancel) (?P<switch>\w+)'
+              r'(?: (?P<way>on|off) orCat=(?P<category>-?\d+) orIdent=(?P<identity>.*) '
+              r'ctlNum=(?P<count>\d+))?' + VERDICT),
+    (COMMAND, r'command (?P<switch>\w+) (?P<way>on|off)'),
+    (REFUSED, r'refused (?P<code>\d+)(?:: (?P<words>.*))?'),
+    (CONNECTED, r'process open'),
+    (LOST, r'process closed (?P<code>\d+)(?:: (?P<words>.*))?'),
+    (BEGUN, r'clients on (?P<address>[\d.]+:\d+)(?P<words>, process on [\d.]+:\d+)?'),
+    (ENDED, r'(?P<words>all turns are served)'),
+    (CLOCK, r'the system\'s clock (?P<words>agrees again|is (?P<code>\d+) ms (?:ahead|behind))')]
+STAMPED = [(kind, re.compile(rf'(?P<moment>\d{{1,20}}) {pattern}', re.ASCII))
+           for kind, pattern in LINES]
+# Lines without a moment.
+BARE = [(LOADED, re.compile(r'(?P<words>instructions=\d+ depth=\d+ budget=\d+)', re.ASCII)),
+        (FAULT, re.compile(r'(?P<words>(?:bayctl: )?(?:fault (?:\d+|memory)|load refused).*)'))]
+
+
+@dataclass(frozen=True)
+class Event:
+    """What a line says. `code` is a number of closing, refusal or cause; of a clock it is the
+    difference in milliseconds."""
+    moment: int
+    source: str
+    kind: str
+    association: int | None = None
+    code: str = ''
+    words: str = ''
+    address: str = ''
+    verb: str = ''
+    switch: str = ''
+    way: str = ''
+    identity: str = ''
+
+    def is_good(self) -> bool:
+        """Whether a control was done."""
+        return not self.code
+
+    def asked(self) -> str:
+        """What a control asks, in words."""
+        way = f' {WAYS[self.way]}' if self.way else ''
+        by = f' (orIdent {self.identity})' if self.identity else ''
+        return f'{self.verb} {self.switch}{way}{by}'
+
+
+def event_of(entry: Entry, before: int) -> Event | None:
+    """What a line says, or None where bayctl does not say it. `before` is the moment of the line
+    before, for lines that have none."""
+    for kind, pattern in STAMPED:
+        if found := pattern.fullmatch(entry.text):
+            return made(entry, kind, found, int(found['moment']))
+    for kind, pattern in BARE:
+        if found := pattern.fullmatch(entry.text):
+            return made(entry, kind, found, before if entry.moment is None else entry.moment)
+    return None
+
+
+def made(entry: Entry, kind: str, found: re.Match, moment: int) -> Event:
+    parts = {name: text for name, text in found.groupdict().items()
+             if name in Event.__dataclass_fields__ and name != 'moment' and text is not None}
+    number = parts.pop('association', None)
+    event = Event(moment, entry.source, kind, **parts)
+    return event if number is None else replace(event, association=int(number))
+
+
+def told_once(events: Iterable[Event]) -> list[Event]:
+    """What is printed and logged is told once, with the words of the log."""
+    kept = list(events)
+    worded = {key_of(it) for it in kept if it.kind in TWICE and it.words}
+    found, seen = [], set()
+    for event in kept:
+        key = key_of(event)
+        if event.kind in TWICE and not event.words and (key in worded or key in seen):
+            continue
+        seen.add(key)
+        found.append(event)
+    return found
+
+
+def key_of(event: Event) -> tuple:
+    return event.source, event.moment, event.kind, event.association, event.code
