@@ -1,5 +1,6 @@
 """Pages of HTML that need no other file: their frame, tables, and texts in them."""
 import html
+from collections.abc import Iterable, Sequence
 
 from .texts import in_line
 
@@ -12,7 +13,7 @@ def code(text: object) -> str:
     return f'<code>{escaped(text)}</code>'
 
 
-def table(heads, rows, style='') -> str:
+def table(heads: Sequence[str], rows: Iterable[Sequence[str]], style: str = '') -> str:
     """A table of cells of HTML; of a head a leading # says that its column has numbers, and !
     names."""
     kinds = [{'#': ' class="number"', '!': ' class="name"'}.get(head[:1], '') for head in heads]

@@ -1,4 +1,6 @@
 """The digest of a span as a page of HTML that needs no other file."""
+from collections.abc import Sequence
+
 from common.html_page import escaped, page, table
 from common.texts import counted
 
@@ -35,8 +37,8 @@ def page_of(digest: Digest) -> str:
     return page(title, STYLE, parts)
 
 
-def shown(heads: list[str], rows: list[list[object]], none: str) -> str:
-    cells = [[it if str(it).startswith('<span ') else escaped(it) for it in row] for row in rows]
+def shown(heads: list[str], rows: Sequence[Sequence[object]], none: str) -> str:
+    cells = [[escaped(it) for it in row] for row in rows]
     return table(heads, cells) if rows else f'<p>{none}</p>'
 
 
@@ -58,8 +60,8 @@ def happened(digest: Digest) -> list[str]:
     """All events."""
     rows = digest.rows()
     told = digest.times(rows)
-    cells = [[told(it.moment), MARKS.get(it.kind, '<span class="quiet">·</span>'),
-              it.told, it.who] for it in rows]
+    cells = [[escaped(told(it.moment)), MARKS.get(it.kind, '·'), escaped(it.told),
+              escaped(it.who)] for it in rows]
     return [f'<h2>What happened <span class="quiet">({counted(len(rows), "line")})</span></h2>',
-            shown(['!Time', '', 'What', 'Who'], cells, 'Nothing.')]
+            table(['!Time', '', 'What', 'Who'], cells) if rows else '<p>Nothing.</p>']
 

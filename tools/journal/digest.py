@@ -118,9 +118,9 @@ class Digest:
         losses = [it for it in self.story.losses if self.span.meets(*it)]
         if not losses:
             return 'no process was lost'
-        away = sum(self.within(*it) for it in losses if it[1] is not None)
-        still = sum(it[1] is None for it in losses)
-        more = f', and it has not come back {counted(still, "time")}' if still else ''
+        away = sum(self.within(first, last) for first, last in losses if last is not None)
+        still = [it for it in losses if it[1] is None]
+        more = f', and it has not come back {counted(len(still), "time")}' if still else ''
         return f'a process was lost {counted(len(losses), "time")}, for {away / 1000:g} s{more}'
 
     def within(self, first: int, last: int) -> int:
@@ -192,7 +192,8 @@ def places_told(links: list[Link]) -> str:
 
 def row_of(event: Event, link: Link | None) -> Row:
     """An event in words."""
-    who = link.who() if link else ''
+    if link is None:
+        return Row(event.moment, event.source, *without_link(event))
     match event.kind:
         case lines.OPEN:
             told, kind = f'association {event.association} opened from {link.place()}', QUIET
@@ -202,11 +203,9 @@ def row_of(event: Event, link: Link | None) -> Row:
             kind = QUIET if event.code == '0' else BAD
         case lines.CONTROL if event.is_good():
             told, kind = f'{event.asked()}: done', GOOD
-        case lines.CONTROL:
-            told, kind = f'{event.asked()}: refused ({event.code}): {event.words}', BAD
         case _:
-            return Row(event.moment, event.source, *without_link(event))
-    return Row(event.moment, who, told, kind)
+            told, kind = f'{event.asked()}: refused ({event.code}): {event.words}', BAD
+    return Row(event.moment, link.who(), told, kind)
 
 
 def without_link(event: Event) -> tuple[str, str]:

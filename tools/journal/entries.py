@@ -84,30 +84,34 @@ def local(text: str, form: str) -> int | None:
         return None
 
 
-def of_iso(found: re.Match, now: int) -> int | None:
+def of_iso(found: re.Match[str], now: int) -> int | None:
     """A time such as 2026-11-28T10:00:00+0100."""
-    text = re.sub(r'([+-]\d\d)(\d\d)$', r'\1:\2', found['iso'].replace(',', '.'))
+    return zoned(re.sub(r'([+-]\d\d)(\d\d)$', r'\1:\2', found['iso'].replace(',', '.')))
+
+
+def zoned(text: str) -> int | None:
+    """The moment of a time with its zone, as ISO 8601 has it."""
     try:
         return round(datetime.datetime.fromisoformat(text).timestamp() * 1000)
     except (ValueError, OverflowError):
         return None
 
 
-def of_full(found: re.Match, now: int) -> int | None:
+def of_full(found: re.Match[str], now: int) -> int | None:
     """A time such as Sat 2026-11-28 10:00:00 UTC; of other zones the time is that of here."""
     form = '%Y-%m-%d %H:%M:%S'
     if found['zone'] != 'UTC':
         moment = local(found['full'], form)
     else:
-        moment = of_iso(re.match('(?P<iso>.*)', found['full'].replace(' ', 'T') + '+00:00'), now)
+        moment = zoned(found['full'].replace(' ', 'T') + '+00:00')
     return moment if moment is None else moment + thousandths(found['part'])
 
 
-def of_unix(found: re.Match, now: int) -> int:
+def of_unix(found: re.Match[str], now: int) -> int:
     return int(float(found['unix']) * 1000)
 
 
-def of_short(found: re.Match, now: int) -> int | None:
+def of_short(found: re.Match[str], now: int) -> int | None:
     """A time such as Nov 28 10:00:00: the last one that is not past tomorrow."""
     if found['month'] not in MONTHS:
         return None

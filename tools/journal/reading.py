@@ -1,7 +1,8 @@
 """Reads logs: files or standard input, each line by whom it is of, in the order of their times."""
+import io
 import sys
 from collections.abc import Iterator
-from dataclasses import dataclass, field
+from dataclasses import dataclass, field, replace
 
 from common.ending import Failed
 
@@ -31,8 +32,9 @@ class Read:
 def lines_of(path: str) -> Iterator[str]:
     """The lines of a file, or of standard input for -."""
     if path == '-':
-        sys.stdin.reconfigure(errors='backslashreplace')
-        yield from sys.stdin
+        text = io.TextIOWrapper(sys.stdin.buffer, 'utf-8', 'backslashreplace')
+        yield from text
+        text.detach()
         return
     with open(path, encoding='utf-8', errors='backslashreplace') as file:
         yield from file
@@ -51,7 +53,8 @@ def read(paths: list[str], also: list[str]) -> Read:
 def take(found: Read, entries: Iterator[Entry], also: set[str]) -> None:
     """Takes the lines of one file. A line without a moment has that of the line before; what is
     printed of a load that of the line behind."""
-    before, waiting = 0, []
+    before: int = 0
+    waiting: list[Event] = []
     for entry in entries:
         if found.door.takes(entry):
             continue
@@ -59,13 +62,12 @@ def take(found: Read, entries: Iterator[Entry], also: set[str]) -> None:
         if event is None:
             take_other(found, entry, also)
         elif event.kind == LOADED and entry.moment is None:
-            waiting.append(entry)
+            waiting.append(event)
         else:
             before = event.moment
-            found.events += [event_of(it, before) for it in waiting]
-            found.events.append(event)
+            found.events += [replace(it, moment=before) for it in waiting] + [event]
             waiting = []
-    found.events += [event_of(it, before) for it in waiting]
+    found.events += waiting
 
 
 def take_other(found: Read, entry: Entry, also: set[str]) -> None:

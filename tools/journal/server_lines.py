@@ -1,7 +1,7 @@
 """What a line says that `bayctl serve` prints or logs: USER, 'The log' and 'Serving'."""
 import re
 from collections.abc import Iterable
-from dataclasses import dataclass, replace
+from dataclasses import dataclass
 
 from common.positions import WAYS
 
@@ -73,12 +73,16 @@ def event_of(entry: Entry, before: int) -> Event | None:
     return None
 
 
-def made(entry: Entry, kind: str, found: re.Match, moment: int) -> Event:
-    parts = {name: text for name, text in found.groupdict().items()
-             if name in Event.__dataclass_fields__ and name != 'moment' and text is not None}
-    number = parts.pop('association', None)
-    event = Event(moment, entry.source, kind, **parts)
-    return event if number is None else replace(event, association=int(number))
+def made(entry: Entry, kind: str, found: re.Match[str], moment: int) -> Event:
+    parts = {name: text for name, text in found.groupdict().items() if text is not None}
+    number = parts.get('association')
+
+    def part(name: str) -> str:
+        return parts.get(name, '')
+
+    return Event(moment, entry.source, kind, int(number) if number else None, part('code'),
+                 part('words'), part('address'), part('verb'), part('switch'), part('way'),
+                 part('identity'))
 
 
 def told_once(events: Iterable[Event]) -> list[Event]:
@@ -95,5 +99,5 @@ def told_once(events: Iterable[Event]) -> list[Event]:
     return found
 
 
-def key_of(event: Event) -> tuple:
+def key_of(event: Event) -> tuple[object, ...]:
     return event.source, event.moment, event.kind, event.association, event.code

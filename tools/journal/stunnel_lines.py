@@ -94,13 +94,11 @@ class Door:
             one = Connection(source, found['service'], moment, found['address'])
             self.connections.append(one)
             self.current[source, number] = one
-            return
-        one = self.current.get((source, number))
-        if one is not None:
-            told(one, moment, text)
+        elif (source, number) in self.current:
+            told(self.current[source, number], moment, text)
 
 
-def noted(moment: int, found: re.Match) -> list[Note]:
+def noted(moment: int, found: re.Match[str]) -> list[Note]:
     """What a line says of stunnel itself: that it starts or ends, and errors of its own."""
     told = next((words for pattern, words in OWN if pattern.match(found['text'])), '')
     if told:

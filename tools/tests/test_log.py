@@ -259,7 +259,9 @@ class Logs(Tools):
                      'certificate revoked; it showed a certificate of O=Station, CN=old'):
             self.assertIn(told, text)
         self.assertNotIn('<b>', text)
-        self.assertNotIn('http', text)
+        line = f'{utc(START):%Y-%m-%dT%H:%M:%S+0000} box odd[1]: <span class="x">\n'
+        self.told('-', '--also', 'odd', '--html', out, given=line)
+        self.assertIn('&lt;span class=&quot;x&quot;&gt;', out.read_text())
         empty = self.told(*self.both(), '--html', out, '--day', '2026-11-01')
         self.assertEqual(out.read_text().count('Nobody.'), 2, empty)
 
@@ -334,7 +336,8 @@ class Lines(unittest.TestCase):
 
     def test_lines_that_are_none(self):
         for line in ('', 'x', '5', '5 scan steps=1', '5 association 1', '5 command QA1 up',
-                     'x 5 process open', '٥ process open', '5 closed 1', '9' * 21 + ' process open'):
+                     'x 5 process open', '٥ process open', '5 closed 1',
+                     '9' * 21 + ' process open'):
             self.assertIsNone(event_of(Entry(line), 0), line)
 
     def test_lines_without_a_moment(self):
