@@ -31,7 +31,10 @@ MEANINGS = {'peer did not return a certificate': 'it showed no certificate',
             'unknown protocol': 'it speaks no TLS',
             'no shared cipher': 'it has no cipher in common',
             'unexpected eof while reading': 'it went away within the handshake',
-            'certificate verify failed': 'its certificate was not taken'}
+            'certificate verify failed': 'its certificate was not taken',
+            **dict.fromkeys(('tlsv1 alert unknown ca', 'sslv3 alert bad certificate',
+                             'sslv3 alert certificate unknown', 'sslv3 alert certificate expired'),
+                            'it does not take the certificate of this server')}
 
 
 @dataclass
