@@ -19,8 +19,8 @@ from wire.client import Client
 from wire.guarded import Door, authority_in, missing, tls_of, words_of
 from wire.served import PATIENCE, Running, Server, until, value
 
-from .packets import packets
 from .panels import SERVED, TOOLS, Page, gear
+from .reachable import packets
 
 BAY, LOGIC = SERVED / 'bay.toml', SERVED / 'logic.il'
 CLOSED, QA1 = '10', 'XCBR1$ST$Pos$stVal'

@@ -132,8 +132,10 @@ def trust(context: ssl.SSLContext, path: str) -> None:
 
 
 def connected(host: str, port: int, timeout: float, tls: Tls | None = None) -> socket.socket:
-    """A connection to a server, by TLS where that is given."""
+    """A connection to a server, by TLS where that is given. What is written goes out at once: else
+    the first request would wait for the acknowledgement of a handshake of TLS 1.3."""
     plain = socket.create_connection((host, port), timeout)
+    plain.setsockopt(socket.IPPROTO_TCP, socket.TCP_NODELAY, 1)
     return tls.over(plain, host) if tls else plain
 
 

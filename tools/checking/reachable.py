@@ -1,6 +1,6 @@
-"""The nftables table of examples/networked: that its syntax is right, and, in a network namespace of
-its own, that it lets only its users reach the two ports. As a program this module is what runs in
-the namespace: python3 -m checking.packets FILE."""
+"""The nftables table of examples/networked: its syntax is right, and, in a network namespace of its
+own, it lets only its users reach the two ports. As a program this module is what runs in
+the namespace: python3 -m checking.reachable FILE."""
 import os
 import pathlib
 import re
@@ -44,7 +44,7 @@ def packets(checks) -> None:
         print('left out, since there may be no network namespace: who reaches the ports')
         return
     path = checks.file('bay.nft', text)
-    done = subprocess.run(['unshare', '--net', sys.executable, '-B', '-m', 'checking.packets',
+    done = subprocess.run(['unshare', '--net', sys.executable, '-B', '-m', 'checking.reachable',
                            path], cwd=TOOLS, capture_output=True, text=True, timeout=60)
     said = dict(line.rsplit(' ', 1) for line in done.stdout.splitlines())
     for user in (0, *USERS.values(), NEITHER):
