@@ -17,9 +17,9 @@ h1 { font-size: 21px; margin: 0 } h2 { font-size: 16px; margin: 24px 0 6px;
 p { margin: 4px 0 } .quiet { color: #52626e } .warning { color: #8a4b00 }
 table { border-collapse: collapse; width: 100% }
 th, td { text-align: left; vertical-align: top; padding: 3px 12px 3px 0;
-  border-bottom: 1px solid #e3e9ed; overflow-wrap: anywhere }
-td.name { overflow-wrap: normal; white-space: nowrap; font-variant-numeric: tabular-nums }
-td.number, th.number { text-align: right; overflow-wrap: normal }
+  border-bottom: 1px solid #e3e9ed; overflow-wrap: break-word }
+td.name { white-space: nowrap; font-variant-numeric: tabular-nums }
+td.number, th.number { text-align: right }
 .good { color: #1b6b2f } .bad { color: #b3261e }
 @media (max-width: 600px) { body { padding: 8px } th, td { padding-right: 6px }
   td.name { white-space: normal } }

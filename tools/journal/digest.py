@@ -222,6 +222,8 @@ def without_link(event: Event) -> tuple[str, str]:
             return f'the process is lost ({event.code}){why}', BAD
         case lines.BEGUN:
             return f'the server listens: clients on {event.address}{event.words}', QUIET
+        case lines.LOADED:
+            return f'the bay and its program are loaded{why}', QUIET
         case lines.CLOCK:
             return f'the system\'s clock {event.words}', BAD if event.code else QUIET
         case lines.FAULT:

@@ -92,6 +92,7 @@ The process
   a process was lost 1 time, for 1.25 s
 
 What happened
+  10:00:00.000  the bay and its program are loaded: instructions=14 depth=2 budget=14
   10:00:00.000  the server listens: clients on 127.0.0.1:10102, process on 127.0.0.1:10103
   10:00:00.000  [from 10.0.0.7] not let in: it showed no certificate
   10:00:00.000  stunnel starts
@@ -172,10 +173,7 @@ class Logs(Tools):
 
     def test_files(self):
         found = self.told(*self.both())
-        lines = found.out.splitlines(keepends=True)
-        self.assertIn('instructions=14 depth=2 budget=14', found.out)
-        self.assertEqual([it for it in lines if 'instructions' not in it],
-                         TOLD.splitlines(keepends=True))
+        self.assertEqual(found.out, TOLD)
         self.assertEqual(found.error, '')
 
     def test_the_journal_in_each_format(self):

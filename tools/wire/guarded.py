@@ -1,4 +1,4 @@
-"""stunnel before a served bay, for checks and benches: the configuration of examples/networked, with
+"""stunnel before a served bay, for checks and benches: the configuration of examples/networked with
 ports and files of their own, and the certificates of a small authority."""
 import pathlib
 import re
