@@ -229,7 +229,8 @@ def all_of(checks) -> None:
     checks.goes(packets)
     absent = missing()
     if absent:
-        print(f'left out, since {" and ".join(absent)} is not installed: a bay behind stunnel')
+        are = 'is' if len(absent) == 1 else 'are'
+        print(f'left out, since {" and ".join(absent)} {are} not installed: a bay behind stunnel')
         return
     for part in (let_in, revoked):
         checks.goes(part)

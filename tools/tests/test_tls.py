@@ -3,6 +3,7 @@ authority; servers that are none; and whose a certificate is."""
 import pathlib
 import socket
 import ssl
+import struct
 import subprocess
 import sys
 import time
@@ -89,7 +90,24 @@ class Clients(Tools):
                     self.knock(port, most)
             found = self.call_tool('client', '--timeout', 3, port, 'browse')
         self.assertEqual(found.status, 3)
-        self.assertRegex(found.error, 'needs --tls|Connection reset|closed the connection')
+        self.assertRegex(found.error, 'needs --tls|closed the connection')
+
+    def test_a_connection_that_is_reset(self):
+        def reset(connection):
+            connection.setsockopt(socket.SOL_SOCKET, socket.SO_LINGER, struct.pack('ii', 1, 0))
+
+        server = served(reset)
+        found = self.call_tool('client', '--timeout', 3, server.getsockname()[1], 'browse')
+        server.close()
+        self.assertRegex(found.error, 'Connection reset by peer|Broken pipe|closed')
+        self.assertEqual((found.status, found.error.count('\n')), (3, 1))
+
+    def test_an_alert_of_tls(self):
+        server = served(lambda connection: connection.sendall(b'\x15\x03\x01\0\2\2\x46'))
+        found = self.call_tool('client', '--timeout', 3, server.getsockname()[1], 'browse')
+        server.close()
+        self.assertIn('it answers with an alert of TLS: this is a port of TLS, which needs --tls',
+                      found.error)
 
     def knock(self, port, most):
         """A client that breaks the rules of ours."""

@@ -82,10 +82,10 @@ class Client:
             self.send(stream.connection_request())
             return self.first_answer()
         except (ConnectionError, ssl.SSLEOFError) as error:
+            what = f'port {self.port} of {self.host}'
             if self.tls is None:
-                raise
-            raise Lost(f'port {self.port} of {self.host}: '
-                       f'{refusal_in(self.socket, error)}') from None
+                raise Lost(f'{what}: {unconnected(error)}: a port of TLS needs --tls') from None
+            raise Lost(f'{what}: {refusal_in(self.socket, error)}') from None
 
     def first_answer(self) -> stream.Got:
         """The answer to the connection request. A server with eight associations takes no other

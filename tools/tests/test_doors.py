@@ -1,0 +1,79 @@
+"""What examples/networked ships, and how checks use it, without stunnel and nftables."""
+import contextlib
+import io
+import pathlib
+import re
+import sys
+import unittest
+from unittest import mock
+
+TOOLS = pathlib.Path(__file__).resolve().parent.parent
+sys.path.insert(0, str(TOOLS))
+from checking import doors, reachable
+from wire import guarded
+from wire.tls import CIPHERS
+
+PAGE = TOOLS.parent / 'examples' / 'networked' / 'README.md'
+
+
+class Shipped(unittest.TestCase):
+    CONFIGURATION = guarded.CONFIGURATION.read_text(encoding='utf-8')
+
+    def setting(self, name):
+        found = re.findall(rf'(?m)^{name} = (.*)$', self.CONFIGURATION)
+        self.assertEqual(len(found), 1, name)
+        return found[0]
+
+    def test_what_keeps_strangers_out(self):
+        """Each of these lines off, and somebody is let in whom the page says is kept out."""
+        for name, value in (('verifyChain', 'yes'), ('sslVersionMin', 'TLSv1.2'),
+                            ('sessionResume', 'no'), ('renegotiation', 'no'),
+                            ('setuid', 'stunnel4'), ('accept', '3782'),
+                            ('connect', '127.0.0.1:10102'), ('debug', 'notice')):
+            self.assertEqual(self.setting(name), value)
+        self.assertTrue(self.setting('CAfile') and self.setting('CRLfile'))
+        self.assertEqual(self.setting('ciphers'), CIPHERS)
+
+    def test_the_table_has_the_ports_of_the_configuration(self):
+        table = reachable.TABLE.read_text(encoding='utf-8')
+        ports = dict(re.findall(r'(?m)^define (\w+)_port = (\d+)$', table))
+        self.assertEqual(ports, {name: str(port) for name, port in reachable.PORTS.items()})
+        self.assertTrue(self.setting('connect').endswith(f':{ports["clients"]}'))
+        self.assertIn(f'define clients = {{ {self.setting("setuid")} }}', table)
+
+    def test_the_page_has_ten_lines(self):
+        """Each with its command."""
+        part = PAGE.read_text(encoding='utf-8').partition('## Before it goes into a network')[2]
+        lines = re.split(r'(?m)^(?=\d+\. )', part.partition('\n## ')[0])[1:]
+        self.assertEqual([int(it.partition('.')[0]) for it in lines], list(range(1, 11)))
+        for line in lines:
+            self.assertRegex(line, r'\n\n {7,8}\S')
+
+
+class Used(unittest.TestCase):
+    def test_other_values(self):
+        text = guarded.configured({'accept': '7', 'CRLfile': '/x y\\1'})
+        self.assertIn('\naccept = 7\n', text)
+        self.assertIn('\nCRLfile = /x y\\1\n', text)
+        self.assertNotIn('setuid', text)
+        self.assertEqual(text.count('verifyChain = yes'), 1)
+        with self.assertRaisesRegex(ValueError, 'verify does not stand there'):
+            guarded.configured({'verify': '2'})
+
+    def test_users_that_need_not_exist(self):
+        text = reachable.with_users(reachable.TABLE.read_text(encoding='utf-8'))
+        self.assertNotRegex(text, r'(?m)^define .*\{ [a-z]')
+        with self.assertRaisesRegex(ValueError, 'no one line `define clients`'):
+            reachable.with_users('')
+
+    def test_what_is_not_installed_is_told(self):
+        with mock.patch('shutil.which', lambda name: None), \
+                contextlib.redirect_stdout(io.StringIO()) as told:
+            doors.all_of(mock.Mock(goes=lambda part: part(None)))
+        self.assertEqual(told.getvalue(), (
+            'left out, since nftables is not installed or may not be asked: who reaches the ports\n'
+            'left out, since openssl and stunnel are not installed: a bay behind stunnel\n'))
+
+
+if __name__ == '__main__':
+    unittest.main()
