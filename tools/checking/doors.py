@@ -107,9 +107,9 @@ def let_in(checks) -> None:
     """Clients with a certificate read and operate; nobody else reaches the bay; the log tells."""
     with guarded(checks, 'doors') as it:
         reads(checks, it)
-        before = it.opens()
+        first = it.opens()
         for name, context, octets in strangers(it.authority, it.other):
-            answer = knock(it.door.port, context(), octets)
+            before, answer = it.opens(), knock(it.door.port, context(), octets)
             checks.holds(f'a client {name} is answered', answer in (b'', alert(answer)),
                          f'{answer!r}')
             time.sleep(0.1)
@@ -117,7 +117,7 @@ def let_in(checks) -> None:
                          it.server.printed())
         time.sleep(SETTLED)
         checks.holds('a client without a certificate that counts reaches the bay',
-                     it.opens() == before, it.server.printed())
+                     it.opens() == first, it.server.printed())
         in_its_words(checks, it)
         logged(checks, it)
         shown(checks, it)
