@@ -40,7 +40,8 @@ def packets(checks) -> None:
         return
     done = checked('nft', '-c', '-f', '-', given=text)
     checks.holds('the table of nftables is refused', done.returncode == 0, done.stderr)
-    if checked('unshare', '--net', 'nft', 'list', 'tables').returncode:
+    if not all(map(shutil.which, ('unshare', 'ip'))) or checked(
+            'unshare', '--net', 'nft', 'list', 'tables').returncode:
         print('left out, since there may be no network namespace: who reaches the ports')
         return
     path = checks.file('bay.nft', text)

@@ -85,7 +85,7 @@ class Clients(Tools):
     def test_none(self):
         """Without one, in the clear, and by TLS 1.1."""
         with door(self.fail, door_context()) as port:
-            for most in (None, ssl.TLSVersion.TLSv1_1):
+            for most in (None, *[ssl.TLSVersion.TLSv1_1] * ssl.HAS_TLSv1_1):
                 with self.assertRaises(ssl.SSLError):
                     self.knock(port, most)
             found = self.call_tool('client', '--timeout', 3, port, 'browse')
@@ -128,6 +128,8 @@ class Clients(Tools):
         self.refused(files(trusted='b'), 'the server\'s certificate is not taken: ')
         self.refused([*files(), '--server-name', 'bay-e06'],
                      'certificate is not valid for \'bay-e06\'')
+        if not ssl.HAS_TLSv1_1:
+            return
         with warnings.catch_warnings():
             warnings.simplefilter('ignore')
             old = door_context(ssl.TLSVersion.TLSv1, ssl.TLSVersion.TLSv1_1)
