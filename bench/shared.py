@@ -138,6 +138,19 @@ def started(words: list, **more) -> Iterator[subprocess.Popen]:
         child.wait()
 
 
+def text_named(name: str) -> str:
+    """The text of a constant of the stored session."""
+    session = text_of(CRATES / 'bay_tests' / 'src' / 'session.rt')
+    found = re.search(rf'const {name}: &str =\s*"(.*)";', session)
+    return found[1].encode().decode('unicode_escape')
+
+
+def messages() -> str:
+    """The session's three questions, each with its answer, in hexadecimal digits."""
+    names = ('REQUEST', 'CONFIRM', 'CONNECT', 'CONNECTED', 'IDENTIFY', 'IDENTITY')
+    return ''.join(text_named(name) + '\n' for name in names)
+
+
 def processor_seconds(child: subprocess.Popen) -> float:
     """The processor's seconds that a running program has taken."""
     ticks = text_of(f'/proc/{child.pid}/stat').rpartition(')')[2].split()[11:13]
