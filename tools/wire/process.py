@@ -1,17 +1,28 @@
 """The process' side of a supervised port: the greeting and its answer, the server's time as the
 process knows it, that both sides live, and how old a command may be."""
+import math
 import pathlib
 import re
 import time
 from dataclasses import dataclass
 
-from common.ending import Failed
+from common.ending import FOUND, Failed
 
 NO_KEY = '-'
 KEY = re.compile(rb'([0-9A-Fa-f]{32,64})(?:\r?\n)?')
 MOMENT = re.compile(r'[0-9]{1,20}', re.ASCII)
 SHARE = 4  # of the server's limit is a pause between two `alive`
 SLOWER = 0.99  # of the time that passes a server's clock goes on at least
+DEMANDED = 5  # seconds for the greeting of a server that has taken the connection
+
+
+class Different(Failed):
+    """A server that is not the one of this process."""
+    status = FOUND
+
+
+class Silent(ConnectionError):
+    """A server that says no longer that it lives."""
 
 
 @dataclass(frozen=True)
@@ -35,6 +46,27 @@ def greeting_of(line: str) -> Greeting | None:
             if MOMENT.fullmatch(moment) and MOMENT.fullmatch(limit) and int(limit):
                 return Greeting(int(moment), int(limit), domain, revision)
     return None
+
+
+def same_bay(greeting: Greeting, port: int, domain: str, revision: str) -> None:
+    """Ends the tool where the server has another bay than the bay file."""
+    if (greeting.domain, greeting.revision) != (domain, revision):
+        raise Different(f'port {port}: the server has bay {greeting.domain}, revision '
+                        f'{greeting.revision}, the bay file {domain}, {revision}')
+
+
+def ungreeted(port: int) -> Different:
+    """What is said of a server that does not greet."""
+    return Different(f'port {port}: the server does not greet: it is no supervised port')
+
+
+def untimely(age: int, oldest: float) -> str:
+    """Why a command of this age in milliseconds is not carried out, or nothing."""
+    if age > oldest:
+        return f'it is {age:,} ms old'
+    if age < -oldest:
+        return f'its time is {-age:,} ms ahead of this machine\'s clock'
+    return ''
 
 
 def key_of(path: str) -> str:
@@ -79,7 +111,11 @@ class ServerClock:
         self.moment, self.since = max(moment, least), time.monotonic()
 
     def now(self) -> int:
-        return self.moment + int(self.passed())
+        return self.at(time.monotonic())
+
+    def at(self, then: float) -> int:
+        """The server's time at a moment of the monotonic clock."""
+        return self.moment + math.floor((then - self.since) * 1000)
 
 
 class Life:
@@ -108,3 +144,7 @@ class Life:
     def is_silent(self) -> bool:
         """Whether the server has not said so for too long."""
         return time.monotonic() - self.heard > self.limit
+
+    def silence(self) -> Silent:
+        """What is said of such a server."""
+        return Silent(0, f'the server has not said for {self.limit * 1000:.0f} ms that it lives')
