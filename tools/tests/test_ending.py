@@ -80,7 +80,9 @@ class Statuses(Tools):
         return {'audit': [bay, logic, rules, *asked], 'client': ['--bay', bay, 1, 'browse'],
                 'panel': ['--bay', bay, 1], 'scl': [bay], 'explain': [path, *asked],
                 'simulate': [bay, '--process', 1, '--once'], 'timeline': [path, *asked],
-                'diagnose': ['--bay', bay, '--trace', bay, *asked]}
+                'diagnose': ['--bay', bay, '--trace', bay, *asked],
+                'modbus': ['--bay', bay, '--wiring', bay, '--check'],
+                'gpio': ['--bay', bay, '--wiring', bay, '--check']}
 
     def test_bays_that_can_not_be_read(self):
         for odd in ('a = ' + '9' * 5000, 'a = ' + '[' * 5000, '[bay', '', 'switch = [5]\n',
