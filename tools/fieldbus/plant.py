@@ -1,4 +1,5 @@
-"""Switches behind simulated modules: what coils and hands do to them, and what contacts then say."""
+"""Switches behind simulated modules: what coils and hands do to them, and what their contacts then
+say."""
 import time
 from collections.abc import Callable
 

@@ -1,16 +1,17 @@
-"""A table of a wiring's terminals, as a commissioning sheet needs it: as text, and as a page of HTML
-that needs no other file."""
+"""A table of a wiring's terminals, as a commissioning sheet needs it: as text, and as a page of
+HTML that needs no other file."""
 import html
 from dataclasses import dataclass
 
 from common.texts import counted, in_line
 
 from .bus import Bus
-from .wiring import Contact, Module, Switch
+from .wiring import WHOLE, Contact, Module, Switch
 
 # The digit that a table of Modbus has before the numbers from 1 that makers print (six digits).
 TABLES = {'coil': '0', 'contact': '1', 'register': '3'}
 HEADS = ('Number', 'Reference', 'Terminal', 'Of the bay', 'What it does')
+CLASSES = ('number', 'reference', 'terminal', 'name', 'told')
 STYLE = '''
 @page { size: A4; margin: 14mm 12mm }
 * { box-sizing: border-box }
@@ -22,12 +23,19 @@ p { margin: 1.5mm 0 } .wide { overflow-x: auto }
 table { border-collapse: collapse; width: 100% } tr { break-inside: avoid }
 th, td { text-align: left; vertical-align: top; padding: 1.2mm 2mm 1.2mm 0;
   border-bottom: 1px solid #ccc } thead { display: table-header-group }
-.number { text-align: right; padding-right: 4mm; white-space: nowrap }
-.name { white-space: nowrap; font-weight: bold } .quiet { color: #555 }
+.number { text-align: right; padding-right: 4mm }
+.number, .reference, .terminal, .name { white-space: nowrap } .name { font-weight: bold }
+.quiet { color: #555 }
 .box { display: inline-block; width: 4mm; height: 4mm; border: 1px solid #555 }
 .sign td { height: 14mm; border: 1px solid #777; padding: 1mm 2mm; width: 33% }
 .sign { break-inside: avoid; margin-top: 6mm }
-@media (max-width: 600px) { body { padding: 3mm; font-size: 9pt } }
+@media screen and (max-width: 600px) {
+  body { padding: 3mm } .terminals, .terminals tbody { display: block } thead { display: none }
+  .terminals tr { display: grid; grid-template-columns: 3em 5em 1fr auto;
+    border-bottom: 1px solid #ccc; padding: 1mm 0 }
+  .terminals td { border: 0; padding: 0.3mm 2mm 0.3mm 0 }
+  .name, .told { grid-column: 1 / 4 } .tried { grid-column: 4; grid-row: 1 }
+}
 @media print { body { padding: 0; max-width: none; font-size: 9pt } }
 '''
 
@@ -77,10 +85,11 @@ def rows_of(module: Module) -> list[Row]:
     for one in module.measures:
         order = f', {"low" if one.low_first else "high"} word first' if one.words() == 2 else ''
         offset = f' {one.offset:+g}' if one.offset else ''
+        valid = ('' if one.valid == WHOLE else
+                 f', good from {one.valid[0]:,.10g} to {one.valid[1]:,.10g}')
+        differs = f', told where it differs by more than {one.deadband:,}' if one.deadband else ''
         found.append(Row('register', one.at, f'{one.meter} {one.field}',
-                         f'{one.kind}{order}, times {one.scale:g}{offset}, good from '
-                         f'{one.valid[0]:,.10g} to {one.valid[1]:,.10g}, told where it differs by '
-                         f'more than {one.deadband:,}'))
+                         f'{one.kind}{order}, times {one.scale:g}{offset}{valid}{differs}'))
     if module.counter is not None:
         found.append(Row('register', module.counter, 'its counter',
                          'must change, or all of the module is bad'))
@@ -141,15 +150,15 @@ def escaped(text: str) -> str:
 
 def table(module: Module, bus: Bus) -> str:
     """The table of a module, with a box to tick for each terminal that was tried."""
-    heads = ''.join(f'<th{" class=number" if at == 0 else ""}>{name}</th>'
+    heads = ''.join(f'<th class="{CLASSES[at]}">{name}</th>'
                     for at, name in enumerate(HEADS) if at != 1 or bus.references)
     lines = []
     for row in rows_of(module):
-        classes = ('number', 'number', '', 'name', '')
-        shown = ''.join(f'<td class="{classes[at]}">{escaped(cell)}</td>'
+        shown = ''.join(f'<td class="{CLASSES[at]}">{escaped(cell)}</td>'
                         for at, cell in enumerate(cells(row, bus)) if at != 1 or bus.references)
-        lines.append(f'<tr>{shown}<td><span class="box"></span></td></tr>')
-    return (f'<div class="wide"><table><thead><tr>{heads}<th>Tried</th></tr></thead><tbody>\n'
+        lines.append(f'<tr>{shown}<td class="tried"><span class="box"></span></td></tr>')
+    return ('<div class="wide"><table class="terminals">\n'
+            f'<thead><tr>{heads}<th>Tried</th></tr></thead><tbody>\n'
             + '\n'.join(lines) + '\n</tbody></table></div>')
 
 

@@ -16,6 +16,7 @@ WAYS = ('open', 'close')
 LONGEST_POLL, LONGEST_ANSWER, LONGEST_DOUBT, LONGEST_HOLD = 60_000, 10_000, 600_000, 10_000
 SHORTEST_PULSE = 10  # ms
 MOST = 2 ** 31 - 1  # of a measured value
+WHOLE = (-MOST - 1, MOST)
 
 
 @dataclass(frozen=True)
@@ -229,7 +230,7 @@ class Reading:
                         table.whole('register', 0, self.bus.highest + 1 - TYPES[kind][0]), kind,
                         order == ORDERS[1], table.number('scale', 1), table.number('offset', 0),
                         table.whole('deadband', 0, MOST, 0),
-                        table.span('valid') or (-MOST - 1, MOST))
+                        table.span('valid') or WHOLE)
         if not found.scale:
             raise table.wrong('scale is 0: write what one of the register stands for', 'scale')
         table.ends()

@@ -336,6 +336,8 @@ class Traces(unittest.TestCase):
 
     def test_examples(self):
         for path in EXAMPLES:
+            if not (path.parent / 'trace').exists():
+                continue  # (its process is a driver)
             octets, file = (path.parent / 'trace').read_bytes(), tomllib.loads(path.read_text())
             found = list(trace.troubles(octets, file))
             self.assertLessEqual({it.told.split(' ')[0] for it in found if it.code == 120},

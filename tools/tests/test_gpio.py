@@ -79,7 +79,8 @@ class FakeKernel:
 
     def request(self, descriptor, data):
         assert len(data) == 592
-        count, flags = struct.unpack_from('=I', data, 560)[0], struct.unpack_from('=Q', data, 288)[0]
+        (count,), (flags,) = (struct.unpack_from('=I', data, 560),
+                              struct.unpack_from('=Q', data, 288))
         lines = struct.unpack_from(f'={count}I', data, 0)
         if set(lines) & {one for taken in self.taken.values() for one in taken}:
             raise OSError(errno.EBUSY, os.strerror(errno.EBUSY))
@@ -157,7 +158,7 @@ class Chips(unittest.TestCase):
             self.kernel.is_broken = False
             with self.assertRaisesRegex(ModuleFault, 'it has 32 lines, and line 32 is wired'):
                 await self.link((32,)).open()
-            with self.assertRaisesRegex(ModuleFault, '65 lines of one kind, and a request takes 64'):
+            with self.assertRaisesRegex(ModuleFault, '65 lines of one kind, and a request takes'):
                 await self.link(range(65)).open()
             self.assertEqual(self.kernel.taken, {})
 

@@ -280,10 +280,9 @@ id = "M1"
         found = self.call_tool('modbus', *self.wired(), '--check')
         self.assertEqual((found.status, found.error), (0, ''))
         for line in ('       2  000003     coil            QC1 magnet',
-                     '       1  100002     discrete input  QA1 closed     QA1 is closed: TRUE at 1, '
-                     'counts once it has stood for 20 ms',
-                     '       0  300001     input register  M1 AA          int16, times 1, good from '
-                     '-2,147,483,648 to 2,147,483,647, told where it differs by more than 0',
+                     '       1  100002     discrete input  QA1 closed     QA1 is closed: TRUE at '
+                     '1, counts once it has stood for 20 ms',
+                     '       0  300001     input register  M1 AA          int16, times 1',
                      '1 module, 2 switches, 1 input, 1 measure: 10 terminals'):
             self.assertIn(line, found.out)
 
