@@ -4,6 +4,7 @@ import time
 from collections.abc import Callable
 
 from common.texts import raised
+from wire.process import Different
 
 from .bus import CLOSED as CONNECTION_CLOSED
 from .bus import ModuleFault, ModuleRefused
@@ -32,7 +33,9 @@ class Driver:
         self.told: dict[Point, Value] = {}
         self.releases: dict[str, tuple[bool, bool]] = {}
         self.pulses: dict[str, tuple[Pulse, asyncio.Task[None]]] = {}
-        process.taken, process.hear, process.lost = self.taken, self.hear, self.lost
+        self.broken = asyncio.Event()
+        process.taken, process.hear = self.taken, self.hear
+        process.lives, process.lost = self.lives, self.lost
         for unit in self.units.values():
             found = unit.sampled.forget()
             self.known |= found
@@ -58,10 +61,32 @@ class Driver:
 
     def taken(self) -> None:
         self.told.clear()
+        self.check_pace()
         self.publish()
         if any(one.magnet is not None for one in self.switches.values()):
             number = self.process.number
             asyncio.get_running_loop().call_later(UNTOLD, self.misses_releases, number)
+
+    def check_pace(self) -> None:
+        """What is known of a module is never older than the server lets a word of its process
+        be."""
+        limit = self.process.limit
+        for unit in self.units.values():
+            oldest = unit.module.every + unit.module.timeout
+            if oldest > limit:
+                raise Different(
+                    f'module {unit.module.name}: poll_ms and timeout_ms come to '
+                    f'{1000 * oldest:,.0f}, and the server takes no word older than '
+                    f'{1000 * limit:,.0f} ms: write less, or give --supervise more')
+
+    def lives(self) -> None:
+        """The process is about to say that it lives: whatever happens to the reading of a module,
+        none that was not read in time is good."""
+        now = time.monotonic()
+        for unit in self.units.values():
+            if unit.is_ready and not unit.is_fresh(now):
+                self.fail(unit, ModuleFault(
+                    f'it was not read for {1000 * (now - unit.heard_at):.0f} ms'))
 
     def misses_releases(self, number: int) -> None:
         if number == self.process.number and self.process.clock and not self.releases:
@@ -103,7 +128,15 @@ class Driver:
         if why or pulse is None:
             self.say(f'{command.switch} {WAYS[command.way][0]} is not carried out: {why}')
         else:
-            self.pulses[command.switch] = pulse, asyncio.ensure_future(pulse.run(self.fails))
+            task = asyncio.ensure_future(pulse.run(self.fails))
+            task.add_done_callback(self.pulse_ended)
+            self.pulses[command.switch] = pulse, task
+
+    def pulse_ended(self, task: asyncio.Task[None]) -> None:
+        """A fault of this program within a pulse ends it, with all coils off."""
+        if not task.cancelled() and (error := task.exception()):
+            self.say(f'a fault of this tool itself: {type(error).__name__}: {error}')
+            self.broken.set()
 
     # The modules.
 
@@ -131,7 +164,8 @@ class Driver:
         await unit.check_coils()
         bits, registers = await unit.sample()
         now = time.monotonic()
-        if now - asked > module.every + module.timeout:
+        limit = self.process.limit / 2 if self.process.clock else module.timeout
+        if now - asked > min(module.every + module.timeout, limit):
             raise ModuleFault(f'reading it takes {1000 * (now - asked):.0f} ms')
         if unit.sampled.stands(registers, now):
             raise ModuleRefused(f'its counter {module.counter} stands still, so its data are old')
@@ -198,7 +232,8 @@ class Driver:
     async def run(self) -> None:
         """Drives until it is cancelled; at the end each coil is off, as far as modules answer."""
         tasks = [asyncio.ensure_future(one) for one in (
-            self.process.run(), *(self.attend(unit) for unit in self.units.values()))]
+            self.process.run(), self.breaks(),
+            *(self.attend(unit) for unit in self.units.values()))]
         try:
             done, _ = await asyncio.wait(tasks, return_when=asyncio.FIRST_COMPLETED)
             for one in done:
@@ -208,6 +243,10 @@ class Driver:
                 one.cancel()
             await asyncio.gather(*tasks, return_exceptions=True)
             await self.ends()
+
+    async def breaks(self) -> None:
+        await self.broken.wait()
+        raise RuntimeError('a pulse ended in a fault')
 
     async def ends(self) -> None:
         """The pulses end, and each coil is off."""

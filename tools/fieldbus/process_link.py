@@ -28,8 +28,8 @@ class Command:
 
 class ProcessLink:
     """A connection that comes again. `taken` is called when the server has greeted, `hear` with
-    each line but of its life, and `lost` when the connection has ended. `number` counts those that
-    were greeted."""
+    each line but of its life, `lives` before each word of the process' own life, and `lost` when
+    the connection has ended. `number` counts those that were greeted."""
 
     def __init__(self, port: int, named: tuple[str, str], key: str, say: Callable[[str], None],
                  ) -> None:
@@ -40,6 +40,7 @@ class ProcessLink:
         self.number = 0
         self.taken: Callable[[], None] = lambda: None
         self.hear: Callable[[str], None] = lambda line: None
+        self.lives: Callable[[], None] = lambda: None
         self.lost: Callable[[], None] = lambda: None
 
     # What is asked of it.
@@ -174,6 +175,7 @@ class ProcessLink:
             if self.life.is_silent():
                 raise self.life.silence()
             if self.life.is_due() and self.clock and self.writer:
+                self.lives()
                 self.writer.write(f'{self.clock.now()} alive\n'.encode())
 
 

@@ -16,7 +16,7 @@ from .driving import Driver, ended
 from .process_link import ProcessLink
 from .terminals import page, sheet, summary
 from .units import Unit
-from .wiring import Module, wiring_at
+from .wiring import Module, Modules, wiring_at
 
 
 def say(text: str) -> None:
@@ -64,7 +64,7 @@ async def all_off(modules: list[Module]) -> bool:
     return all(await asyncio.gather(*(ended(Unit(one, say)) for one in modules)))
 
 
-def check(modules: list[Module], bus: Bus, chosen: argparse.Namespace, bay: dict) -> None:
+def check(modules: Modules, bus: Bus, chosen: argparse.Namespace, bay: dict) -> None:
     """Prints the table of terminals, and writes it as a page."""
     for line in sheet(modules, bus)[1:]:
         print(line)

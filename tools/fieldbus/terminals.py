@@ -6,7 +6,7 @@ from dataclasses import dataclass
 from common.texts import counted, in_line
 
 from .bus import Bus
-from .wiring import WHOLE, Contact, Module, Switch
+from .wiring import WHOLE, Contact, Module, Modules, Switch
 
 # The digit that a table of Modbus has before the numbers from 1 that makers print (six digits).
 TABLES = {'coil': '0', 'contact': '1', 'register': '3'}
@@ -134,14 +134,15 @@ def sheet(modules: list[Module], bus: Bus) -> list[str]:
     return lines
 
 
-def summary(modules: list[Module]) -> str:
+def summary(modules: Modules) -> str:
     """How much is wired."""
     counts = [counted(len(modules), 'module'),
               counted(sum(len(one.switches) for one in modules), 'switch', 'switches'),
               counted(sum(len(one.inputs) for one in modules), 'input'),
               counted(sum(len(one.measures) for one in modules), 'measure')]
     terminals = sum(len(rows_of(one)) for one in modules)
-    return f'{", ".join(counts)}: {counted(terminals, "terminal")}'
+    rest = f'; on none: {", ".join(modules.not_wired)}' if modules.not_wired else ''
+    return f'{", ".join(counts)}: {counted(terminals, "terminal")}{rest}'
 
 
 def escaped(text: str) -> str:
@@ -162,7 +163,7 @@ def table(module: Module, bus: Bus) -> str:
             + '\n'.join(lines) + '\n</tbody></table></div>')
 
 
-def page(modules: list[Module], bus: Bus, named: tuple[str, str], files: list[tuple[str, str]],
+def page(modules: Modules, bus: Bus, named: tuple[str, str], files: list[tuple[str, str]],
          ) -> str:
     """The whole page. `files` are the names of the files with their SHA-256."""
     title = f'Terminals of bay {escaped(named[0])}'

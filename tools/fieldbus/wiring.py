@@ -127,6 +127,7 @@ class Reading:
         self.inputs = {raised(one['name']) for one in bay.get('input', [])}
         self.meters = {raised(one['id']) for one in bay.get('meter', [])}
         self.wired: set[tuple[str, ...]] = set()
+        self.left_out: list[str] = []
         for name, one in self.switches.items():
             if one.get('control') != 'status' and type(one.get('travel_ms')) is not int:
                 raise Miswired(f'switch {name} of the bay file has no travel_ms: tools/diagnose '
@@ -255,6 +256,7 @@ class Reading:
     def leave_out(self, table: Table) -> None:
         """What the file says to hang on no module."""
         for told in table.texts('not_wired'):
+            self.left_out.append(raised(told))
             match raised(told).split():
                 case [name] if name in self.inputs:
                     self.once(table, 'input', name)
@@ -318,8 +320,13 @@ def pulse_of(table: Table, travel: int) -> tuple[float, bool]:
     return table.whole('pulse_ms', min(SHORTEST_PULSE, travel), travel) / 1000, False
 
 
-def wiring_of(text: str, bay: dict, bus: Bus) -> list[Module]:
-    """The modules of a wiring, each with what hangs on it."""
+class Modules(list[Module]):
+    """The modules of a wiring, each with what hangs on it, and what it says to hang on none."""
+    not_wired: list[str]
+
+
+def wiring_of(text: str, bay: dict, bus: Bus) -> Modules:
+    """What a wiring says of a bay."""
     tables, reading = Tables(text), Reading(bay, bus)
     tables.each('module', reading.take_module)
     if not reading.modules:
@@ -335,10 +342,12 @@ def wiring_of(text: str, bay: dict, bus: Bus) -> list[Module]:
     reading.check_bay()
     for module in reading.modules.values():
         reading.check_module(module)
-    return list(reading.modules.values())
+    found = Modules(reading.modules.values())
+    found.not_wired = reading.left_out
+    return found
 
 
-def wiring_at(path: str, bay: dict, bus: Bus) -> list[Module]:
+def wiring_at(path: str, bay: dict, bus: Bus) -> Modules:
     """The modules of a file."""
     try:
         return wiring_of(text_of(path, 'wiring'), bay, bus)

@@ -6,6 +6,7 @@ import os
 import pathlib
 import struct
 import sys
+import time
 import unittest
 from unittest import mock
 
@@ -169,6 +170,19 @@ class Chips(unittest.TestCase):
         with contextlib.redirect_stdout(None):
             self.assertTrue(asyncio.run(all_off(wiring_of(WIRING, BAY, GPIO))))
         self.assertEqual((self.kernel.values[20], self.kernel.values[21]), (1, 1))
+
+    def test_a_module_that_is_not_read_in_time(self):
+        """Whatever holds the reading up: it is bad before the process says that it lives."""
+        said = []
+        process = ProcessLink(1, ('E1', '2 b'), '', said.append)
+        driver = Driver(wiring_of(WIRING, BAY, GPIO), process, said.append)
+        unit = driver.units['board']
+        driver.known['contact', 'QA1'] = 1
+        for ago, position in ((0.05, 1), (1, 3)):
+            unit.is_ready, unit.heard_at = True, time.monotonic() - ago
+            driver.lives()
+            self.assertEqual(driver.known['contact', 'QA1'], position)
+        self.assertIn('module board: it was not read for 1000 ms', said)
 
     @needs_loopback
     def test_a_command(self):

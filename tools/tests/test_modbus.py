@@ -5,6 +5,7 @@ import signal
 import socket
 import subprocess
 import sys
+import threading
 import time
 import unittest
 
@@ -213,40 +214,32 @@ class UntilPosition(Driven):
 
 @needs_loopback
 class Patient(Driven):
-    """A driver that waits for its modules for longer than a command may be old."""
-    changes = [('timeout_ms = 150', 'timeout_ms = 5000')]
-
-    def stops_while_it_asks(self):
-        """The driver is stopped while a command's module is asked."""
-        self.good()
-
-        def asked(function):
-            if function == 1 and 'command QA1' in self.printed():
-                self.module.asked = lambda function: None
-                self.run.send_signal(signal.SIGSTOP)
-                time.sleep(2 * MS / 1000)
-                self.run.send_signal(signal.SIGCONT)
-
-        self.module.asked = asked
-        self.server.tell('command QA1 on')
-
-    def test_a_driver_that_stands_still_while_it_asks(self):
-        self.stops_while_it_asks()
-        self.says('QA1 close is not carried out: ')
-        self.good()
-        self.assertEqual(self.pulses(CLOSE), [])
+    """A driver that waits for its modules nearly for as long as a command may be old."""
+    changes = [('timeout_ms = 150', 'timeout_ms = 380')]
 
     def test_a_module_that_answers_later_than_a_command_may_be_old(self):
         self.good()
 
         def asked(function):
             if function == 1 and 'command QA1' in self.printed():
-                time.sleep(1.5 * MS / 1000)
+                self.module.asked = lambda function: None
+                time.sleep(0.75 * MS / 1000)
 
         self.module.asked = asked
-        self.server.tell('command QA1 on')
+        self.server.tell('command QA1 on', ahead=-MS // 2)
         self.says('QA1 close is not carried out: it is ')
         self.assertEqual(self.pulses(CLOSE), [])
+
+
+@needs_loopback
+class Slow(Driven):
+    """A wiring by which values could be older than the server takes."""
+    changes = [('timeout_ms = 150', 'timeout_ms = 395')]
+
+    def test_a_pace_that_the_server_does_not_take(self):
+        self.assertEqual(self.run.wait(10), 1)
+        self.says(f'module io: poll_ms and timeout_ms come to 405, and the server takes no word '
+                  f'older than {MS} ms: write less, or give --supervise more')
 
 
 @needs_loopback
@@ -390,6 +383,25 @@ class Faults(Driven):
         time.sleep(2 * MS / 1000)
         self.run.send_signal(signal.SIGCONT)
         self.says('QA1 close is not carried out: it is')
+        self.good()
+        self.assertEqual(self.pulses(CLOSE), [])
+
+    def test_a_driver_that_stands_still_while_it_asks(self):
+        self.good()
+        is_over = threading.Event()
+
+        def asked(function):
+            if function == 1 and 'command QA1' in self.printed():
+                self.module.asked = lambda function: None
+                self.run.send_signal(signal.SIGSTOP)
+                time.sleep(2 * MS / 1000)
+                self.run.send_signal(signal.SIGCONT)
+                is_over.set()
+
+        self.module.asked = asked
+        self.server.tell('command QA1 on')
+        self.assertTrue(is_over.wait(10))
+        self.says('QA1 close ')
         self.good()
         self.assertEqual(self.pulses(CLOSE), [])
 

@@ -283,7 +283,8 @@ id = "M1"
                      '       1  100002     discrete input  QA1 closed     QA1 is closed: TRUE at '
                      '1, counts once it has stood for 20 ms',
                      '       0  300001     input register  M1 AA          int16, times 1',
-                     '1 module, 2 switches, 1 input, 1 measure: 10 terminals'):
+                     '1 module, 2 switches, 1 input, 1 measure: 10 terminals; on none: M1 TOTW, M1 '
+                     'TOTVAR, M1 HZ, M1 AB, M1 AC'):
             self.assertIn(line, found.out)
 
     def test_the_page(self):
