@@ -1,0 +1,209 @@
+"""Random operates and faults between a server, tools/modbus and its modules, and what must never be
+then: for bench/trials/modbus."""
+import random
+import re
+import signal
+import threading
+import time
+from dataclasses import dataclass
+
+from modbus_rig import LIMIT, Rig, now
+
+KINDS = ('stop module', 'kill module', 'exception', 'delay', 'late', 'stall', 'kill driver',
+         'stop driver', 'end driver', 'kill server', 'stop server', 'master', 'hand', 'key')
+LENGTHS = (0.1, 0.3, 0.7, 1.5, 3)
+WAYS = {'open': 'off', 'close': 'on'}
+COIL = re.compile(r'io\d coil \d \((\w+) (open|close)\) (on|off)( after (\d+) ms)?(.*)')
+SLACK, STALE = 150, 900  # ms: from a command's age to its coil; of an end that is no longer so
+OUTCOMES = {
+    'done': r'done: ', 'time limit over (16)': r'\(16\)', 'interlocking (10)': r'\(10\)',
+    'process lost (9)': r'\(9\)', 'position reached (5)': r'\(5\)'}
+
+
+@dataclass(frozen=True)
+class Fault:
+    """A fault with its module, its moments and its length in seconds."""
+    kind: str
+    module: str
+    begun: int
+    ended: int
+
+
+class Soak:
+    """A soak of so many seconds on a rig."""
+
+    def __init__(self, rig: Rig, seconds: float, seed: int) -> None:
+        self.rig, self.seconds, self.random = rig, seconds, random.Random(seed)
+        self.faults: list[Fault] = []
+        self.said: list[str] = []
+        self.keys = 0
+
+    def fault(self) -> None:
+        """One fault, and its end."""
+        rig, kind = self.rig, self.random.choice(KINDS)
+        module, length = self.random.choice(('io1', 'io2')), self.random.choice(LENGTHS)
+        begun = now()
+        who = {'module': module, 'driver': 'driver', 'server': 'bayctl'}.get(kind.split(' ')[-1])
+        if kind.startswith('stop'):
+            rig.signals(who, signal.SIGSTOP)
+            time.sleep(length)
+            rig.signals(who, signal.SIGCONT)
+        elif kind.startswith(('kill', 'end')):
+            rig.kills(who, signal.SIGKILL if kind.startswith('kill') else signal.SIGTERM)
+            time.sleep(length)
+            rig.starts(who)
+            if who == 'io1':
+                rig.types('io1', 'SPRING 1')
+        else:
+            self.typed(kind, module, length)
+        self.faults.append(Fault(kind, module, begun, now()))
+
+    def typed(self, kind: str, module: str, length: float) -> None:
+        """A fault of a module that is told so."""
+        pick, types = self.random.choice, self.rig.types
+        before, after = {
+            'exception': (f'exception {pick((1, 4, 6, 11))}', 'exception 0'),
+            'delay': (f'delay {pick((0.1, 0.3, 2))}', 'delay 0'),
+            'late': (f'late {length}', ''), 'stall': ('stall 1', 'stall 0'),
+            'master': (f'put {pick((0, 1))} 1', ''), 'hand': ('QC1 close', 'QC1 open'),
+            'key': ('QA1 local' if module == 'io1' else 'QB1 local',
+                    'QA1 remote' if module == 'io1' else 'QB1 remote')}[kind]
+        module = 'io2' if kind == 'hand' else module
+        types(module, before)
+        if after:
+            time.sleep(length)
+            types(module, after)
+
+    def operate(self) -> None:
+        switch, way = self.random.choice(('QA1', 'QA1', 'QB1')), self.random.choice(list(WAYS))
+        run = self.rig.client('operate', switch, way)
+        keeping = threading.Thread(target=lambda: self.said.append(run.communicate()[0]))
+        keeping.start()
+        time.sleep(self.random.uniform(0, 0.8))
+        if self.random.random() < 0.6:
+            self.fault()
+        keeping.join(30)
+        if keeping.is_alive():
+            run.kill()
+            keeping.join()
+        time.sleep(self.random.uniform(0, 0.5))
+
+    def run(self) -> None:
+        end = time.monotonic() + self.seconds
+        while time.monotonic() < end:
+            self.operate()
+        for module in ('io1', 'io2'):
+            self.rig.types(module, 'QC1 open')
+        time.sleep(4)
+        for module in ('io1', 'io2'):
+            self.rig.types(module, 'state')
+        time.sleep(0.2)
+        self.rig.ends()
+
+
+@dataclass(frozen=True)
+class Edge:
+    """A coil that was switched, by what."""
+    moment: int
+    switch: str
+    way: str
+    is_on: bool
+    lasted: int
+    by: str
+
+
+def edges(rig: Rig) -> list[Edge]:
+    """All coils of switches that were switched."""
+    found = [(moment, COIL.match(text)) for name in ('io1', 'io2')
+             for moment, text in rig.lines(name)]
+    return sorted((Edge(moment, it[1], it[2], it[3] == 'on', int(it[5] or 0), it[6].strip())
+                   for moment, it in found if it), key=lambda one: one.moment)
+
+
+def commands(rig: Rig) -> list[tuple[int, str, str]]:
+    """The commands that the server printed."""
+    words = [(moment, text.split(' ')) for moment, text in rig.lines('bayctl')]
+    return [(moment, it[1], it[2]) for moment, it in words if it[0] == 'command']
+
+
+def matched(soak: Soak) -> tuple[list[str], list[str], list[str], int]:
+    """Pulses without a command, second pulses for one, late pulses, and how many commands had
+    none."""
+    rig, without, twice, late = soak.rig, [], [], []
+    left, used = commands(rig), []
+    for one in edges(rig):
+        if not one.is_on or 'another master' in one.by:
+            continue
+        wanted = [it for it in left if it[1:] == (one.switch, WAYS[one.way])
+                  and it[0] <= one.moment + 2]
+        if not wanted:
+            again = [it for it in used if it[1:] == (one.switch, WAYS[one.way])
+                     and 0 <= one.moment - it[0] < 60_000]
+            (twice if again else without).append(f'{one.switch} {one.way} at {one.moment}')
+            continue
+        left.remove(wanted[-1])
+        used.append(wanted[-1])
+        behind = one.moment - wanted[-1][0]
+        if behind > LIMIT + SLACK:
+            acted_late = [it.kind for it in soak.faults if it.begun <= one.moment
+                          and it.ended >= wanted[-1][0] - 4000
+                          and it.kind in ('late', 'delay', 'stop module')]
+            late.append(f'{one.switch} {one.way} {behind} ms behind its command'
+                        + (f' (the module acted late: {", ".join(sorted(set(acted_late)))})'
+                           if acted_late else ''))
+    return without, twice, late, len(left)
+
+
+def truth(rig: Rig) -> list[tuple[int, str, str]]:
+    """Where the switches were, by what the plants say."""
+    found = []
+    for name, switches in (('io1', ('QA1',)), ('io2', ('QB1', 'QC1'))):
+        for moment, text in rig.lines(name):
+            if text == 'begins':
+                found += [(moment, switch, 'open') for switch in switches]
+            elif moved := re.fullmatch(r'(Q\w+) (?:is (\w+)|moves.*)', text):
+                found.append((moment, moved[1], moved[2] or 'intermediate'))
+    return sorted(found)
+
+
+def stale(rig: Rig) -> list[str]:
+    """Ends that a client saw for longer than STALE after the switch had left them."""
+    found, there, seen, wrong = [], {}, {}, {}
+    changes = [(*it, there) for it in truth(rig)] + [(*it, seen) for it in rig.seen]
+    for moment, switch, position, which in sorted(changes, key=lambda it: it[0]):
+        which[switch] = position
+        is_wrong = seen.get(switch) in ('open', 'closed') and there.get(switch) != seen[switch]
+        if is_wrong:
+            wrong.setdefault(switch, moment)
+        elif switch in wrong and moment - wrong.pop(switch) > STALE:
+            found.append(f'{switch} until {moment}')
+    return found
+
+
+def told(soak: Soak) -> tuple[list[str], bool]:
+    """What a soak comes to, and whether nothing was that must never be."""
+    rig = soak.rig
+    both = [text for name in ('io1', 'io2') for _, text in rig.lines(name) if 'both coils' in text]
+    foreign = sum('another master' in one.by for one in edges(rig))
+    without, twice, late, unused = matched(soak)
+    on = [text for name in ('io1', 'io2') for _, text in rig.lines(name)
+          if 'coils that are on' in text and not text.endswith('none')]
+    unexplained = [one for one in late if 'acted late' not in one]
+    old = stale(rig)
+    kinds = {kind: sum(it.kind == kind for it in soak.faults) for kind in KINDS}
+    said = '\n'.join(soak.said)
+    lines = [
+        f'{len(soak.said)} operates, {len(commands(rig))} commands, '
+        f'{sum(one.is_on for one in edges(rig)) - foreign} pulses, {len(soak.faults)} faults: '
+        + ', '.join(f'{count} {kind}' for kind, count in kinds.items() if count),
+        'outcomes: ' + ', '.join(f'{len(re.findall(pattern, said))} {name}'
+                                 for name, pattern in OUTCOMES.items()),
+        f'both coils: {len(both)}; pulses without a command: {len(without)} {without or ""}; '
+        f'second pulses for a command: {len(twice)} {twice or ""}; commands without a pulse: '
+        f'{unused}',
+        f'late pulses: {len(late)}, {len(unexplained)} of them where the module did not act late '
+        f'{late or ""}',
+        f'coils of another master: {foreign}; coils that are on at the end: {len(on)}; ends told '
+        f'for more than {STALE} ms after they were left: {len(old)} {old or ""}']
+    is_good = not (both or without or twice or unexplained or on or old)
+    return lines, is_good
