@@ -8,6 +8,8 @@ import struct
 from collections.abc import Sequence
 from dataclasses import dataclass
 
+from wire.sockets import unconnected
+
 from .bus import CLOSED, Bus, Lines, ModuleFault, ModuleRefused
 from .keyed import Table
 
@@ -162,8 +164,6 @@ class ModbusLink:
 
 def why(error: BaseException) -> str:
     """Why there is no connection."""
-    if isinstance(error, TimeoutError):
-        return 'nothing is answered'
     if isinstance(error, EOFError):
         return 'the module ended it'
-    return getattr(error, 'strerror', None) or str(error) or type(error).__name__
+    return unconnected(error) if isinstance(error, OSError) else type(error).__name__
