@@ -92,9 +92,8 @@ class Soak:
         end = time.monotonic() + self.seconds
         while time.monotonic() < end:
             self.operate()
-        for module in ('io1', 'io2'):
-            self.rig.types(module, 'QC1 open')
         time.sleep(4)
+        self.rig.kills('driver', signal.SIGTERM)
         for module in ('io1', 'io2'):
             self.rig.types(module, 'state')
         time.sleep(0.2)

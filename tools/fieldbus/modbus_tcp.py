@@ -8,7 +8,7 @@ import struct
 from collections.abc import Sequence
 from dataclasses import dataclass
 
-from wire.sockets import unconnected
+from wire.sockets import RESET, unconnected
 
 from .bus import CLOSED, Bus, Lines, ModuleFault, ModuleRefused
 from .keyed import Table
@@ -24,7 +24,6 @@ HEAD = struct.Struct('>HHHB')  # transaction, protocol, octets that follow, unit
 ON, OFF = b'\xff\x00', b'\x00\x00'
 LONGEST = 254  # octets that follow: the unit, and a PDU of at most 253
 MOST_BITS, MOST_REGISTERS = 2000, 125  # of one request
-RESET = struct.pack('ii', 1, 0)  # SO_LINGER: what waits is dropped, and the connection reset
 
 
 @dataclass(frozen=True)

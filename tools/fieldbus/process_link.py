@@ -9,9 +9,7 @@ from dataclasses import dataclass
 
 from wire.process import (DEMANDED, NO_KEY, Greeting, Life, ServerClock, greeting_of, moment_of,
                           same_bay, ungreeted, untimely)
-from wire.sockets import is_taken, unconnected
-
-from .modbus_tcp import RESET
+from wire.sockets import RESET, is_taken, unconnected
 
 LONGEST, AGAIN, LOOK = 65_536, 0.2, 0.02  # octets of a line; seconds until the next connection
 

@@ -4,9 +4,11 @@ import math
 import pathlib
 import socket
 import ssl
+import struct
 
 from .tls import failure_told
 
+RESET = struct.pack('ii', 1, 0)  # for SO_LINGER: what waits is dropped, and the connection reset
 TABLES = {socket.AF_INET: '/proc/net/tcp', socket.AF_INET6: '/proc/net/tcp6'}
 
 
