@@ -16,7 +16,7 @@ from wire.served import free_port
 EXAMPLE = shared.EXAMPLES / 'remote_io'
 BAY, LOGIC = EXAMPLE / 'bay.toml', EXAMPLE / 'logic.il'
 SYSTEM = '/usr/bin/python3'  # which has Debian's packages
-LIMIT, DOUBT = 500, 3000  # ms of --supervise, and of the wiring's doubt_ms
+LIMIT = 500  # ms of --supervise
 PATIENCE = 20
 POSITIONS = {'QA1': 'XCBR1$ST$Pos$stVal', 'QB1': 'XSWI1$ST$Pos$stVal', 'QC1': 'XSWI2$ST$Pos$stVal'}
 WORDS = {'00': 'intermediate', '01': 'open', '10': 'closed', '11': 'bad'}

@@ -6,6 +6,7 @@ import signal
 import threading
 import time
 from dataclasses import dataclass
+from itertools import pairwise
 
 from modbus_rig import LIMIT, Rig, now
 
@@ -13,7 +14,7 @@ KINDS = ('stop module', 'kill module', 'exception', 'delay', 'late', 'stall', 'k
          'stop driver', 'end driver', 'kill server', 'stop server', 'master', 'hand', 'key')
 LENGTHS = (0.1, 0.3, 0.7, 1.5, 3)
 WAYS = {'open': 'off', 'close': 'on'}
-COIL = re.compile(r'io\d coil \d \((\w+) (open|close)\) (on|off)( after (\d+) ms)?(.*)')
+COIL = re.compile(r'(io\d) coil \d \((\w+) (open|close)\) (on|off)( after (\d+) ms)?(.*)')
 SLACK, STALE = 150, 900  # ms: from a command's age to its coil; of an end that is no longer so
 OUTCOMES = {
     'done': r'done: ', 'time limit over (16)': r'\(16\)', 'interlocking (10)': r'\(10\)',
@@ -104,6 +105,7 @@ class Soak:
 class Edge:
     """A coil that was switched, by what."""
     moment: int
+    module: str
     switch: str
     way: str
     is_on: bool
@@ -115,7 +117,7 @@ def edges(rig: Rig) -> list[Edge]:
     """All coils of switches that were switched."""
     found = [(moment, COIL.match(text)) for name in ('io1', 'io2')
              for moment, text in rig.lines(name)]
-    return sorted((Edge(moment, it[1], it[2], it[3] == 'on', int(it[5] or 0), it[6].strip())
+    return sorted((Edge(moment, it[1], it[2], it[3], it[4] == 'on', int(it[6] or 0), it[7].strip())
                    for moment, it in found if it), key=lambda one: one.moment)
 
 
@@ -129,6 +131,7 @@ def matched(soak: Soak) -> tuple[list[str], list[str], list[str], int]:
     """Pulses without a command, second pulses for one, late pulses, and how many commands had
     none."""
     rig, without, twice, late = soak.rig, [], [], []
+    lates = [it for it in soak.faults if it.kind == 'late']
     left, used = commands(rig), []
     for one in edges(rig):
         if not one.is_on or 'another master' in one.by:
@@ -144,13 +147,23 @@ def matched(soak: Soak) -> tuple[list[str], list[str], list[str], int]:
         used.append(wanted[-1])
         behind = one.moment - wanted[-1][0]
         if behind > LIMIT + SLACK:
-            acted_late = [it.kind for it in soak.faults if it.begun <= one.moment
-                          and it.ended >= wanted[-1][0] - 4000
-                          and it.kind in ('late', 'delay', 'stop module')]
+            acted_late = causes(soak.faults, lates, one, wanted[-1][0])
             late.append(f'{one.switch} {one.way} {behind} ms behind its command'
                         + (f' (the module acted late: {", ".join(sorted(set(acted_late)))})'
                            if acted_late else ''))
     return without, twice, late, len(left)
+
+
+def causes(faults: list[Fault], lates: list[Fault], one: Edge, asked: int) -> list[str]:
+    """Why the module itself acted late, if it did. One that is told to do so does with the next
+    write, whenever that is."""
+    found = [it.kind for it in faults if it.kind in ('delay', 'stop module')
+             and it.module == one.module and it.begun <= one.moment and it.ended >= asked]
+    for it in lates:
+        if it.module == one.module and it.begun <= asked + LIMIT:
+            lates.remove(it)
+            return ['late', *found]
+    return found
 
 
 def truth(rig: Rig) -> list[tuple[int, str, str]]:
@@ -182,7 +195,8 @@ def stale(rig: Rig) -> list[str]:
 def told(soak: Soak) -> tuple[list[str], bool]:
     """What a soak comes to, and whether nothing was that must never be."""
     rig = soak.rig
-    both = [text for name in ('io1', 'io2') for _, text in rig.lines(name) if 'both coils' in text]
+    both = [text for name in ('io1', 'io2') for (_, before), (_, text) in pairwise(rig.lines(name))
+            if 'both coils' in text and 'another master' not in before]
     foreign = sum('another master' in one.by for one in edges(rig))
     without, twice, late, unused = matched(soak)
     on = [text for name in ('io1', 'io2') for _, text in rig.lines(name)

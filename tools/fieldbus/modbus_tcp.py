@@ -14,7 +14,7 @@ from .bus import CLOSED, Bus, Lines, ModuleFault, ModuleRefused
 from .keyed import Table
 
 READ_COILS, READ_INPUTS, READ_HOLDING, READ_REGISTERS = 1, 2, 3, 4
-WRITE_COIL, WRITE_REGISTER, WRITE_COILS, WRITE_REGISTERS = 5, 6, 15, 16
+WRITE_COIL, WRITE_REGISTER = 5, 6
 EXCEPTIONS = {1: 'illegal function', 2: 'illegal data address', 3: 'illegal data value',
               4: 'server device failure', 5: 'acknowledge', 6: 'server device busy',
               8: 'memory parity error', 10: 'gateway path unavailable',

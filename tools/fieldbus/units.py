@@ -75,7 +75,7 @@ class Unit:
         read = await self.link.coils(self.lines.coils)
         stray = [coil for coil, is_on in read.items()
                  if is_on and coil not in self.pulsed and coil not in self.magnets]
-        for coil in stray:
+        for coil in [*stray, *self.pulsed] if stray else ():  # (a pulse ends then, too)
             await self.put(coil, False)
         self.magnets -= {coil for coil, is_on in read.items() if not is_on}
         if stray:

@@ -7,7 +7,7 @@ import tempfile
 import time
 import unittest
 
-from tests.fake_module import MS, FakeModule, FakeServer
+from tests.fake_module import FakeModule, FakeServer
 
 TOOLS = pathlib.Path(__file__).resolve().parent.parent
 TRAVEL, PULSE, DOUBT = 600, 150, 500
@@ -167,6 +167,3 @@ class Driven(unittest.TestCase):
 
     def all_off(self):
         self.waits(lambda: not any(self.module.coils), 'the coils are off')
-
-
-

@@ -11,8 +11,8 @@ import unittest
 
 TOOLS = pathlib.Path(__file__).resolve().parent.parent
 sys.path.insert(0, str(TOOLS))
-from tests.driven import CLOSE, DOUBT, GOOD, LOST, MS, OPEN, PULSE, TRAVEL, Counting, Driven
-from tests.fake_module import FakeServer
+from tests.driven import CLOSE, DOUBT, LOST, OPEN, PULSE, TRAVEL, Counting, Driven
+from tests.fake_module import MS, FakeServer
 from tests.loopback import needs_loopback
 
 
@@ -344,6 +344,15 @@ class Faults(Driven):
         self.good()
         self.module.coils[2] = True
         self.waits(lambda: not self.module.coils[2], seconds=0.3)
+
+    def test_a_coil_that_another_master_switches_on_in_a_pulse(self):
+        """Both coils are off at once."""
+        self.begins()
+        self.module.coils[OPEN] = True
+        self.waits(lambda: not any(self.module.coils), seconds=0.1)
+        self.is_told({'contact QA1': '3'})
+        self.good()
+        self.is_pulsed_once()
 
     def test_a_driver_that_is_killed_in_a_pulse(self):
         """The next one begins with all coils off, and repeats nothing."""
