@@ -96,7 +96,7 @@ class Table:
         if key not in self.keys:
             return None
         match self.keys[key]:
-            case [int() | float() as least, int() | float() as most] if least < most:
+            case [least, most] if {type(least), type(most)} <= {int, float} and least < most:
                 del self.keys[key]
                 return least, most
         raise self.wrong(f'{self.shown(key)}: write [LEAST, MOST], the least first', key)
@@ -145,8 +145,10 @@ class Tables:
     def __init__(self, text: str) -> None:
         try:
             self.found = tomllib.loads(text)
-        except (tomllib.TOMLDecodeError, RecursionError) as error:
+        except tomllib.TOMLDecodeError as error:
             raise Miswired(f'it is no TOML: {error}') from None
+        except (ValueError, RecursionError):
+            raise Miswired('it has a number or a list that exceeds what Python can read') from None
         self.lines = lines_of(text)
 
     def each(self, name: str, take: Callable[[Table], None]) -> None:

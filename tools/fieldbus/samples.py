@@ -5,7 +5,7 @@ from collections.abc import Collection
 
 from common.positions import POSITIONS
 
-from .wiring import TYPES, Contact, Measure, Module, Switch
+from .wiring import TYPES, WHOLE, Contact, Measure, Module, Switch
 
 INTERMEDIATE, OPEN, CLOSED, BAD = range(len(POSITIONS))
 ENDS = (OPEN, CLOSED)
@@ -51,8 +51,8 @@ def measured(one: Measure, registers: dict[int, int]) -> Value:
     if is_signed and raw >> 16 * len(words) - 1:
         raw -= 1 << 16 * len(words)
     value = round(raw * one.scale + one.offset)
-    least, most = one.valid
-    return value if least <= value <= most else None
+    is_valid = all(least <= value <= most for least, most in (one.valid, WHOLE))
+    return value if is_valid else None
 
 
 class Sampled:

@@ -65,6 +65,7 @@ def put(old, new):
 # What is told, and the wiring that is refused.
 WRONG = [
     ('it is no TOML', 'switch = '),
+    ('it has a number or a list that exceeds', 'a = ' + '9' * 5000),
     ('it has no module: write a table', without('module')),
     ('line 6: module io: poll_ms is 1: write a whole number from 5 to 60,000',
      put('port = 502', 'port = 502\npoll_ms = 1')),
@@ -144,6 +145,7 @@ WRONG = [
     ('measure M1 AA: scale is nan', put('type = "int16"', 'type = "int16"\nscale = nan')),
     ('measure M1 AA: valid is .*: write .LEAST, MOST., the least first',
      put('type = "int16"', 'type = "int16"\nvalid = [5, 5]')),
+    ('measure M1 AA: valid is', put('type = "int16"', 'type = "int16"\nvalid = [false, true]')),
     ('measure M1 AA: deadband is -1', put('type = "int16"', 'type = "int16"\ndeadband = -1')),
     ('measure M1 AA: register is 65535: write a whole number from 0 to 65,534',
      put('register = 0\ntype = "int16"', 'register = 65535\ntype = "int32"')),
@@ -221,7 +223,8 @@ class Samples(unittest.TestCase):
                 ('type = "int16"\nscale = 0.1\noffset = -5', [200], 15),
                 ('type = "uint16"\nvalid = [0, 100]', [100], 100),
                 ('type = "uint16"\nvalid = [0, 100]', [101], None),
-                ('type = "int32"\nscale = 10', [0x7FFF, 0], None)):
+                ('type = "int32"\nscale = 10', [0x7FFF, 0], None),
+                ('type = "int32"\nscale = 10\nvalid = [0, 1e12]', [0x7FFF, 0], None)):
             self.assertEqual(self.measure(more, registers), value, more)
 
     def test_a_measure_is_told_where_it_differs(self):
