@@ -10,7 +10,7 @@ import unittest
 from tests.fake_module import FakeModule, FakeServer
 
 TOOLS = pathlib.Path(__file__).resolve().parent.parent
-TRAVEL, PULSE, DOUBT = 600, 150, 500
+TRAVEL, PULSE, DOUBT, TIMEOUT = 1200, 400, 800, 400  # ms
 BAY = f'''[bay]
 domain = "E1"
 revision = "2 b"
@@ -36,7 +36,7 @@ name = "io"
 host = "127.0.0.1"
 port = 502
 poll_ms = 10
-timeout_ms = 150
+timeout_ms = {TIMEOUT}
 doubt_ms = {DOUBT}
 alive = "OK"
 counter = 9
@@ -153,6 +153,13 @@ class Driven(unittest.TestCase):
     def pulses(self, coil):
         """The moments at which a coil was switched on."""
         return [at for where, value, at in self.module.written if where == coil and value]
+
+    def lasted(self, coil=CLOSE):
+        """How long the first pulse of a coil lasted, in milliseconds."""
+        self.waits(lambda: not self.module.coils[coil], 'the coil is off')
+        begun = self.pulses(coil)[0]
+        return 1000 * (next(at for where, value, at in self.module.written
+                            if where == coil and not value and at > begun) - begun)
 
     def begins(self, way='on', coil=CLOSE):
         """A pulse has begun, by a command."""

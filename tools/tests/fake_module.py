@@ -7,7 +7,7 @@ import struct
 import threading
 import time
 
-MS = 400  # within which the server must hear of its process
+MS = 1000  # within which the server must hear of its process
 
 
 class FakeModule(socketserver.ThreadingTCPServer):

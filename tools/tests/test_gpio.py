@@ -182,7 +182,7 @@ class Chips(unittest.TestCase):
             unit.is_ready, unit.heard_at = True, time.monotonic() - ago
             driver.lives()
             self.assertEqual(driver.known['contact', 'QA1'], position)
-        self.assertIn('module board: it was not read for 1000 ms', said)
+        self.assertIn('module board: it was not read for 1', said[-1])
 
     @needs_loopback
     def test_a_command(self):
