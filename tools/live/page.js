@@ -1,7 +1,6 @@
 // Shows what the panel's server sends, and hands on what is clicked.
 'use strict';
 
-const byId = (id) => document.getElementById(id);
 const operates = document.body.dataset.operates === 'true';
 const ENDS = {open: 'open', close: 'closed'};
 let state = {switches: [], measures: [], events: [], control: null};
@@ -11,24 +10,6 @@ let last = null;      // the number of the last end that was told here, or befor
 let lastTold = '';    // the events that were shown
 let isGone = true;    // whether the panel itself is gone
 const page = Array.from(crypto.getRandomValues(new Uint32Array(4)), (n) => n.toString(16)).join('');
-
-function element(name, kind, text) {
-  const found = document.createElement(name);
-  if (kind) found.className = kind;
-  if (text !== undefined) found.textContent = text;
-  return found;
-}
-
-function may(it, way) {
-  const done = way === 'open' ? 'opened' : 'closed';
-  if (it.control === 'status') return {free: false, told: 'moved by hand only', why: ''};
-  if (it[way].free) return {free: true, told: `✓ may be ${done}`, why: ''};
-  return {free: false, told: `✕ may not be ${done}`, why: it[way].why};
-}
-
-function placeOf(it) {
-  return it.position + (it.quality === 'good' ? '' : `, ${it.quality}`);
-}
 
 function described(it) {
   const ways = ['open', 'close'].map((way) => may(it, way)).map((m) => m.told.replace(/^. /, ''));

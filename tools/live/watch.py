@@ -2,7 +2,6 @@
 all who look at it."""
 import collections
 import json
-import queue
 import threading
 import time
 
@@ -19,6 +18,7 @@ from wire.sockets import unconnected
 from wire.tls import server_of
 
 from .reasons import Seen, why_not
+from .telling import Telling
 
 READ = ('CSWI', 'MMXU')  # the nodes of which nothing may be missing
 OTHER = 'the server has another bay than the bay file'
@@ -38,55 +38,29 @@ def now() -> int:
     return time.time_ns() // 1_000_000
 
 
-class Watcher:
+class Watcher(Telling):
     """Reads a bay. `lock` is held by whoever uses the association; `conditions` are those of the
     audit by switch and way, once they are known. Where the server has another bay than the file,
     `state['barred']` says that nothing is operated, unless it is to be operated anyway."""
+    every = EVERY
 
     def __init__(self, file, text, host, port, anyway=False, tls=None) -> None:
+        super().__init__()
         self.file, self.text, self.host, self.port = file, text, host, port
         self.anyway, self.differs, self.tls = anyway, [], tls
         self.conditions, self.lock, self.client = None, threading.RLock(), None
         self.events = collections.deque(maxlen=KEPT)
-        self.queues, self.queues_lock = set(), threading.Lock()
         self.on_said, self.on_read = [], []
         self.state = {'bay': file['bay']['domain'], 'connected': False, 'told': 'connecting',
                       'switches': [], 'measures': [], 'control': None, 'barred': ''}
-        self.is_over = threading.Event()
 
     # ---- those who look
-
-    def subscribe(self) -> queue.Queue:
-        found = queue.Queue(8)
-        with self.queues_lock:
-            self.queues.add(found)
-        found.put(self.told())
-        return found
-
-    def unsubscribe(self, found) -> None:
-        with self.queues_lock:
-            self.queues.discard(found)
 
     def told(self) -> str:
         """The state and the events, as JSON."""
         with self.lock:
             events = sorted(self.events, key=lambda it: it['moment'])
             return json.dumps({**self.state, 'events': events})
-
-    def publish(self) -> None:
-        """Hands the state to all; who is slow misses what is older."""
-        told = self.told()
-        with self.queues_lock:
-            for found in self.queues:
-                while True:
-                    try:
-                        found.put_nowait(told)
-                        break
-                    except queue.Full:
-                        try:
-                            found.get_nowait()
-                        except queue.Empty:
-                            pass
 
     def event(self, told: str, kind: str = 'quiet', moment: int | None = None) -> None:
         """Notes what happened: kind is position, control, refused or quiet."""
@@ -103,7 +77,7 @@ class Watcher:
                     self.connect()
                 if self.read_once():
                     self.publish()
-                self.is_over.wait(EVERY)
+                self.is_over.wait(self.every)
             except LOST as error:
                 self.lose(error)
                 self.is_over.wait(AGAIN)
@@ -204,7 +178,7 @@ class Watcher:
 
     def stop(self) -> None:
         """Ends the reading; a server that doesn't let go is left."""
-        self.is_over.set()
+        super().stop()
         client = self.client
         if client:
             client.end = min(client.end, time.monotonic() + PARTING)

@@ -1,4 +1,5 @@
-"""The pages of a panel: one page, its events, and with --operate its controls."""
+"""The pages of a panel, and of what else shows bays: a page, its events, and with --operate its
+controls."""
 import html
 import http.server
 import json
@@ -6,43 +7,88 @@ import pathlib
 import queue
 import re
 import secrets
+import threading
 import time
+from collections.abc import Iterable
 
 from common.moments import zone_told
+
+from .telling import Telling
 
 FOLDER = pathlib.Path(__file__).resolve().parent
 BEAT, LARGEST = 2, 4096  # seconds between two signs of life, and octets of a request
 LIMIT = 10  # seconds that a connection may be silent, or not take what it is sent
-TYPES = {'page.css': 'text/css', 'page.js': 'text/javascript'}
+PARTING = 2  # seconds for the end of those who read
+TYPES = {'.css': 'text/css', '.js': 'text/javascript'}
 POLICY = "default-src 'self'; img-src data:; base-uri 'none'; frame-ancestors 'none'"
 
 
-class Pages(http.server.ThreadingHTTPServer):
-    """Serves on 127.0.0.1 alone. A request that names another host is refused, and one that
-    controls needs the token of a page, so no page of another site can operate a switch."""
-    daemon_threads = True
+class Site(http.server.ThreadingHTTPServer):
+    """Serves a page with its files, and what is told as it changes, on 127.0.0.1 alone. A request
+    that names another host is refused, and one that controls needs the token of a page, so no page
+    of another site can operate a switch."""
+    daemon_threads, operator = True, None
+    refusal = 'this page only shows'
 
-    def __init__(self, port, watcher, picture, operator=None) -> None:
+    def __init__(self, port: int, watcher: Telling, page: pathlib.Path,
+                 files: Iterable[pathlib.Path]) -> None:
         super().__init__(('127.0.0.1', port), Handler)
-        self.watcher, self.picture, self.operator = watcher, picture, operator
+        self.watcher, self.template = watcher, page
+        self.files = {path.name: path for path in files}
         self.token = secrets.token_urlsafe(16)
 
-    def hosts(self) -> set:
+    def hosts(self) -> set[str]:
         return {f'{name}:{self.server_address[1]}' for name in ('127.0.0.1', 'localhost')}
 
     def handle_error(self, request, client_address) -> None:
         """A page that went away is no error."""
 
+    def parts(self) -> dict[str, str]:
+        """What stands in the page in the place of each @NAME@, as text."""
+        return {'ZONE': zone_told(time.time_ns() // 1_000_000)}
+
+    def drawn(self) -> dict[str, str]:
+        """The same, as HTML."""
+        return {name: html.escape(value, quote=True) for name, value in self.parts().items()}
+
     def page(self) -> str:
-        bay, tls = self.watcher.file['bay'], self.watcher.tls
-        parts = {'TITLE': bay['domain'], 'DEVICE': f'{bay["vendor"]} {bay["model"]}',
-                 'WHO': f'as {tls.told()}, by TLS' if tls else '',
-                 'TOKEN': self.token, 'OPERATES': 'true' if self.operator else 'false',
-                 'ZONE': zone_told(time.time_ns() // 1_000_000)}
-        found = {name: html.escape(value, quote=True) for name, value in parts.items()}
-        found['PICTURE'] = self.picture
-        text = (FOLDER / 'page.html').read_text(encoding='utf-8')
+        found, text = self.drawn(), self.template.read_text(encoding='utf-8')
         return re.sub('@([A-Z]+)@', lambda it: found[it[1]], text)
+
+
+class Pages(Site):
+    """The pages of a panel."""
+    refusal = 'the panel was started without --operate'
+
+    def __init__(self, port, watcher, picture, operator=None) -> None:
+        files = (FOLDER / name for name in ('page.css', 'shown.js', 'page.js'))
+        super().__init__(port, watcher, FOLDER / 'page.html', files)
+        self.picture, self.operator = picture, operator
+
+    def parts(self) -> dict[str, str]:
+        bay, tls = self.watcher.file['bay'], self.watcher.tls
+        return {**super().parts(), 'TITLE': bay['domain'], 'TOKEN': self.token,
+                'DEVICE': f'{bay["vendor"]} {bay["model"]}',
+                'WHO': f'as {tls.told()}, by TLS' if tls else '',
+                'OPERATES': 'true' if self.operator else 'false'}
+
+    def drawn(self) -> dict[str, str]:
+        return {**super().drawn(), 'PICTURE': self.picture}
+
+
+def serve(site: Site) -> None:
+    """Serves pages until it is interrupted."""
+    reading = threading.Thread(target=site.watcher.run, daemon=True)
+    reading.start()
+    print(f'http://127.0.0.1:{site.server_address[1]}/', flush=True)
+    try:
+        site.serve_forever()
+    except KeyboardInterrupt:
+        pass
+    finally:
+        site.watcher.stop()
+        site.server_close()
+        reading.join(PARTING)
 
 
 class Handler(http.server.BaseHTTPRequestHandler):
@@ -75,11 +121,12 @@ class Handler(http.server.BaseHTTPRequestHandler):
         name, _, page = self.path.partition('?')
         name = name.lstrip('/')
         if not self.is_ours():
-            self.refuse(403, 'this is the panel of another host')
+            self.refuse(403, 'this is the page of another host')
         elif name == '':
             self.send(200, 'text/html', self.server.page().encode())
-        elif name in TYPES:
-            self.send(200, TYPES[name], (FOLDER / name).read_bytes())
+        elif name in self.server.files:
+            path = self.server.files[name]
+            self.send(200, TYPES[path.suffix], path.read_bytes())
         elif name == 'state':
             self.send(200, 'application/json', self.server.watcher.told().encode())
         elif name == 'events':
@@ -118,9 +165,9 @@ class Handler(http.server.BaseHTTPRequestHandler):
             return self.refuse(400, 'the request is too long')
         body = self.rfile.read(int(size))
         if not self.is_ours() or self.headers.get('X-Panel') != self.server.token:
-            return self.refuse(403, 'this panel did not send that')
+            return self.refuse(403, 'this page did not send that')
         if not self.server.operator:
-            return self.refuse(403, 'the panel was started without --operate')
+            return self.refuse(403, self.server.refusal)
         try:
             asked = json.loads(body)
             switch, way, page = str(asked['switch']), str(asked['way']), str(asked.get('page', ''))

@@ -79,6 +79,7 @@ class Statuses(Tools):
         asked = ['--bayctl', self.bayctl(LOADED)]
         return {'audit': [bay, logic, rules, *asked], 'client': ['--bay', bay, 1, 'browse'],
                 'panel': ['--bay', bay, 1], 'scl': [bay], 'explain': [path, *asked],
+                'station': ['--bay', bay, 1],
                 'simulate': [bay, '--process', 1, '--once'], 'timeline': [path, *asked],
                 'diagnose': ['--bay', bay, '--trace', bay, *asked],
                 'modbus': ['--bay', bay, '--wiring', bay, '--check'],

@@ -1,0 +1,22 @@
+// What each page says of a switch.
+'use strict';
+
+const byId = (id) => document.getElementById(id);
+
+function element(name, kind, text) {
+  const found = document.createElement(name);
+  if (kind) found.className = kind;
+  if (text !== undefined) found.textContent = text;
+  return found;
+}
+
+function may(it, way) {
+  const done = way === 'open' ? 'opened' : 'closed';
+  if (it.control === 'status') return {free: false, told: 'moved by hand only', why: ''};
+  if (it[way].free) return {free: true, told: `✓ may be ${done}`, why: ''};
+  return {free: false, told: `✕ may not be ${done}`, why: it[way].why};
+}
+
+function placeOf(it) {
+  return it.position + (it.quality === 'good' ? '' : `, ${it.quality}`);
+}
