@@ -2,9 +2,11 @@
 import os
 import pathlib
 import tomllib
+from typing import Any
 
 from common.ending import Failed, told_of
 
+Path = str | os.PathLike[str]
 MARK, WIDE, NEWLINE = '\ufeff', (b'\xff\xfe', b'\xfe\xff'), b'\n'
 MARKED = 'begins with a byte order mark: save it as UTF-8 without one'
 OTHER = 'this is not a bay file; tools/diagnose tells what is wrong'
@@ -14,7 +16,7 @@ class BadFile(Failed):
     """A file that can't be read, or that is no bay file."""
 
 
-def octets_of(path) -> bytes:
+def octets_of(path: Path) -> bytes:
     """The octets of a file."""
     try:
         return pathlib.Path(path).read_bytes()
@@ -22,7 +24,7 @@ def octets_of(path) -> bytes:
         raise BadFile(told_of(error)) from None
 
 
-def text_of(path, kind='text') -> str:
+def text_of(path: Path, kind: str = 'text') -> str:
     """The text of a file, without a byte order mark at its start."""
     octets = octets_of(path)
     try:
@@ -32,7 +34,7 @@ def text_of(path, kind='text') -> str:
         raise BadFile(f'{path}: it can\'t be read as a {kind}: {told}') from None
 
 
-def program_at(path) -> str:
+def program_at(path: Path) -> str:
     """The text of a program, in which bayctl takes no byte order mark."""
     if octets_of(path).startswith(MARK.encode()):
         raise BadFile(f'{path}: it {MARKED}')
@@ -47,7 +49,7 @@ def encoding_told(octets: bytes, at: int, names_line: bool = True) -> str:
     return f'byte {octets[at]:02X}{line} is not UTF-8'
 
 
-def tables_of(text) -> dict:
+def tables_of(text: str) -> dict[str, Any]:
     """The tables of a bay file, with those that each has: bay, switch, input and meter."""
     try:
         found = tomllib.loads(text)
@@ -67,7 +69,7 @@ def tables_of(text) -> dict:
     return found
 
 
-def bay_at(path) -> tuple[str, dict]:
+def bay_at(path: Path) -> tuple[str, dict[str, Any]]:
     """The text of a bay file, and its tables."""
     text = text_of(path, 'bay file')
     try:
@@ -76,7 +78,7 @@ def bay_at(path) -> tuple[str, dict]:
         raise BadFile(f'{path}: {error}') from None
 
 
-def may_be_written(path) -> None:
+def may_be_written(path: Path) -> None:
     """Ends the tool where a file can't be written, before it has worked for it."""
     path = pathlib.Path(path)
     if not path.parent.is_dir():

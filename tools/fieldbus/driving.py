@@ -49,14 +49,15 @@ class Driver:
         now = time.monotonic()
         news = [(point, value) for point, value in self.known.items()
                 if point not in self.told or self.told[point] != value]
-        news.sort(key=lambda one: rank(one[0], one[1], self.alive))
+        news.sort(key=lambda one: rank(*one, self.alive))
         stamped = []
         for point, value in news:
             unit = self.owner[point]
             then = unit.heard_at if unit.is_ready else now
             if now - then <= self.process.limit / 2:
                 stamped.append((then, point, value))
-        if stamped and self.process.send([(then, line_of(*one)) for then, *one in stamped]):
+        if stamped and self.process.send(
+                [(then, line_of(point, value)) for then, point, value in stamped]):
             self.told |= {point: value for _, point, value in stamped}
 
     def taken(self) -> None:

@@ -3,6 +3,7 @@ with its line and what to write in its place."""
 import re
 import tomllib
 from collections.abc import Callable, Collection
+from typing import Any
 
 from common.ending import FOUND, Failed
 from common.texts import in_line
@@ -24,7 +25,7 @@ class Table:
         self.where, self.line, self.lines = where, line, lines or {}
         if not isinstance(keys, dict):
             raise self.wrong('it must be a table')
-        self.keys = dict(keys)
+        self.keys: dict[str, Any] = dict(keys)
 
     def wrong(self, told: str, key: str = '') -> Miswired:
         """What is wrong here, with the line of a key."""

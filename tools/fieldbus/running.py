@@ -5,6 +5,7 @@ import hashlib
 import pathlib
 import signal
 import time
+from typing import Any
 
 from bay.files import bay_at, may_be_written, octets_of
 from common.ending import DONE, UNREACHED, Parser
@@ -39,7 +40,7 @@ def options(description: str | None) -> Parser:
     return found
 
 
-def named_by(bay: dict) -> tuple[str, str]:
+def named_by(bay: dict[str, Any]) -> tuple[str, str]:
     """The domain and the revision of a bay file."""
     return str(bay['bay'].get('domain', '')), str(bay['bay'].get('revision', ''))
 
@@ -64,7 +65,8 @@ async def all_off(modules: list[Module]) -> bool:
     return all(await asyncio.gather(*(ended(Unit(one, say)) for one in modules)))
 
 
-def check(modules: Modules, bus: Bus, chosen: argparse.Namespace, bay: dict) -> None:
+def check(modules: Modules, bus: Bus, chosen: argparse.Namespace,
+          bay: dict[str, Any]) -> None:
     """Prints the table of terminals, and writes it as a page."""
     for line in sheet(modules, bus)[1:]:
         print(line)

@@ -2,6 +2,7 @@
 read from TOML, and compared with the bay file: what is not wired, or wired twice, is refused."""
 from collections.abc import Collection
 from dataclasses import dataclass, field
+from typing import Any
 
 from bay.files import text_of
 from common.texts import raised
@@ -119,7 +120,7 @@ class Module:
 class Reading:
     """What is read of a wiring, and what of the bay is wired so far."""
 
-    def __init__(self, bay: dict, bus: Bus) -> None:
+    def __init__(self, bay: dict[str, Any], bus: Bus) -> None:
         self.bus = bus
         self.modules: dict[str, Module] = {}
         self.tables: dict[str, Table] = {}
@@ -268,7 +269,7 @@ class Reading:
 
     def check_bay(self) -> None:
         """All of the bay is wired, or said not to be."""
-        wanted = [('switch', name) for name in self.switches]
+        wanted: list[tuple[str, ...]] = [('switch', name) for name in self.switches]
         wanted += [('input', name) for name in sorted(self.inputs)]
         wanted += [('measure', name, of) for name in sorted(self.meters) for of in FIELDS]
         for what in wanted:
@@ -325,7 +326,7 @@ class Modules(list[Module]):
     not_wired: list[str]
 
 
-def wiring_of(text: str, bay: dict, bus: Bus) -> Modules:
+def wiring_of(text: str, bay: dict[str, Any], bus: Bus) -> Modules:
     """What a wiring says of a bay."""
     tables, reading = Tables(text), Reading(bay, bus)
     tables.each('module', reading.take_module)
@@ -347,7 +348,7 @@ def wiring_of(text: str, bay: dict, bus: Bus) -> Modules:
     return found
 
 
-def wiring_at(path: str, bay: dict, bus: Bus) -> Modules:
+def wiring_at(path: str, bay: dict[str, Any], bus: Bus) -> Modules:
     """The modules of a file."""
     try:
         return wiring_of(text_of(path, 'wiring'), bay, bus)
