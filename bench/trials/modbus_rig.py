@@ -66,7 +66,8 @@ class Rig:
         run = self.running[name]
         run.send_signal(number)
         run.wait()
-        run.stdin.close()
+        with contextlib.suppress(OSError):
+            run.stdin.close()
 
     def signals(self, name: str, number: signal.Signals) -> None:
         self.running[name].send_signal(number)
