@@ -13,6 +13,7 @@ from checking import doors, reachable
 from wire import guarded
 from wire.tls import CIPHERS
 
+PAGE_OF_ALL = TOOLS.parent / 'examples' / 'station' / 'station.service'
 PAGE = TOOLS.parent / 'examples' / 'networked' / 'README.md'
 
 
@@ -29,7 +30,7 @@ class Shipped(unittest.TestCase):
         for name, value in (('verifyChain', 'yes'), ('sslVersionMin', 'TLSv1.2'),
                             ('sessionResume', 'no'), ('renegotiation', 'no'),
                             ('setuid', 'stunnel4'), ('accept', '3782'),
-                            ('connect', '127.0.0.1:10102'), ('debug', 'notice')):
+                            ('connect', '127.0.0.1:10102'), ('debug', 'notice'), ('syslog', 'no')):
             self.assertEqual(self.setting(name), value)
         self.assertTrue(self.setting('CAfile') and self.setting('CRLfile'))
         self.assertEqual(self.setting('ciphers'), CIPHERS)
@@ -40,6 +41,8 @@ class Shipped(unittest.TestCase):
         self.assertEqual(ports, {name: str(port) for name, port in reachable.PORTS.items()})
         self.assertTrue(self.setting('connect').endswith(f':{ports["clients"]}'))
         self.assertIn(f'define clients = {{ {self.setting("setuid")} }}', table)
+        page, = re.findall(r'(?m)^User=(.*)$', PAGE_OF_ALL.read_text(encoding='utf-8'))
+        self.assertIn(f'{{ {self.setting("setuid")}, {page} }}', table)
 
     def test_the_page_has_ten_lines(self):
         """Each with its command."""
