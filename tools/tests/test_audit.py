@@ -15,7 +15,7 @@ from bay.rules import (INPUT, MEASURE, SWITCH, BadOption, BadRule, Look, held, l
                        read_looks, read_rules, time_of, value_of)
 from common.ending import CalledWrong
 from picture.svg import SMALL
-from tests.tool import Tools
+from tests.tool import Tools, zone
 
 FILE = {'bay': {'domain': 'E1', 'vendor': 'V', 'model': 'M', 'revision': '1'},
         'switch': [{'id': 'QA1', 'kind': 'breaker'}, {'id': 'QC1', 'kind': 'earthing'}],
@@ -379,9 +379,10 @@ class Pictures(unittest.TestCase):
 
     def test_the_report_is_whole(self):
         files = {'Rules': ('rules <&>', b'always QA1 open')}
-        page = Report(audited('look M1_AA 0\nalways QA1 open'), files, __file__, 0).page()
+        with zone('XYZ-5:30'):
+            page = Report(audited('look M1_AA 0\nalways QA1 open'), files, __file__, 0).page()
         for told in ('the rule holds in what was tried', 'rules &lt;&amp;&gt;',
-                     '1970-01-01 00:00:00 UTC', 'how long they run is not audited',
+                     '1970-01-01 05:30:00 UTC+05:30', 'how long they run is not audited',
                      'QA1 open and VT_DEAD', 'Signature', 'SPARE'):
             self.assertIn(told, page)
         self.assertIsNone(re.search(r'(src|href)=', page), 'it needs no other file')

@@ -2,13 +2,10 @@
 address and port; and the span of a day."""
 import datetime
 import json
-import os
 import pathlib
 import sys
-import time
 import unittest
 from html.parser import HTMLParser
-from unittest import mock
 
 TOOLS = pathlib.Path(__file__).resolve().parent.parent
 sys.path.insert(0, str(TOOLS))
@@ -16,7 +13,7 @@ from journal import server_lines
 from journal.digest import Span
 from journal.entries import Entry, entries_of, entry_of
 from journal.server_lines import event_of
-from tests.tool import Tools
+from tests.tool import Tools, zone
 
 DAY = 1_795_824_000_000  # 2026-11-28 00:00 UTC
 START = DAY + 36_000_000
@@ -189,12 +186,7 @@ class Logs(Tools):
             self.assertEqual(found.error, '', name)
 
     def test_dates_without_a_year(self):
-        with mock.patch.dict(os.environ, TZ='UTC'):
-            time.tzset()
-            self.years()
-        time.tzset()
-
-    def years(self):
+        self.enterContext(zone('UTC'))
         for name in ('short', 'short-precise'):
             entries = list(entries_of(of_journal(FORMATS[name]).splitlines(), NOW))
             self.assertEqual({it.source for it in entries}, {'bayctl[812]', 'stunnel[77]'})

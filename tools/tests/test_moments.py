@@ -1,10 +1,7 @@
 """Moments, joined traces, and what a captured session was over time."""
-import os
 import pathlib
 import sys
-import time
 import unittest
-from unittest import mock
 
 TOOLS = pathlib.Path(__file__).resolve().parent.parent
 sys.path.insert(0, str(TOOLS))
@@ -12,7 +9,7 @@ from bay.names import Names
 from common import moments
 from report.history import History
 from report.joined import BadTrace, lines_of, merged, read_lines, renumbered
-from tests.tool import Tools
+from tests.tool import Tools, zone
 from wire import stream
 from wire.capture import Event
 
@@ -22,23 +19,14 @@ RELEASE = stream.wrapped(stream.release_request())
 
 
 class Moments(unittest.TestCase):
-    def tearDown(self):
-        time.tzset()
-
-    def zone(self, name):
-        patched = mock.patch.dict(os.environ, TZ=name)
-        patched.start()
-        self.addCleanup(patched.stop)
-        time.tzset()
-
     def test_words(self):
-        self.zone('UTC')
+        self.enterContext(zone('UTC'))
         self.assertEqual(moments.told(5000), '5000 ms')
         self.assertEqual(moments.told(DAY + 7), '11:06:40.007')
         self.assertEqual(moments.day_told(DAY), '2026-11-18 UTC')
 
     def test_times_of_day_are_those_here(self):
-        self.zone('XYZ-5:30')
+        self.enterContext(zone('XYZ-5:30'))
         self.assertEqual(moments.told(DAY + 7), '16:36:40.007')
         self.assertEqual(moments.day_told(DAY), '2026-11-18 UTC+05:30')
 

@@ -12,6 +12,7 @@ import tempfile
 import time
 import types
 import unittest
+from collections.abc import Iterator
 from dataclasses import dataclass
 from unittest import mock
 
@@ -40,6 +41,17 @@ def loaded(name: str) -> types.ModuleType:
 
 def stream(octets: bytes = b'') -> io.TextIOWrapper:
     return io.TextIOWrapper(io.BytesIO(octets), 'utf-8', newline='')
+
+
+@contextlib.contextmanager
+def zone(name: str) -> Iterator[None]:
+    """The clock of this process is that of a zone, for a while."""
+    try:
+        with mock.patch.dict(os.environ, TZ=name):
+            time.tzset()
+            yield
+    finally:
+        time.tzset()
 
 
 class Tools(unittest.TestCase):
@@ -79,12 +91,10 @@ class Tools(unittest.TestCase):
         main, out, error = loaded(name).main, stream(), stream()
         streams = mock.patch.multiple(sys, argv=[name, *map(str, words)], stdout=out, stderr=error,
                                       stdin=stream(given.encode()))
-        environment = mock.patch.dict(os.environ, TOOLS_TRACEBACK='1', TZ='UTC')
-        with streams, environment, contextlib.chdir(self.folder):
-            time.tzset()
+        environment = mock.patch.dict(os.environ, TOOLS_TRACEBACK='1')
+        with streams, environment, zone('UTC'), contextlib.chdir(self.folder):
             show_plainly()
             status = status_of(main)
-        time.tzset()
         for one in (out, error):
             one.flush()
         return Ran(out.buffer.getvalue().decode(), error.buffer.getvalue().decode(), status)
