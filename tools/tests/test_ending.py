@@ -15,7 +15,7 @@ TOOLS = pathlib.Path(__file__).resolve().parent.parent
 sys.path.insert(0, str(TOOLS))
 from common.ending import OF_TOOLS, STATUSES, status_of
 from common.texts import counted, escaped, in_line, raised
-from tests.tool import Tools
+from tests.tool import Tools, interruptible
 
 BAY = '''[bay]
 domain = "B"
@@ -164,8 +164,9 @@ class Outputs(Tools):
         slow.chmod(0o755)
         scenario = self.file('scenario', f'{BAY}%%\n{LOGIC}%%\n0 scan\n')
         words = [sys.executable, '-B', TOOLS / 'explain', scenario, '--bayctl', slow]
-        run = subprocess.Popen(words, stdout=subprocess.PIPE, stderr=subprocess.PIPE, text=True,
-                               start_new_session=True)
+        with interruptible():
+            run = subprocess.Popen(words, stdout=subprocess.PIPE, stderr=subprocess.PIPE,
+                                   text=True, start_new_session=True)
         time.sleep(1)
         run.send_signal(signal.SIGINT)
         self.assertEqual((*run.communicate(timeout=10), run.returncode), ('', '', 130))

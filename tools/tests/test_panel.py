@@ -25,7 +25,7 @@ from live.web import Pages
 from tests.loopback import needs_loopback
 from tests.test_audit import FILE
 from tests.test_client import Bay, served
-from tests.tool import Tools
+from tests.tool import Tools, interruptible
 from wire.ber import element
 from wire.client import Lost
 from wire.control import Outcome
@@ -447,9 +447,11 @@ class Stopped(Tools):
         with served(Bay(reports)) as server:
             bay = self.file('bay', '[bay]\ndomain = "B"\nvendor = "V"\nmodel = "M"\n'
                             '[[switch]]\nid = "QA1"\nkind = "breaker"\ncontrol = "sbo"\n')
-            run = subprocess.Popen([sys.executable, '-B', TOOLS / 'panel', '--bay', bay,
-                                    str(server.getsockname()[1]), '--http', '0'],
-                                   stdout=subprocess.PIPE, stderr=subprocess.PIPE, text=True)
+            words = [sys.executable, '-B', TOOLS / 'panel', '--bay', bay,
+                     str(server.getsockname()[1]), '--http', '0']
+            with interruptible():
+                run = subprocess.Popen(words, stdout=subprocess.PIPE, stderr=subprocess.PIPE,
+                                       text=True)
             self.assertIn('http://127.0.0.1:', run.stdout.readline())
             time.sleep(0.5)
             run.send_signal(signal.SIGINT)

@@ -11,7 +11,7 @@ import unittest
 TOOLS = pathlib.Path(__file__).resolve().parent.parent
 sys.path.insert(0, str(TOOLS))
 from tests.loopback import needs_loopback, needs_waiting
-from tests.tool import Tools
+from tests.tool import Tools, interruptible
 from wire.process import Life, ServerClock, greeting_of
 from wire.served import Running, free_port, until
 
@@ -337,8 +337,9 @@ class Waiting(Tools):
     """What it says while nobody takes it."""
 
     def running(self, port):
-        run = Running(sys.executable, '-B', TOOLS / 'simulate', self.file('bay', BAY), '--process',
-                      port, stdin=subprocess.PIPE)
+        with interruptible():
+            run = Running(sys.executable, '-B', TOOLS / 'simulate', self.file('bay', BAY),
+                          '--process', port, stdin=subprocess.PIPE)
         self.addCleanup(run.__exit__)
         return run
 

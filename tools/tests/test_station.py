@@ -21,7 +21,7 @@ from overview.pages import StationPages
 from tests.loopback import needs_loopback
 from tests.test_client import Bay as Server, served
 from tests.test_same_bay import FILE, Model
-from tests.tool import Tools
+from tests.tool import Tools, interruptible
 from wire.served import free_port, until
 
 OTHER = FILE.replace('"B1"', '"B2"')
@@ -327,8 +327,9 @@ class Stations(Tools):
         with served(Server(Model(FILE))) as server:
             words = [sys.executable, '-B', TOOLS / 'station', '--http', '0', '--bay',
                      self.file('bay', FILE), str(server.getsockname()[1])]
-            run = subprocess.Popen(words, stdout=subprocess.PIPE, stderr=subprocess.PIPE,
-                                   text=True)
+            with interruptible():
+                run = subprocess.Popen(words, stdout=subprocess.PIPE, stderr=subprocess.PIPE,
+                                       text=True)
             self.addCleanup(run.kill)
             port = int(run.stdout.readline().rpartition(':')[2].rstrip('/\n'))
             until(lambda: '"QA1"' in self.ask(port, 'GET', '/state')[1], 'it is read')

@@ -6,6 +6,7 @@ import importlib.machinery
 import io
 import os
 import pathlib
+import signal
 import subprocess
 import sys
 import tempfile
@@ -52,6 +53,17 @@ def zone(name: str) -> Iterator[None]:
             yield
     finally:
         time.tzset()
+
+
+@contextlib.contextmanager
+def interruptible() -> Iterator[None]:
+    """What is started within it ends at an interrupt, also where this process was started to ignore
+    one, as in the background of a shell."""
+    before = signal.signal(signal.SIGINT, signal.default_int_handler)
+    try:
+        yield
+    finally:
+        signal.signal(signal.SIGINT, before)
 
 
 class Tools(unittest.TestCase):
