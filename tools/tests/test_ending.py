@@ -31,7 +31,7 @@ travel_ms = 500
 '''
 LOGIC = 'PROGRAM p\nEND_PROGRAM\n'
 LOADED = 'instructions=0 depth=0 budget=0\n'
-GUIDE = TOOLS.parent / 'docs' / 'USER.md'
+GUIDE = TOOLS.parent / 'README.md'
 
 
 class Texts(unittest.TestCase):
