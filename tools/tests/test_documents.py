@@ -48,6 +48,33 @@ class Documents(unittest.TestCase):
             source = (page.parent / link).read_text(encoding='utf-8')
             self.assertRegex(source, rf'\b{name}\b', f'{page.name}: {link}')
 
+    def test_the_walks_name_code(self):
+        """What ARCHITECTURE follows from a contact and from an operate are calls, modules and
+        fields, and no definitions."""
+        text = (TOP / 'docs' / 'ARCHITECTURE.md').read_text(encoding='utf-8')
+        walks = text.partition('\n## From a contact')[2].partition('\n## Glossary')[0]
+        names = set(re.findall('`([a-z_]+)`', walks))
+        self.assertGreater(len(names), 9)
+        files = list(TOP.glob('crates/*/src/*.rt'))
+        code = ''.join(path.read_text(encoding='utf-8') for path in files)
+        there = set(re.findall(r'\b(?:fn |pub (?=\w+:))(\w+)', code))
+        there |= {path.stem for path in files}
+        self.assertEqual(names - there, set())
+
+    def test_reserved_words(self):
+        """USER lists those that the program has, and PROVED counts them."""
+        code = (TOP / 'crates' / 'bay_base' / 'src' / 'words.rt').read_text(encoding='utf-8')
+        words = set(re.findall(r'^ +\("(\w+)", ReservedWord', code, re.MULTILINE))
+        pages = [(TOP / 'docs' / f'{name}.md').read_text('utf-8') for name in ('PROVED', 'USER')]
+        self.assertIn(f'the {len(words)} words that are reserved', pages[0])
+        listed = pages[1].partition("Reserved words can't be names: the\noperators below, ")[2]
+        listed = set(re.findall(r'\w+', listed.partition('. Q, ET')[0]))
+        below = pages[1].partition('### Operators')[2].partition('### Parentheses')[0]
+        self.assertEqual(listed | set(re.findall(r'\b[A-Z_]+\b', below)) & words, words)
+        free = re.search(r'are not reserved above, such as ([A-Z, ]+) and (\w+), may be', pages[1])
+        self.assertEqual({*free[1].split(', '), free[2]} & words, set())
+        self.assertGreater(len(listed), 9)
+
     def test_tables(self):
         for page in PAGES:
             for block in page.read_text(encoding='utf-8').split('\n\n'):

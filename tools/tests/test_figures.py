@@ -56,6 +56,18 @@ class Stamps(unittest.TestCase):
         self.assertEqual(found, [(3, '| a | b |', False),
                                  (9, STAMPED.split('\n')[0], True), (23, 'three', False)])
 
+    def test_the_kits(self):
+        """README names each kit with which the gate was run, or the program that was measured."""
+        said = (TOP / 'README.md').read_text(encoding='utf-8').partition('Proved with ')[2]
+        said = ' '.join(said.partition('From the kit')[0].split())
+        told = ''.join((TOP / 'bench' / f'{name}.md').read_text(encoding='utf-8')
+                       for name in ('GATE', 'RESULTS'))
+        found = set(re.findall(r'rattle-kit-\w+', told))
+        self.assertTrue(found)
+        self.assertEqual(set(re.findall(r'rattle-kit-\w+', said)), found)
+        self.assertEqual(set(re.findall(r'logic \w+', said)), set(re.findall(r'logic [0-9a-f]{16}',
+                                                                              told)))
+
     def test_what_is_printed_is_a_stamp(self):
         told = stamps.STAMP.match(stamps.stamp('bench/speed/serve'))
         self.assertEqual(told['command'], 'bench/speed/serve')
