@@ -159,6 +159,9 @@ class Outputs(Tools):
                          (3, 'scl: standard output: it is closed\n'))
 
     def test_an_interrupt(self):
+        """Also where the tests ignore one, as a gate does in the background of a shell."""
+        before = signal.signal(signal.SIGINT, signal.SIG_IGN)
+        self.addCleanup(signal.signal, signal.SIGINT, before)
         slow = self.file('slow', f'#!{sys.executable}\nimport time\nprint("x", flush=True)\n'
                          'time.sleep(60)\n')
         slow.chmod(0o755)
