@@ -170,6 +170,7 @@ class Outputs(Tools):
         with interruptible():
             run = subprocess.Popen(words, stdout=subprocess.PIPE, stderr=subprocess.PIPE,
                                    text=True, start_new_session=True)
+        self.addCleanup(run.kill)
         time.sleep(1)
         run.send_signal(signal.SIGINT)
         self.assertEqual((*run.communicate(timeout=10), run.returncode), ('', '', 130))

@@ -452,6 +452,7 @@ class Stopped(Tools):
             with interruptible():
                 run = subprocess.Popen(words, stdout=subprocess.PIPE, stderr=subprocess.PIPE,
                                        text=True)
+            self.addCleanup(run.kill)
             self.assertIn('http://127.0.0.1:', run.stdout.readline())
             time.sleep(0.5)
             run.send_signal(signal.SIGINT)
