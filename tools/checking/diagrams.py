@@ -1,0 +1,95 @@
+"""The rules of single line diagrams, asked of bayctl: the programs of the examples keep them, and
+whatever mistake of one line breaks a rule by hand breaks one of the diagram's too."""
+import re
+from collections.abc import Iterator
+
+from auditing import answers, asking
+from auditing.things import keys_of
+from bay.files import bay_at, text_of
+from bay.rules import read_rules
+
+from .planted import EXAMPLES, parts_of, read_faults
+
+DIAGRAMS = EXAMPLES / 'diagrams'
+BY_HAND, OF_DIAGRAM = 'rules', 'rules_of_diagram'
+PART = re.compile(r'(AND|OR)N? \w+')
+
+
+class Asked:
+    """One of the examples, with its files of rules."""
+
+    def __init__(self, checks, path) -> None:
+        self.checks, self.path, self.name = checks, path, f'diagrams/{path.parent.name}'
+        self.keys = keys_of(bay_at(path)[1])
+        self.rules = {name: read_rules(text_of(path.with_name(name)), self.keys)
+                      for name in (BY_HAND, OF_DIAGRAM)}
+        self.logic = text_of(path.with_name('logic.il'))
+
+    def releases(self, logic: str, name: str, *kinds: str) -> set[tuple[str, str]]:
+        """The releases of which a rule of one file has one of these answers."""
+        changed = self.checks.file('logic.il', logic)
+        found = asking.asked(self.checks.bayctl, self.path, changed, self.path.with_name(name),
+                             self.keys)
+        switches = {rule.line: rule.switch for rule in self.rules[name]}
+        parts = parts_of(self.rules[name])
+        return {(switches[line], way) for proof, (line, way) in zip(found.rules, parts, strict=True)
+                if proof.verdict in kinds}
+
+
+def without_a_line(logic: str) -> Iterator[tuple[int, str]]:
+    """A program without one of the lines that may be left out: of its conditions."""
+    lines = logic.split('\n')
+    for at, line in enumerate(lines):
+        if PART.fullmatch(line.strip()):
+            yield at + 1, '\n'.join([*lines[:at], '', *lines[at + 1:]])
+
+
+def told_releases(told: str) -> set[tuple[str, str]]:
+    """The releases that the line of a fault names."""
+    found = set()
+    for part in told.split(', '):
+        switch, ways = part.split(' ')
+        found |= {(switch, way) for way in ways.split('|')}
+    return found
+
+
+def diagrams_are_kept(checks) -> None:
+    """The programs keep the rules by hand and of the diagrams, which tools/rules writes anew."""
+    bad = [kind for kind in answers.WORST if kind != answers.HOLDS]
+    for path in sorted(DIAGRAMS.glob('*/bay.toml')):
+        asked = Asked(checks, path)
+        found, status = checks.run('rules', path, path.with_name('diagram.toml'))
+        checks.holds(f'{asked.name}: the rules of the diagram', status == 0 and found == text_of(
+            path.with_name(OF_DIAGRAM)), f'are others: status {status}')
+        for name in (BY_HAND, OF_DIAGRAM):
+            broken = asked.releases(asked.logic, name, *bad)
+            checks.holds(f'{asked.name}: {name}', not broken, f'not proved of {sorted(broken)}')
+
+
+def hands_follow(checks) -> None:
+    """Whatever the rules by hand find of a program without one line, those of the diagram find."""
+    for path in sorted(DIAGRAMS.glob('*/bay.toml')):
+        asked, count = Asked(checks, path), 0
+        for line, logic in without_a_line(asked.logic):
+            hands = asked.releases(logic, BY_HAND, answers.BROKEN)
+            missing = hands and hands - asked.releases(logic, OF_DIAGRAM, answers.BROKEN)
+            count += bool(hands)
+            checks.holds(f'{asked.name} without line {line}', not missing,
+                         f'only the rules by hand are broken of {sorted(missing)}')
+        checks.holds(f'{asked.name} without a line', count, 'no rule by hand is ever broken')
+
+
+def planted_faults_break(checks) -> None:
+    """Each planted fault breaks a rule of the diagram for the releases that its line names."""
+    count = 0
+    for path in sorted(DIAGRAMS.glob('*/bay.toml')):
+        asked = Asked(checks, path)
+        for fault in read_faults(text_of(path.with_name('faults'))):
+            found = asked.releases(fault.planted(asked.logic), OF_DIAGRAM, answers.BROKEN)
+            count += 1
+            checks.holds(f'{asked.name}: {fault.new or "nothing"!r} in line {fault.line}',
+                         found == told_releases(fault.told), f'broken: {sorted(found)}')
+    checks.holds('planted faults of diagrams', count >= 20, f'only {count}')
+
+
+PARTS = (diagrams_are_kept, hands_follow, planted_faults_break)
