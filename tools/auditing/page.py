@@ -9,16 +9,19 @@ from common import moments
 from common.ending import DONE
 from common.html_page import code, escaped, page, table
 from common.texts import counted
+from diagram.drawing import draw
 
 from . import proving, verdicts
 from .judging import released, uncovered
 from .matrix import draw_parts
+from .states import drawn_states
 from .things import WAYS
 
 TOOLS = pathlib.Path(__file__).resolve().parent.parent
 CHANGES = TOOLS.parent / 'CHANGELOG.md'
 # What the audit is made of.
-FOLDERS = ('auditing', 'bay', 'common', 'diagnosis', 'picture', 'report', 'wire')
+FOLDERS = ('auditing', 'bay', 'common', 'diagnosis', 'diagram', 'live', 'picture', 'report',
+           'wire')
 WIDTH = 672  # of the matrix, in pixels: that of a page of A4
 PROVED = ('<b>Proved</b>: bayctl runs the verified program with values that stand for all. What is '
           'proved of a rule holds in every scan, from every state of the program and with every '
@@ -77,9 +80,10 @@ def product_list(condition) -> str:
 
 class Report:
     """An audit as a page. `files` are what was read, by what it is: name and octets; `moment` is in
-    seconds since 1970."""
+    seconds since 1970; `network` is the single line diagram, where there is one."""
 
-    def __init__(self, audit, files, bayctl, moment) -> None:
+    def __init__(self, audit, files, bayctl, moment, network=None) -> None:
+        self.network = network
         self.audit, self.bay, self.files, self.bayctl = audit, audit.bay, files, bayctl
         told = int(moment) * 1000
         self.day = f'{moments.date_of(told):%Y-%m-%d %H:%M:%S} {moments.zone_told(told)}'
@@ -89,7 +93,7 @@ class Report:
         title = f'Audit of the interlocking of bay {bay["domain"]}'
         style = STYLE % f'Bay {bay["domain"]}, {self.day}'
         parts = [f'<h1>{escaped(title)}</h1>', self.verdict(), self.what_was_read(),
-                 self.signatures(), self.how(), self.rules(), self.conditions(),
+                 self.signatures(), self.how(), self.rules(), self.diagram(), self.conditions(),
                  self.lost(), self.uncovered(), self.matrix()]
         return page(title, style, parts)
 
@@ -165,6 +169,21 @@ class Report:
                          f'<span class="mark {kind}">{it.verdict()}</span>'))
         heads = ['#Line', 'Rule', '#Cases proved', '#Applied in so many tried', 'Verdict']
         return '<h2>Rules</h2>' + (table(heads, rows) if rows else '<p>There are none.</p>')
+
+    def diagram(self) -> str:
+        """The single line diagram in some states, with what is released in them."""
+        if self.network is None:
+            return ''
+        how = ('Beside a switch, ✓ tells that this is released in the state, ✕ that it is not, '
+               'as proved; ? that it depends on variables or timers' if self.audit.answer else
+               'What is released in a state is not told: nothing is proved')
+        lead = (f'<h2>Single line diagram</h2><p class="quiet">{how}. Inputs tell the positions '
+                'of switches of other bays (grey). Other inputs and measures are 0, but in a '
+                'state that breaks a rule.</p>')
+        return lead + ''.join(
+            f'<div class="figure"><p>{escaped(it.title)}</p>'
+            + draw(self.network, it.title, it.positions, it.releases) + '</div>'
+            for it in drawn_states(self.audit, self.network))
 
     def conditions(self) -> str:
         rows = [(f'<b>{escaped(name)}</b> {WAYS[way]}', product_list(it))

@@ -11,6 +11,10 @@ let lastTold = '';    // the events that were shown
 let isGone = true;    // whether the panel itself is gone
 const page = Array.from(crypto.getRandomValues(new Uint32Array(4)), (n) => n.toString(16)).join('');
 
+function mark(way) {
+  return way.free ? '✓' : '✕';
+}
+
 function described(it) {
   const ways = ['open', 'close'].map((way) => may(it, way)).map((m) => m.told.replace(/^. /, ''));
   const seen = it.selected ? ', selected' : '';
@@ -27,6 +31,8 @@ function showPicture() {
     drawn.setAttribute('aria-label', described(it));
     drawn.querySelector('.told').textContent = placeOf(it);
     drawn.querySelector('.more').textContent = it.selected ? 'selected' : '';
+    const frees = drawn.querySelector('.frees');
+    if (frees) frees.textContent = `open ${mark(it.open)} close ${mark(it.close)}`;
   }
 }
 

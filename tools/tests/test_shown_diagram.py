@@ -1,0 +1,134 @@
+"""A single line diagram where a panel and the report of an audit show it."""
+import http.client
+import sys
+import threading
+import unittest
+from pathlib import Path
+from unittest import mock
+
+sys.path.insert(0, str(Path(__file__).resolve().parent.parent))
+from auditing.answers import Answer, Case, Release
+from auditing.states import is_released, positions_of, state_of
+from bay.files import bay_at
+from bay.rules import INPUT, SWITCH
+from diagram.diagram_file import diagram_at
+from diagram.drawing import in_service, usual_positions
+from live.web import Pages
+from tests import test_proving
+from tests.loopback import needs_loopback
+from tests.test_diagram import EXAMPLES
+from tests.test_drawing import SVG, groups
+from tests.tool import Tools, loaded
+
+LINE = next(it for it in EXAMPLES if it.parent.name == 'line')
+SINGLE = next(it for it in EXAMPLES if it.parent.name == 'single')
+QA1, QB1, VT_DEAD = (SWITCH, 'QA1'), (SWITCH, 'QB1'), (INPUT, 'VT_DEAD')
+
+
+class States(unittest.TestCase):
+    def test_what_is_released_in_a_state(self):
+        def release(*cases):
+            return Answer('', releases=[Release('QB1', 0, list(cases))])
+        free = Case({QA1: ((1, 1),)})
+        for answer, state, wanted in (
+                (release(free), {QA1: 1}, True), (release(free), {QA1: 2}, False),
+                (release(), {QA1: 1}, False), (Answer(''), {QA1: 1}, None),
+                (release(Case({QA1: ((1, 1),)}, ('t1',))), {QA1: 1}, None),
+                (release(Case({QA1: ((1, 2),)}, ('t1',)), free), {QA1: 1}, True),
+                (release(Case({VT_DEAD: ((1, 1),)})), {VT_DEAD: 0}, False)):
+            self.assertIs(is_released(answer, 'qb1', 0, state), wanted)
+        unknown = Answer('', releases=[Release('QB1', 0, is_known=False)])
+        self.assertIsNone(is_released(unknown, 'QB1', 0, {QA1: 1}))
+
+    def test_inputs_say_the_positions_of_other_bays(self):
+        file = bay_at(LINE)[1]
+        net = diagram_at(LINE.with_name('diagram.toml'), file)
+        state = state_of(net, in_service(net), file)
+        self.assertEqual([state[INPUT, name] for name in (
+            'TA1_CLOSED', 'TA1_OPEN', 'TB1_CLOSED', 'VT_DEAD')], [1, 0, 1, 0])
+        self.assertEqual((state[QB1], state[SWITCH, 'QC9']), (2, 1))
+        self.assertEqual(positions_of(net, state), in_service(net))
+        apart = positions_of(net, state_of(net, usual_positions(net), file))
+        self.assertEqual((apart['TA1'], 'TB1' in apart, apart['QB7']), ('open', False, 'open'))
+        state[INPUT, 'TA1_OPEN'] = 1
+        self.assertNotIn('TA1', positions_of(net, state))
+
+
+class Reports(Tools):
+    def test_a_report_with_a_diagram(self):
+        bay, rules = SINGLE, self.file('rules', 'never QB1 open when QA1 not open\n')
+        printed = test_proving.LOADED + (
+            'rule 1 broken QA1=2\nrelease QB1 open cases=1\nreleased QC1=1\n'
+            'release QB1 close cases=1\nhangs QA1=1 by t1\n')
+        program = test_proving.Asking.bayctl(self, printed, 4)
+        program.write_text(program.read_text().replace(
+            'QA1=11 QC1=11', 'QA1=11 QB1=11 QB9=00 QC1=00 QC9=00').replace('* 40', '* 5000'))
+        words = ['audit', bay, bay.with_name('logic.il'), rules, '--bayctl', program]
+        found = self.call_tool(*words, '--report', 'page.html', '--diagram',
+                               bay.with_name('diagram.toml'))
+        self.assertEqual(found.status, 1, found)
+        page = (self.folder / 'page.html').read_text(encoding='utf-8')
+        self.assertIn('diagram.toml', page)
+        pictures = [part.partition('</svg>')[0] + '</svg>' for part in page.split('<svg')
+                    if 'class="diagram"' in part]
+        self.assertEqual(len(pictures), 3)
+        shown = [groups('<svg' + it) for it in pictures]
+        self.assertEqual([it['QA1'].get('class') for it in shown],
+                         ['switch open', 'switch closed', 'switch closed'])
+        words = [[it.text for it in drawn['QB1'].findall(f'{SVG}text')][2] for drawn in shown]
+        self.assertEqual(words, ['open ✓ close ?', 'open ✓ close ✕', 'open ✓ close ✕'])
+        self.assertIn('The rule of line 1 is broken', page)
+
+    def test_a_diagram_without_a_report_or_that_is_refused(self):
+        words = ['audit', SINGLE, SINGLE.with_name('logic.il'), SINGLE.with_name('rules'),
+                 '--bayctl', self.bayctl(test_proving.LOADED), '--diagram']
+        self.assertEqual(self.call_tool(*words, SINGLE.with_name('diagram.toml')).status, 2)
+        found = self.call_tool(*words, LINE.with_name('diagram.toml'), '--report', 'page.html')
+        self.assertEqual((found.status, found.error.count('\n')), (1, 1))
+        self.assertFalse((self.folder / 'page.html').exists())
+
+
+class Panels(Tools):
+    def picture(self, *words) -> str:
+        panel = loaded('panel')
+        chosen = panel.options().parse_args(['--bay', str(LINE), '1', *map(str, words)])
+        return panel.picture_of(chosen, bay_at(LINE)[1])
+
+    def test_the_picture(self):
+        found = groups(self.picture('--diagram', LINE.with_name('diagram.toml')))
+        own = {switch['id'] for switch in bay_at(LINE)[1]['switch']}
+        self.assertEqual({name for name, it in found.items() if it.get('data-switch')}, own)
+        self.assertEqual(found['TA1'].get('class'), 'other unknown')
+        for it in found.values():
+            self.assertEqual([word.get('class') for word in it.findall(f'{SVG}text')],
+                             ['id', 'told', 'frees', 'more'])
+        self.assertNotIn('frees', self.picture())
+
+    def test_words_that_do_not_fit(self):
+        found = self.call_tool('panel', '--bay', LINE, 1, '--diagram',
+                               LINE.with_name('diagram.toml'), '--order', 'QA1')
+        self.assertEqual((found.status, found.error.count('\n')), (2, 1))
+        found = self.call_tool('panel', '--bay', LINE, 1, '--diagram',
+                               SINGLE.with_name('diagram.toml'))
+        self.assertEqual((found.status, found.error.count('\n')), (1, 1))
+
+    @needs_loopback
+    def test_the_page(self):
+        watcher = mock.Mock(file=bay_at(LINE)[1], tls=None)
+        picture = self.picture('--diagram', LINE.with_name('diagram.toml'))
+        pages = Pages(0, watcher, picture)
+        thread = threading.Thread(target=pages.serve_forever, daemon=True)
+        thread.start()
+        self.addCleanup(thread.join)
+        self.addCleanup(pages.server_close)
+        self.addCleanup(pages.shutdown)
+        connection = http.client.HTTPConnection('127.0.0.1', pages.server_address[1], timeout=10)
+        self.addCleanup(connection.close)
+        connection.request('GET', '/')
+        text = connection.getresponse().read().decode()
+        self.assertIn(picture, text)
+        self.assertNotIn('<style', text)
+
+
+if __name__ == '__main__':
+    unittest.main()
