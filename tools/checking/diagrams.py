@@ -12,7 +12,13 @@ from .planted import EXAMPLES, parts_of, read_faults
 
 DIAGRAMS = EXAMPLES / 'diagrams'
 BY_HAND, OF_DIAGRAM = 'rules', 'rules_of_diagram'
+TOLD = ('instructions=', 'rule ', 'release ', 'lost ')  # the lines that an example keeps
 PART = re.compile(r'(AND|OR)N? \w+')
+
+
+def audited(name: str) -> str:
+    """The file of an example that has what bayctl prints of a file of rules."""
+    return name.replace(BY_HAND, 'audited', 1)
 
 
 class Asked:
@@ -24,6 +30,13 @@ class Asked:
         self.rules = {name: read_rules(text_of(path.with_name(name)), self.keys)
                       for name in (BY_HAND, OF_DIAGRAM)}
         self.logic = text_of(path.with_name('logic.il'))
+
+    def printed(self, name: str) -> str:
+        """What bayctl prints of the rules of one file, without the cases."""
+        done = asking.run(self.checks.bayctl, 'audit', '--bay', self.path, '--logic',
+                          self.path.with_name('logic.il'), '--rules', self.path.with_name(name))
+        return ''.join(line + '\n' for line in done.stdout.decode().split('\n')
+                       if line.startswith(TOLD))
 
     def releases(self, logic: str, name: str, *kinds: str) -> set[tuple[str, str]]:
         """The releases of which a rule of one file has one of these answers."""
@@ -62,6 +75,8 @@ def diagrams_are_kept(checks) -> None:
         checks.holds(f'{asked.name}: the rules of the diagram', status == 0 and found == text_of(
             path.with_name(OF_DIAGRAM)), f'are others: status {status}')
         for name in (BY_HAND, OF_DIAGRAM):
+            said, wanted = asked.printed(name), text_of(path.with_name(audited(name)))
+            checks.holds(f'{asked.name}: {audited(name)}', said == wanted, f'bayctl says:\n{said}')
             broken = asked.releases(asked.logic, name, *bad)
             checks.holds(f'{asked.name}: {name}', not broken, f'not proved of {sorted(broken)}')
 

@@ -11,7 +11,8 @@ from .network import BUSBAR, EARTH, EARTHING, JUNCTION, TRANSFORMER, Network, No
 from .symbols import REACH, STYLE, blade, ending, windings
 
 TOP, BUS, APART = 40, 34, 112  # above the first busbar, between two, between two levels
-LEFT, RIGHT, BRANCH, SIDE = 46, 132, 236, 132  # room beside a node, of an earth, of a busbar's own
+LEFT, RIGHT, BRANCH = 46, 150, 250  # room beside a node, and of an earthing switch
+FITS = 640  # how narrow a picture of a page may be shown
 STACK, TAIL = 56, 82  # between two earthing switches of a node, and below the last level
 ROUND = 25  # from the middle of a transformer to its wires
 WORDS = {True: '✓', False: '✕', None: '?'}  # of a release: given, not given, or it depends
@@ -187,7 +188,7 @@ class Drawing:
                 + '\n'.join(self.parts) + '</svg>\n')
 
     def wide(self) -> str:
-        return ' wide' if self.is_live and self.places.width > 376 else ''
+        return ' wide' if self.is_live and self.places.width > FITS else ''
 
     # ---- nodes
 

@@ -315,11 +315,14 @@ class Checked(Tools):
             bayctl='none', file=self.file,
             holds=lambda name, is_so, why: None if is_so else told.append(name),
             run=lambda tool, *words: (lambda it: (it.out, it.status))(self.call_tool(tool, *words)))
+        def run(bayctl, *words) -> types.SimpleNamespace:
+            kept = Path(words[-1]).with_name(Path(words[-1]).name.replace('rules', 'audited'))
+            return types.SimpleNamespace(stdout=kept.read_bytes() + b'released QA1=1\n')
         by_path = {path: answered(States(bay_at(path)[1])) for path in EXAMPLES}
 
         def asked_of(bayctl, bay_file, logic, rules, keys) -> Answer:
             return by_path[bay_file](bayctl, bay_file, logic, rules, keys)
-        with mock.patch('checking.diagrams.asking.asked', changed or asked_of):
+        with mock.patch.multiple('checking.diagrams.asking', asked=changed or asked_of, run=run):
             for part in parts:
                 part(checks)
         return told
