@@ -67,6 +67,10 @@ class Reader:
         except (ValueError, RecursionError) as error:
             told = f'{self.title}: it is not TOML that Python can read: {error}'
             raise BadDiagram(told) from None
+        return self.of_tables(tables)
+
+    def of_tables(self, tables: dict) -> Network:
+        """The network of the tables of a diagram."""
         for name, rows in tables.items():
             if name not in TABLES:
                 raise self.wrong(name, f'there is no such table: {meant(name, list(TABLES))}')
