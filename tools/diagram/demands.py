@@ -14,8 +14,8 @@ from dataclasses import dataclass, field
 
 from common.texts import raised
 
-from .network import (BREAKER, DISCONNECTOR, EARTHING, TERMINALS, TRANSFORMER, BadDiagram, Network,
-                      Switch)
+from .network import (BREAKER, DISCONNECTOR, EARTHING, NOT_DEAD, TERMINALS, TRANSFORMER, BadDiagram,
+                      Network, Part, Switch)
 from .paths import Path, paths, paths_between
 
 EARTHS, JOINS, CURRENT, ALONE, MEETS, STAYS, SYSTEMS = HEADS = (
@@ -40,15 +40,15 @@ class Demand:
     head: str
     switch: str
     ways: tuple[str, ...]
-    parts: tuple[str, ...]
-    unless: tuple[tuple[str, ...], ...] = ()
+    parts: tuple[Part, ...]
+    unless: tuple[tuple[Part, ...], ...] = ()
     why: list[str] = field(default_factory=list)
 
     def condition(self) -> str:
         """What stands behind `when`; nothing where the rule always applies."""
-        words = list(self.parts)
+        words = [it.text for it in self.parts]
         if self.unless:
-            told = ' or '.join(' and '.join(parts) for parts in self.unless)
+            told = ' or '.join(' and '.join(it.text for it in parts) for parts in self.unless)
             is_one = re.fullmatch('[A-Za-z0-9_]+', told)
             words.append(f'not {told}' if is_one else f'not ({told})')
         return ' and '.join(words)
@@ -60,25 +60,13 @@ class Demand:
     def covers(self, other: 'Demand') -> bool:
         """Whether whatever breaks the other rule breaks this one."""
         return (raised(self.switch) == raised(other.switch) and set(self.ways) >= set(other.ways)
-                and all(follows(part, other.parts) for part in self.parts)
-                and all(is_against(mine, other.parts) or any(set(its) <= set(mine)
-                                                             for its in other.unless)
+                and all(it.follows(other.parts) for it in self.parts)
+                and all(any(it.is_against(other.parts) for it in mine)
+                        or any(set(its) <= set(mine) for its in other.unless)
                         for mine in self.unless))
 
 
-def follows(part: str, parts: tuple[str, ...]) -> bool:
-    """Whether a part of a condition holds where some others do."""
-    return part in parts or part.endswith(' not open') and f'{part}|closed' in parts
-
-
-def is_against(closed: tuple[str, ...], parts: tuple[str, ...]) -> bool:
-    """Whether a path beside can't be known to be closed where some parts hold."""
-    against = {f'not {name}' for name in closed} | {
-        f'{name.removesuffix(" closed")} not open|closed' for name in closed}
-    return bool(against & set(parts))
-
-
-def both(switches: Iterable[Switch]) -> tuple[str, ...]:
+def both(switches: Iterable[Switch]) -> tuple[Part, ...]:
     """What holds unless one of some switches is known to be open."""
     return tuple(dict.fromkeys(part for it in switches for part in it.not_open()))
 
@@ -136,9 +124,9 @@ class Demands:
                               stops_at=lambda name: net.kind(name) == TRANSFORMER)
         return [path for path in found if all(it.is_closed() for it in path.switches)]
 
-    def unless(self, switch: Switch, without: Switch | None = None) -> tuple[tuple[str, ...], ...]:
+    def unless(self, switch: Switch, without: Switch | None = None) -> tuple[tuple[Part, ...], ...]:
         """That a path beside a disconnector is closed, by each of them."""
-        return tuple(tuple(it.is_closed() for it in path.switches)
+        return tuple(tuple(part for it in path.switches for part in it.is_closed())
                      for path in self.closed_beside[switch.name] if without not in path.switches)
 
     # ---- rules
@@ -158,7 +146,7 @@ class Demands:
                                      f'and no disconnector parts it from the source {source.name}: '
                                      f'give the node {source.name} a key dead, with the input that '
                                      'is TRUE only while it is dead, or add the disconnector')
-                parts = (f'not {source.dead}',)
+                parts = (Part(source.name, NOT_DEAD, f'not {source.dead}'),)
                 why = f'no disconnector parts {switch.name} from the source: {path.told()}'
             yield Demand(EARTHS, switch.name, CLOSE, parts, why=[why])
 

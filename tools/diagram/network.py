@@ -9,6 +9,9 @@ from common.ending import FOUND, Failed
 BREAKER, DISCONNECTOR, EARTHING = KINDS = ('breaker', 'disconnector', 'earthing')
 BUSBAR, LINE, CABLE, TRANSFORMER, EARTH, JUNCTION = NODES = (
     'busbar', 'line', 'cable', 'transformer', 'earth', 'junction')
+NOT_OPEN, NOT_AT_REST, IS_CLOSED, NOT_DEAD = (
+    'not known to be open', 'not known to be in an end position', 'known to be closed',
+    'not known to be dead')
 TERMINALS = (BUSBAR, LINE, CABLE, TRANSFORMER)  # where a current can enter or leave
 
 
@@ -29,9 +32,28 @@ class Node:
 
 
 @dataclass(frozen=True)
+class Part:
+    """What is asked of a switch, or of a source, and the text of the rules for it."""
+    name: str
+    asked: str
+    text: str
+
+    def follows(self, parts: tuple['Part', ...]) -> bool:
+        """Whether it holds where some others do."""
+        return self in parts or self.asked == NOT_OPEN and any(
+            (it.name, it.asked) == (self.name, NOT_AT_REST) for it in parts)
+
+    def is_against(self, parts: tuple['Part', ...]) -> bool:
+        """Whether it can't hold where some others do."""
+        return self.asked == IS_CLOSED and any(
+            (it.name, it.asked) == (self.name, NOT_AT_REST) for it in parts)
+
+
+@dataclass(frozen=True)
 class Switch:
     """A switch between two nodes: one of the bay, known by its positions, or one of another bay,
-    known by the inputs that are TRUE while it is closed and while it is open. `isolates` is whether
+    known by the inputs that are TRUE while it is closed and while it is open; where both are, it is
+    not known. `isolates` is whether
     it keeps apart what it parts while it is open, as each disconnector does."""
     name: str
     kind: str
@@ -41,21 +63,32 @@ class Switch:
     opened: str = ''
     isolates: bool = False
 
-    def not_open(self) -> tuple[str, ...]:
-        """What holds unless it is known to be open, as parts that all hold."""
+    def not_open(self) -> tuple['Part', ...]:
+        """What holds unless it is known to be open; nothing where that is never known."""
         if self.is_own:
-            return (f'{self.name} not open',)
-        return (f'not {self.opened}',) if self.opened else ()
+            text = f'{self.name} not open'
+        else:
+            text = f'(not {self.opened} or {self.closed})' if self.opened and self.closed else (
+                self.opened and f'not {self.opened}')
+        return (Part(self.name, NOT_OPEN, text),) if text else ()
 
-    def not_at_rest(self) -> tuple[str, ...]:
+    def not_at_rest(self) -> tuple['Part', ...]:
         """What holds unless it is known to be in an end position."""
         if self.is_own:
-            return (f'{self.name} not open|closed',)
-        return tuple(f'not {name}' for name in (self.closed, self.opened) if name)
+            text = f'{self.name} not open|closed'
+        elif self.opened and self.closed:
+            one, other = self.closed, self.opened
+            text = f'({one} and {other} or not {one} and not {other})'
+        else:
+            text = f'not {self.closed or self.opened}'
+        is_told = self.is_own or self.closed or self.opened
+        return (Part(self.name, NOT_AT_REST, text),) if is_told else ()
 
-    def is_closed(self) -> str:
+    def is_closed(self) -> tuple['Part', ...]:
         """What holds only where it is known to be closed; nothing where that is never known."""
-        return f'{self.name} closed' if self.is_own else self.closed
+        text = f'{self.name} closed' if self.is_own else (
+            f'{self.closed} and not {self.opened}' if self.closed and self.opened else self.closed)
+        return (Part(self.name, IS_CLOSED, text),) if text else ()
 
     def other(self, node: str) -> str:
         """The node at its other side."""

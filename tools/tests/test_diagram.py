@@ -122,9 +122,10 @@ class Rules(unittest.TestCase):
                 'E earth', 'QB1: BB1 N1', 'QA1: N1 N2', 'QC1: N1 E')
         own = bay('QA1', 'QB1', 'QC1', inputs=('X_OPEN', 'X_CLOSED'))
         told = asked(own, *rows, 'X disconnector closed="X_CLOSED" open="X_OPEN": N2 C')
-        self.assertIn('never QC1 close when not X_OPEN', told)
-        self.assertIn('never QA1 close when not X_CLOSED and not X_OPEN', told)
-        self.assertIn('never QA1 close when QC1 not open and not X_OPEN', told)
+        self.assertIn('never QC1 close when (not X_OPEN or X_CLOSED)', told)
+        self.assertIn('never QA1 close when (X_CLOSED and X_OPEN or not X_CLOSED and not X_OPEN)',
+                      told)
+        self.assertIn('never QA1 close when QC1 not open and (not X_OPEN or X_CLOSED)', told)
         untold = asked(own, *rows, 'X disconnector closed="X_CLOSED": N2 C')
         self.assertIn('never QC1 close', untold)
         self.assertIn('never QA1 close when not X_CLOSED', untold)
@@ -153,8 +154,10 @@ class Rules(unittest.TestCase):
                 'F2 disconnector closed="F2_CLOSED" open="F2_OPEN": BB2 N')
         found = {it.text(): it.head for it in demands_of(read_diagram(diagram(*rows), 'd', own))}
         self.assertEqual(found, {
-            'never QA1 open when not F1_CLOSED and not F1_OPEN and not F2_OPEN': STAYS,
-            'never QA1 open when not F2_CLOSED and not F2_OPEN and not F1_OPEN': STAYS})
+            'never QA1 open when (F1_CLOSED and F1_OPEN or not F1_CLOSED and not F1_OPEN)'
+            ' and (not F2_OPEN or F2_CLOSED)': STAYS,
+            'never QA1 open when (F2_CLOSED and F2_OPEN or not F2_CLOSED and not F2_OPEN)'
+            ' and (not F1_OPEN or F1_CLOSED)': STAYS})
 
     def test_unlike_systems(self):
         own = bay('QB1', 'QB2', inputs=('A',))

@@ -23,6 +23,7 @@ VAR
 END_VAR
 
     LD TA1_CLOSED
+    ANDN TA1_OPEN         (* both are TRUE where the contacts contradict each other *)
     AND TB1_CLOSED
     AND TB7_CLOSED
     ST transfer
@@ -37,7 +38,9 @@ END_VAR
     LD QB7_OPEN
     OR QB1_OPEN
     OR QB9_OPEN
-    OR TA1_OPEN
+    OR( TA1_OPEN
+        ANDN TA1_CLOSED
+    )
     OR( in_service
         AND QB7_CLOSED
         AND transfer

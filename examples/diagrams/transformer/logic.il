@@ -5,7 +5,7 @@ VAR_EXTERNAL
     QB1_OPEN, QB1_CLOSED : BOOL;
     QB2_OPEN, QB2_CLOSED : BOOL;
     QC1_OPEN, QC3_OPEN : BOOL;
-    LB1_OPEN, CA1_CLOSED : BOOL;
+    LB1_OPEN, LB1_CLOSED, CA1_CLOSED : BOOL;
     QA1_ENA_OPN, QA1_ENA_CLS : BOOL;
     QB1_ENA_OPN, QB1_ENA_CLS : BOOL;
     QB2_ENA_OPN, QB2_ENA_CLS : BOOL;
@@ -53,6 +53,7 @@ END_VAR
     LD QB1_OPEN
     AND QB2_OPEN
     AND LB1_OPEN
+    ANDN LB1_CLOSED       (* both are TRUE where the contacts contradict each other *)
     ST isolated
     LD TRUE
     ST QC1_ENA_OPN
