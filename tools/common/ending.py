@@ -6,6 +6,7 @@ import os
 import pathlib
 import sys
 from collections.abc import Callable, Iterator
+from typing import Any, NoReturn, TextIO
 
 from .texts import escaped
 
@@ -38,15 +39,15 @@ class CalledWrong(Failed):
 class Parser(argparse.ArgumentParser):
     """The options of a tool. Its help is the tool's own description."""
 
-    def __init__(self, description: str | None = None, **more) -> None:
+    def __init__(self, description: str | None = None, **more: Any) -> None:
         super().__init__(description=description, allow_abbrev=False,
                          formatter_class=argparse.RawDescriptionHelpFormatter, **more)
 
-    def print_help(self, file=None) -> None:
+    def print_help(self, file: Any = None) -> None:
         """Prints the help; where that can't be written the tool says so."""
         print(self.format_help(), end='', file=file or sys.stdout, flush=True)
 
-    def error(self, message: str) -> None:
+    def error(self, message: str) -> NoReturn:
         complain(f'{message} (see --help)')
         sys.exit(CALLED_WRONG)
 
@@ -67,7 +68,7 @@ def writing() -> Iterator[None]:
 class Shown:
     """A stream to which control characters go escaped."""
 
-    def __init__(self, stream) -> None:
+    def __init__(self, stream: TextIO) -> None:
         self.stream = stream
 
     def write(self, text: str) -> int:
@@ -84,7 +85,7 @@ class Shown:
             self.stream.buffer.write(octets)
             self.stream.flush()
 
-    def __getattr__(self, name) -> object:
+    def __getattr__(self, name: str) -> Any:
         return getattr(self.stream, name)
 
 
@@ -124,6 +125,7 @@ def status_of(main: Callable[[], int | None]) -> int:
     except KeyboardInterrupt:
         return flushed(INTERRUPTED)
     except Unwritten as error:
+        assert isinstance(error.__cause__, OSError)
         return without_output(error.__cause__)
     except OSError as error:
         complain(told_of(error))
@@ -141,7 +143,7 @@ def status_in(main: Callable[[], int | None]) -> int:
     try:
         return main() or DONE
     except SystemExit as end:
-        return end.code or DONE
+        return end.code if isinstance(end.code, int) else UNREACHED if end.code else DONE
 
 
 def flushed(status: int) -> int:

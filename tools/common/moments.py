@@ -45,7 +45,7 @@ def told(moment: int) -> str:
     return clock_told(moment) if is_clock(moment) else f'{moment} ms'
 
 
-def warnings(moments: list, refused: int) -> list[str]:
+def warnings(moments: list[int], refused: int) -> list[str]:
     """What is to be said of the moments of a trace, of whose lines so many were refused since
     their moments go back."""
     found = []

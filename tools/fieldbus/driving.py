@@ -49,7 +49,7 @@ class Driver:
         now = time.monotonic()
         news = [(point, value) for point, value in self.known.items()
                 if point not in self.told or self.told[point] != value]
-        news.sort(key=lambda one: rank(*one, self.alive))
+        news.sort(key=lambda one: rank(one[0], one[1], self.alive))
         stamped = []
         for point, value in news:
             unit = self.owner[point]

@@ -96,8 +96,10 @@ class Table:
         """A least and a greatest number."""
         if key not in self.keys:
             return None
-        match self.keys[key]:
-            case [least, most] if {type(least), type(most)} <= {int, float} and least < most:
+        found = self.keys[key]
+        if isinstance(found, list) and len(found) == 2:
+            least, most = found
+            if {type(least), type(most)} <= {int, float} and least < most:
                 del self.keys[key]
                 return least, most
         raise self.wrong(f'{self.shown(key)}: write [LEAST, MOST], the least first', key)

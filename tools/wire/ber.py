@@ -8,7 +8,7 @@ class Unreadable(Exception):
     """Octets that are not what is wanted of them."""
 
 
-def read(octets, at=0) -> tuple:
+def read(octets: bytes, at: int = 0) -> tuple[int, bytes, int]:
     """The element at a place: its tag, its content and the place behind it."""
     tag, at = octet(octets, at), at + 1
     if tag & 0x1f == 0x1f:
@@ -27,13 +27,13 @@ def read(octets, at=0) -> tuple:
     return tag, octets[at:at + size], at + size
 
 
-def octet(octets, at) -> int:
+def octet(octets: bytes, at: int) -> int:
     if at >= len(octets):
         raise Unreadable('octets that end early')
     return octets[at]
 
 
-def elements(octets) -> list:
+def elements(octets: bytes) -> list[tuple[int, bytes]]:
     """The elements that fill some octets, each as tag and content."""
     found, at = [], 0
     while at < len(octets):
@@ -42,7 +42,7 @@ def elements(octets) -> list:
     return found
 
 
-def only(octets, tag) -> bytes:
+def only(octets: bytes, tag: int) -> bytes:
     """The content of the one element of this tag that fills some octets."""
     found = elements(octets)
     if [t for t, _ in found] != [tag]:
@@ -50,19 +50,19 @@ def only(octets, tag) -> bytes:
     return found[0][1]
 
 
-def field(octets, tag, default=None) -> bytes | None:
+def field(octets: bytes, tag: int, default: bytes | None = None) -> bytes | None:
     """The content of the first element of this tag among others."""
     return next((content for t, content in elements(octets) if t == tag), default)
 
 
-def needed(octets, tag) -> bytes:
+def needed(octets: bytes, tag: int) -> bytes:
     content = field(octets, tag)
     if content is None:
         raise Unreadable(f'no element {tag:02X}')
     return content
 
 
-def integer(content) -> int:
+def integer(content: bytes) -> int:
     if not content:
         raise Unreadable('an integer of no octets')
     if len(content) > LONGEST:
@@ -70,7 +70,7 @@ def integer(content) -> int:
     return int.from_bytes(content, signed=True)
 
 
-def element(tag, *contents) -> bytes:
+def element(tag: int, *contents: bytes) -> bytes:
     """The octets of an element."""
     content = b''.join(contents)
     name = bytes([tag >> 8, tag & 0xff]) if tag > 0xff else bytes([tag])
@@ -80,7 +80,7 @@ def element(tag, *contents) -> bytes:
     return name + bytes([0x80 + len(size)]) + size + content
 
 
-def number(tag, value) -> bytes:
+def number(tag: int, value: int) -> bytes:
     """The octets of an integer."""
     return element(tag,
                    value.to_bytes(((value if value >= 0 else ~value).bit_length() + 8) // 8,
