@@ -85,8 +85,8 @@ class Demands:
                          for path in paths_between(network, source.name, network.earthed(switch),
                                                    without=switch)]
         self.currents = list(self.between_terminals())
-        self.closed_beside = {it.name: self.beside(it) for it in network.switches
-                              if it.kind == DISCONNECTOR}
+        self.besides = {it.name: self.beside(it) for it in network.switches
+                        if it.kind == DISCONNECTOR}
 
     def all(self) -> list[Demand]:
         """The rules, without those that another one covers, in the order of the table."""
@@ -118,16 +118,20 @@ class Demands:
                     yield path
 
     def beside(self, switch: Switch) -> list[Path]:
-        """The paths beside a disconnector that can be known to be closed."""
+        """The paths beside a disconnector."""
         net = self.network
-        found = paths_between(net, *switch.nodes, without=switch,
-                              stops_at=lambda name: net.kind(name) == TRANSFORMER)
-        return [path for path in found if all(it.is_closed() for it in path.switches)]
+        return paths_between(net, *switch.nodes, without=switch,
+                             stops_at=lambda name: net.kind(name) == TRANSFORMER)
+
+    def closed_beside(self, switch: Switch) -> list[Path]:
+        """Those that can be known to be closed."""
+        return [path for path in self.besides[switch.name]
+                if all(it.is_closed() for it in path.switches)]
 
     def unless(self, switch: Switch, without: Switch | None = None) -> tuple[tuple[Part, ...], ...]:
         """That a path beside a disconnector is closed, by each of them."""
         return tuple(tuple(part for it in path.switches for part in it.is_closed())
-                     for path in self.closed_beside[switch.name] if without not in path.switches)
+                     for path in self.closed_beside(switch) if without not in path.switches)
 
     # ---- rules
 
@@ -201,7 +205,7 @@ class Demands:
         """A switch that opens, and a disconnector beside which it closes a path; while a current
         can flow through the disconnector."""
         for switch in self.network.switches:
-            for path in self.closed_beside.get(switch.name, []):
+            for path in self.besides.get(switch.name, []):
                 for mine in path.switches:
                     if mine.is_own and mine.kind != EARTHING:
                         yield from self.stays(switch, path, mine)
@@ -241,7 +245,7 @@ def kept_elsewhere(network: Network) -> list[str]:
     """The inputs of other bays by which a path beside a disconnector is known to be closed."""
     found = Demands(network)
     return list(dict.fromkeys(it.closed for switch in network.own(DISCONNECTOR)
-                              for path in found.closed_beside[switch.name]
+                              for path in found.closed_beside(switch)
                               for it in path.switches if not it.is_own))
 
 

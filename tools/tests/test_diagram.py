@@ -342,7 +342,7 @@ class Checked(Tools):
             return asked_of
         told = self.run_parts(*diagrams.PARTS, changed=same(HOLDS))
         self.assertIn('diagrams/line without a line', told)
-        self.assertIn("diagrams/line: 'nothing' in line 92", told)
+        self.assertIn("diagrams/line: 'nothing' in line 95", told)
         told = self.run_parts(diagrams.diagrams_are_kept, changed=same(BROKEN))
         self.assertEqual(len(told), 8)
 

@@ -61,7 +61,7 @@ class State:
 
     def __init__(self, network: Network, tables: dict, chance: random.Random) -> None:
         self.network, self.values = network, {}
-        for kind, name in keys_of(tables):
+        for kind, name in sorted(keys_of(tables)):
             self.values[kind, name] = (chance.choice((0, 1, 1, 2, 2, 3)) if kind == SWITCH
                                        else chance.randint(0, 1))
         self.known = {it.name: self.position(it) for it in network.switches}
