@@ -50,6 +50,7 @@ code { font-family: "DejaVu Sans Mono", Consolas, monospace; font-size: 0.92em;
 .good { color: #1b5e20 } .bad { color: #b3261e } .mark { font-weight: bold; white-space: nowrap }
 .quiet { color: #555 } .figure { break-inside: avoid; overflow-x: auto }
 @media print { .figure svg { max-width: 100%%; height: auto } }
+.figure svg.diagram { max-width: 100%%; height: auto }
 .sign { break-inside: avoid; margin-top: 4mm }
 .sign table { width: calc(100%% - 2px); margin: 1px }
 .sign td { height: 14mm; border: 1px solid #777; padding: 1mm 2mm; width: 25%% }
@@ -180,10 +181,12 @@ class Report:
         lead = (f'<h2>Single line diagram</h2><p class="quiet">{how}. Inputs tell the positions '
                 'of switches of other bays (grey). Other inputs and measures are 0, but in a '
                 'state that breaks a rule.</p>')
+        states, left = drawn_states(self.audit, self.network)
+        more = f'<p>{counted(left, "other rule")} broken too, not drawn.</p>' if left else ''
         return lead + ''.join(
             f'<div class="figure"><p>{escaped(it.title)}</p>'
             + draw(self.network, it.title, it.positions, it.releases) + '</div>'
-            for it in drawn_states(self.audit, self.network))
+            for it in states) + more
 
     def conditions(self) -> str:
         rows = [(f'<b>{escaped(name)}</b> {WAYS[way]}', product_list(it))

@@ -11,6 +11,7 @@ from diagram.network import Network
 from .answers import WAYS, Answer
 from .things import all_things
 
+MOST = 6  # broken rules whose states are drawn
 OPEN, CLOSED = POSITIONS.index('open'), POSITIONS.index('closed')
 
 
@@ -63,15 +64,17 @@ def positions_of(network: Network, state: Mapping) -> dict[str, str]:
     return found
 
 
-def drawn_states(audit, network: Network) -> list[Drawn]:
-    """All switches open, the bay in service, and each state that was shown to break a rule."""
+def drawn_states(audit, network: Network) -> tuple[list[Drawn], int]:
+    """All switches open, the bay in service, and states that were shown to break rules, of the
+    first rules; and how many such rules are left."""
     file = audit.bay.file
     states = [('All switches open', state_of(network, usual_positions(network), file)),
               ('Breakers and disconnectors closed, earthing switches open',
                state_of(network, in_service(network), file))]
-    states += [(f'The rule of line {it.rule.line} is broken', it.shown.state)
-               for it in audit.findings if it.shown]
+    broken = [(f'The rule of line {it.rule.line} is broken: {it.rule.text}', it.shown.state)
+              for it in audit.findings if it.shown]
+    states += broken[:MOST]
     names = [switch['id'] for switch in file['switch']]
     return [Drawn(title, positions_of(network, state), {
         name: tuple(is_released(audit.answer, name, way, state) for way in range(len(WAYS)))
-        for name in names} if audit.answer else {}) for title, state in states]
+        for name in names} if audit.answer else {}) for title, state in states], len(broken[MOST:])

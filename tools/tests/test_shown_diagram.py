@@ -4,11 +4,12 @@ import sys
 import threading
 import unittest
 from pathlib import Path
+from types import SimpleNamespace
 from unittest import mock
 
 sys.path.insert(0, str(Path(__file__).resolve().parent.parent))
 from auditing.answers import Answer, Case, Release
-from auditing.states import is_released, positions_of, state_of
+from auditing.states import MOST, drawn_states, is_released, positions_of, state_of
 from bay.files import bay_at
 from bay.rules import INPUT, SWITCH
 from diagram.diagram_file import diagram_at
@@ -77,7 +78,18 @@ class Reports(Tools):
                          ['switch open', 'switch closed', 'switch closed'])
         words = [[it.text for it in drawn['QB1'].findall(f'{SVG}text')][2] for drawn in shown]
         self.assertEqual(words, ['open ✓ close ?', 'open ✓ close ✕', 'open ✓ close ✕'])
-        self.assertIn('The rule of line 1 is broken', page)
+        self.assertIn('The rule of line 1 is broken: never QB1 open when QA1 not open', page)
+        self.assertNotIn('not drawn', page)
+
+    def test_of_many_broken_rules_some_are_drawn(self):
+        file = bay_at(SINGLE)[1]
+        net = diagram_at(SINGLE.with_name('diagram.toml'), file)
+        state = state_of(net, usual_positions(net), file)
+        found = [SimpleNamespace(rule=SimpleNamespace(line=line, text='never QA1 open'),
+                                 shown=SimpleNamespace(state=state)) for line in range(MOST + 3)]
+        audit = SimpleNamespace(bay=SimpleNamespace(file=file), findings=found, answer=None)
+        states, left = drawn_states(audit, net)
+        self.assertEqual((len(states), left, states[0].releases), (MOST + 2, 3, {}))
 
     def test_a_diagram_without_a_report_or_that_is_refused(self):
         words = ['audit', SINGLE, SINGLE.with_name('logic.il'), SINGLE.with_name('rules'),
