@@ -182,7 +182,7 @@ class Report:
                 'of switches of other bays (grey). Other inputs and measures are 0, but in a '
                 'state that breaks a rule.</p>')
         states, left = drawn_states(self.audit, self.network)
-        more = f'<p>{counted(left, "other rule")} broken too, not drawn.</p>' if left else ''
+        more = f'<p>{counted(left, "other broken rule")} not drawn.</p>' if left else ''
         return lead + ''.join(
             f'<div class="figure"><p>{escaped(it.title)}</p>'
             + draw(self.network, it.title, it.positions, it.releases) + '</div>'

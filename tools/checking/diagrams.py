@@ -1,15 +1,20 @@
 """The rules of single line diagrams, asked of bayctl: the programs of the examples keep them, and
 whatever mistake of one line breaks a rule by hand breaks one of the diagram's too."""
+import pathlib
 import re
+import sys
 from collections.abc import Iterator
 
 from auditing import answers, asking
 from auditing.things import keys_of
 from bay.files import bay_at, text_of
 from bay.rules import read_rules
+from wire.served import Running, Server, Simulator
 
+from .panels import Page, positions
 from .planted import EXAMPLES, parts_of, read_faults
 
+TOOLS = pathlib.Path(__file__).resolve().parent.parent
 DIAGRAMS = EXAMPLES / 'diagrams'
 BY_HAND, OF_DIAGRAM = 'rules', 'rules_of_diagram'
 TOLD = ('instructions=', 'rule ', 'release ', 'lost ')  # the lines that an example keeps
@@ -107,4 +112,25 @@ def planted_faults_break(checks) -> None:
     checks.holds('planted faults of diagrams', count >= 20, f'only {count}')
 
 
-PARTS = (diagrams_are_kept, hands_follow, planted_faults_break)
+def diagram_on_the_panel(checks) -> None:
+    """The diagram of a served bay on a panel, with its positions and what is released."""
+    bay = DIAGRAMS / 'line' / 'bay.toml'
+    with Server(checks.bayctl, bay, bay.with_name('logic.il'), with_process=True) as server:
+        server.client().close()
+        words = [sys.executable, '-B', TOOLS / 'panel', '--bay', bay, server.port, '--http', '0',
+                 '--diagram', bay.with_name('diagram.toml')]
+        gear = Simulator(bay, server, '--at', 'QB1=closed', '--at', 'QA1=closed')
+        with gear, Running(*words) as running:
+            port = int(re.search(r':(\d+)/\n', running.waits_for('/\n'))[1])
+            with Page(port) as page:
+                checks.wants('a diagram on the panel', page.text, 0,
+                             ['class="diagram wide"', 'data-switch="QB7"', '>TA1</text>'], 0)
+                state = page.until(lambda it: positions(it).get('QB1') == 'closed' and any(
+                    one['open']['free'] for one in it['switches']))
+                free = {one['id']: (one['open']['free'], one['close']['free'])
+                        for one in state['switches']}
+                checks.holds('releases on the panel', free['QA1'] == (True, True) and free[
+                    'QB1'] == (False, False), str(free))
+
+
+PARTS = (diagrams_are_kept, hands_follow, planted_faults_break, diagram_on_the_panel)
