@@ -90,11 +90,13 @@ class Pulse:
             await self.check(coil, self.one.coils[OTHER[self.way]])
             await self.hold(on_at, number)
         finally:
-            if unit.link.number == number and unit.link.is_open:
-                await unit.put(coil, False)
-                self.say(f'coil {coil} was on for {1000 * (time.monotonic() - on_at):.0f} ms, '
-                         f'{1000 * (on_at - begun):.1f} ms after its command')
-            unit.pulsed.discard(coil)
+            try:
+                if unit.link.number == number and unit.link.is_open:
+                    await unit.put(coil, False)
+                    self.say(f'coil {coil} was on for {1000 * (time.monotonic() - on_at):.0f} ms, '
+                             f'{1000 * (on_at - begun):.1f} ms after its command')
+            finally:  # (where it may be on all the same, the next look switches it off)
+                unit.pulsed.discard(coil)
 
     async def check(self, coil: int, other: int) -> None:
         """The coil is on, and that of the other way is off."""

@@ -313,6 +313,24 @@ class Faults(Driven):
         self.all_off()
         self.good()
         self.is_pulsed_once()
+        self.nobodys_coil()
+
+    def nobodys_coil(self):
+        """The coil of a pulse that failed belongs to nobody: it is off if it comes on again."""
+        self.module.coils[CLOSE] = True
+        self.all_off()
+        self.good()
+
+    def test_a_module_that_is_silent_at_the_end_of_a_pulse(self):
+        """The next connection ends it."""
+        self.begins()
+        self.module.is_silent = True
+        self.is_told(LOST)
+        time.sleep(2 * (PULSE + TIMEOUT) / 1000)
+        self.module.is_silent = False
+        self.all_off()
+        self.good()
+        self.nobodys_coil()
 
     def test_a_module_that_refuses_to_begin_a_pulse(self):
         self.good()
@@ -325,6 +343,7 @@ class Faults(Driven):
         self.is_told(LOST)
         self.good()
         self.assertEqual(self.pulses(CLOSE), [])
+        self.nobodys_coil()
 
     def test_a_coil_that_does_not_come_on(self):
         self.good()
