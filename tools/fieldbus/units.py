@@ -54,13 +54,16 @@ class Unit:
         self.doubted_until = now + self.module.doubt
 
     async def all_off(self) -> None:
-        """Each coil off, and read as off."""
+        """Each coil off, and read as off. One that came on between the two, as where a write comes
+        late just then, is switched off at once."""
         for coil in self.lines.coils:
             await self.put(coil, False)
         read = await self.link.coils(self.lines.coils)
-        for coil, is_on in read.items():
-            if is_on:
-                raise ModuleFault(f'coil {coil} was written off, and is on')
+        on = [coil for coil, is_on in read.items() if is_on]
+        for coil in on:
+            await self.put(coil, False)
+        if on:
+            raise ModuleFault(f'coil {on[0]} was written off, and is on')
         self.magnets.clear()
 
     async def begin(self) -> None:

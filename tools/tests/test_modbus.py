@@ -294,6 +294,25 @@ class Faults(Driven):
         self.assertGreater(1000 * (time.monotonic() - lost), DOUBT - 200)
         self.is_pulsed_once()
 
+    def test_a_write_that_is_done_late_while_all_coils_are_switched_off(self):
+        """A connection begins with all coils off. One that comes on between the writes and the
+        look at them is off at once, and not only by the next connection."""
+        self.good()
+        look = self.module.asked
+
+        def late(function):
+            if function == 1 and self.module.written and self.module.written[-1][1] is False:
+                self.module.asked = look
+                self.module.put(CLOSE, True)
+
+        self.module.written.clear()
+        self.module.asked = late
+        self.module.cut()
+        self.waits(lambda: self.pulses(CLOSE), 'the late pulse')
+        self.assertLess(self.lasted(), PULSE / 2)
+        self.says(f'coil {CLOSE} was written off, and is on')
+        self.good()
+
     def test_a_module_that_refuses(self):
         self.good()
         self.module.exception = 4
