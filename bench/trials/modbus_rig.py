@@ -28,7 +28,7 @@ def now() -> int:
 
 
 class Rig:
-    """What runs. `seen` are the positions that a client sees, with their moments."""
+    """What runs. `seen` is all that a client was told of positions, with when it asked."""
 
     def __init__(self, folder: str, library: str) -> None:
         self.folder, self.library = pathlib.Path(folder), library
@@ -94,30 +94,26 @@ class Rig:
         return self.client('operate', switch, way).communicate()[0].strip().split('\n')[-1]
 
     def watch(self) -> None:
-        """Keeps what a client sees."""
-        last: dict[str, str] = {}
+        """Keeps what a client is told."""
         while not self.is_over:
             try:
                 client = Client('127.0.0.1', self.port, on_report=lambda told: None)
                 with contextlib.closing(client):
                     while not self.is_over:
-                        last = self.look(client, last)
+                        self.look(client)
                         time.sleep(0.02)
             except Exception:  # (whatever ends it: the server is gone)
-                self.seen += [(now(), name, 'nothing') for name in POSITIONS
-                              if last.get(name) != 'nothing']
-                last = dict.fromkeys(POSITIONS, 'nothing')
+                self.seen += [(now(), name, 'nothing') for name in POSITIONS]
                 time.sleep(0.1)
 
-    def look(self, client: Client, last: dict[str, str]) -> dict[str, str]:
-        found = {name: WORDS.get(str(getattr(value, 'value', value)), '?') for name, (_, value) in
-                 zip(POSITIONS, client.read(list(POSITIONS.values())))}
-        self.seen += [(now(), name, value) for name, value in found.items()
-                      if last.get(name) != value]
-        return found
+    def look(self, client: Client) -> None:
+        asked = now()
+        found = zip(POSITIONS, client.read(list(POSITIONS.values())))
+        self.seen += [(asked, name, WORDS.get(str(getattr(value, 'value', value)), '?'))
+                      for name, (_, value) in found]
 
     def position(self, switch: str) -> str:
-        """What a client saw last of a switch."""
+        """What a client was told last of a switch."""
         return next((value for _, name, value in reversed(self.seen) if name == switch), '')
 
     def until(self, test, told: str, seconds: float = PATIENCE) -> None:

@@ -6,7 +6,6 @@ import signal
 import threading
 import time
 from dataclasses import dataclass
-from itertools import pairwise
 
 from modbus_rig import LIMIT, Rig, now
 
@@ -16,6 +15,8 @@ LENGTHS = (0.1, 0.3, 0.7, 1.5, 3)
 WAYS = {'open': 'off', 'close': 'on'}
 COIL = re.compile(r'(io\d) coil \d \((\w+) (open|close)\) (on|off)( after (\d+) ms)?(.*)')
 SLACK, STALE = 150, 900  # ms: from a command's age to its coil; of an end that is no longer so
+UNSEEN = 100  # ms: for so long a driver can't have seen the coil of another master
+AROUND = 5_000, 300  # ms before and behind what is wrong that is shown
 OUTCOMES = {
     'done': r'done: ', 'time limit over (16)': r'\(16\)', 'interlocking (10)': r'\(10\)',
     'process lost (9)': r'\(9\)', 'position reached (5)': r'\(5\)'}
@@ -178,31 +179,76 @@ def truth(rig: Rig) -> list[tuple[int, str, str]]:
     return sorted(found)
 
 
-def stale(rig: Rig) -> list[str]:
-    """Ends that a client saw for longer than STALE after the switch had left them."""
-    found, there, seen, wrong = [], {}, {}, {}
-    changes = [(*it, there) for it in truth(rig)] + [(*it, seen) for it in rig.seen]
-    for moment, switch, position, which in sorted(changes, key=lambda it: it[0]):
-        which[switch] = position
-        is_wrong = seen.get(switch) in ('open', 'closed') and there.get(switch) != seen[switch]
-        if is_wrong:
-            wrong.setdefault(switch, moment)
-        elif switch in wrong and moment - wrong.pop(switch) > STALE:
-            found.append(f'{switch} until {moment}')
-    return found
+def stale(soak: Soak) -> dict[str, int]:
+    """Ends that a client was told though the switch had left them STALE before it asked. (What it
+    asks of a server that is stopped is answered late, and of when it asked.) What io1 is, which has
+    no counter, while it stalls nobody can know."""
+    stalls = [it for it in soak.faults if (it.kind, it.module) == ('stall', 'io1')]
+    there: dict[str, str] = {}
+    left: dict[tuple[str, str], int] = {}
+    found: dict[tuple[str, str, int], int] = {}
+    changes = truth(soak.rig)
+    events = [(*it, True) for it in changes] + [(*it, False) for it in soak.rig.seen]
+    for moment, switch, position, is_true in sorted(events, key=lambda it: it[0]):
+        if is_true:
+            if there.get(switch) not in (None, position):
+                left[switch, there[switch]] = moment
+            there[switch] = position
+        elif position in ('open', 'closed') and there.get(switch) != position:
+            since = left.get((switch, position), changes[0][0])
+            if moment - since > STALE and not (switch == 'QA1' and any(
+                    it.begun <= moment <= it.ended + STALE for it in stalls)):
+                found[switch, position, since] = moment
+    return {f'{switch} {position}, asked {asked - since} ms after it was left': asked
+            for (switch, position, since), asked in found.items()}
+
+
+def both_on(rig: Rig, module: str) -> tuple[list[int], int]:
+    """The moments at which both coils of a switch were on, and how often it was by another master:
+    into a pulse, or so shortly before one that a driver can't have seen it."""
+    on: dict[tuple[str, str], tuple[int, bool]] = {}
+    moments, excused = [], 0
+    for moment, text in rig.lines(module):
+        if text == 'begins':
+            on = {}
+        elif coil := COIL.match(text):
+            if coil[4] == 'on':
+                on[coil[2], coil[3]] = moment, 'another master' in coil[7]
+            else:
+                on.pop((coil[2], coil[3]), None)
+        elif text.startswith('both coils of '):
+            first, last = sorted(on[text.split(' ')[3], way] for way in WAYS)
+            if last[1] or first[1] and last[0] - first[0] <= UNSEEN:
+                excused += 1
+            else:
+                moments.append(moment)
+    return moments, excused
+
+
+def around(soak: Soak, moment: int) -> list[str]:
+    """What all said around a moment, and what faults were."""
+    before, behind = AROUND
+    said = sorted((at, f'{name}: {text}') for name in ('io1', 'io2', 'bayctl', 'driver')
+                  for at, text in soak.rig.lines(name))
+    faults = [str(it) for it in soak.faults
+              if it.begun - before <= moment <= it.ended + before]
+    return [f'around {moment}:', *faults,
+            *(f'{at} {text}' for at, text in said if moment - before <= at <= moment + behind)]
 
 
 def told(soak: Soak) -> tuple[list[str], bool]:
     """What a soak comes to, and whether nothing was that must never be."""
     rig = soak.rig
-    both = [text for name in ('io1', 'io2') for (_, before), (_, text) in pairwise(rig.lines(name))
-            if 'both coils' in text and 'another master' not in before]
+    both, excused = [], 0
+    for name in ('io1', 'io2'):
+        moments, count = both_on(rig, name)
+        both, excused = both + moments, excused + count
     foreign = sum('another master' in one.by for one in edges(rig))
     without, twice, late, unused = matched(soak)
     on = [text for name in ('io1', 'io2') for _, text in rig.lines(name)
           if 'coils that are on' in text and not text.endswith('none')]
     unexplained = [one for one in late if 'acted late' not in one]
-    old = stale(rig)
+    old = stale(soak)
     kinds = {kind: sum(it.kind == kind for it in soak.faults) for kind in KINDS}
     said = '\n'.join(soak.said)
     lines = [
@@ -211,12 +257,15 @@ def told(soak: Soak) -> tuple[list[str], bool]:
         + ', '.join(f'{count} {kind}' for kind, count in kinds.items() if count),
         'outcomes: ' + ', '.join(f'{len(re.findall(pattern, said))} {name}'
                                  for name, pattern in OUTCOMES.items()),
-        f'both coils: {len(both)}; pulses without a command: {len(without)} {without or ""}; '
-        f'second pulses for a command: {len(twice)} {twice or ""}; commands without a pulse: '
-        f'{unused}',
+        f'both coils: {len(both)} (by another master: {excused}); pulses without a command: '
+        f'{len(without)} {without or ""}; second pulses for a command: {len(twice)} '
+        f'{twice or ""}; commands without a pulse: {unused}',
         f'late pulses: {len(late)}, {len(unexplained)} of them where the module did not act late '
         f'{late or ""}',
-        f'coils of another master: {foreign}; coils that are on at the end: {len(on)}; ends told '
-        f'for more than {STALE} ms after they were left: {len(old)} {old or ""}']
+        f'coils of another master: {foreign}; coils that are on at the end: {len(on)}; ends '
+        f'that a client was told over {STALE} ms after they were left: {len(old)} '
+        f'{list(old) or ""}']
+    for moment in [*both, *old.values()]:
+        lines += around(soak, moment)
     is_good = not (both or without or twice or unexplained or on or old)
     return lines, is_good
