@@ -1,4 +1,5 @@
 """A driver of tools/modbus between a module and a server that a test plays."""
+import functools
 import pathlib
 import signal
 import subprocess
@@ -11,6 +12,7 @@ from tests.fake_module import FakeModule, FakeServer
 
 TOOLS = pathlib.Path(__file__).resolve().parent.parent
 TRAVEL, PULSE, DOUBT, TIMEOUT = 1200, 400, 800, 400  # ms
+TRIES = 3  # of a test
 BAY = f'''[bay]
 domain = "E1"
 revision = "2 b"
@@ -85,9 +87,30 @@ class Counting(FakeModule):
         return super().answer(pdu)
 
 
+def tried(test):
+    """A test that goes by real time, and is tried again where it fails: the machine may stall."""
+    @functools.wraps(test)
+    def run(self):
+        for left in reversed(range(TRIES)):
+            try:
+                return test(self)
+            except AssertionError:
+                if not left:
+                    raise
+            self.doCleanups()
+            self.setUp()
+        return None
+    return run
+
+
 class Driven(unittest.TestCase):
     """A driver whose server and module are the test's. QA1 and QC1 are open at first."""
     changes: list[tuple[str, str]] = []  # of the wiring
+
+    def __init_subclass__(cls):
+        for name, test in list(vars(cls).items()):
+            if name.startswith('test_'):
+                setattr(cls, name, tried(test))
 
     def setUp(self):
         self.module = Counting()

@@ -116,7 +116,7 @@ class Commands(Driven):
         self.assertEqual(self.module.coils[:2], [False, True])
         self.module.contacts[:2] = [False, True]
         self.is_told({'contact QA1': '2'})
-        self.assertTrue(PULSE - 5 < self.lasted() < 3 * PULSE, self.lasted())
+        self.assertTrue(PULSE - 50 < self.lasted() < 3 * PULSE, self.lasted())
         self.says('QA1 close: done after')
         self.is_pulsed_once()
 
@@ -206,7 +206,7 @@ class UntilPosition(Driven):
 
     def test_a_position_that_does_not_come(self):
         self.begins()
-        self.assertGreater(self.lasted(), TRAVEL - 5)
+        self.assertGreater(self.lasted(), TRAVEL - 50)
         self.says('QA1 close: not done after')
         self.is_pulsed_once()
 
