@@ -53,8 +53,8 @@ class Part:
 class Switch:
     """A switch between two nodes: one of the bay, known by its positions, or one of another bay,
     known by the inputs that are TRUE while it is closed and while it is open; where both are, it is
-    not known. `isolates` is whether
-    it keeps apart what it parts while it is open, as each disconnector does."""
+    not known. `isolates` is whether it keeps apart what it parts while it is open, as each
+    disconnector does."""
     name: str
     kind: str
     nodes: tuple[str, str]
