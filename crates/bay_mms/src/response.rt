@@ -12,7 +12,7 @@ ghost use Rattle.bay_mms.specs.Writing.{text_within};
 
 use crate::fault::EncodeFault;
 use crate::put::finish;
-use crate::value::put_type;
+use crate::value::write_type;
 use bay_base::text::Text;
 use bay_ber::outgoing::Outgoing;
 use bay_ber::tag::Tag;
@@ -132,7 +132,7 @@ fn put_attributes(writer: &mut Writer, tree: &Tree, handle: &Handle)
     let start = writer.open(Tag::context_constructed(6));
     writer.boolean(Tag::context(0), false);
     let inner = writer.open(Tag::context_constructed(2));
-    put_type(writer, tree, *handle);
+    write_type(writer, tree, *handle);
     writer.close(inner);
     writer.close(start);
 }

@@ -16,7 +16,7 @@ use crate::fault::{DataAccessError, EncodeFault};
 use crate::put::finish;
 use crate::response::put_id;
 use crate::seen::Seen;
-use crate::value::put_value;
+use crate::value::write_value;
 use bay_ber::outgoing::Outgoing;
 use bay_ber::tag::Tag;
 use bay_ber::writer::Writer;
@@ -59,7 +59,7 @@ impl ReadResponse {
             (datum_text (data_at seen.now handle)) }
         ensures size { self.new.size ≡ self.old.size }
     {
-        put_value(&mut self.results, seen, handle);
+        write_value(&mut self.results, seen, handle);
         held(&mut self.results)
     }
 

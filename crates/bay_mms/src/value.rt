@@ -1,25 +1,20 @@
 // The data and the type of a row of the tree, written as they stand.
 ghost use Rattle.std.specs.Prelude.{◌≡◌};
-ghost use Rattle.bay_base.specs.Exact.{Gives};
 ghost use Rattle.bay_ber.specs.Sheets.{sheet_with};
 ghost use Rattle.bay_tree.specs.Rows.{IsHandle};
 ghost use Rattle.bay_mms.specs.Data.{datum_text};
 ghost use Rattle.bay_mms.specs.Types.{type_text};
 ghost use Rattle.bay_mms.specs.Nodes.{data_at, type_at};
-ghost use Rattle.bay_mms.specs.Writing.{text_within};
 
-use crate::fault::EncodeFault;
 use crate::leaf::{put_leaf, put_leaf_type};
-use crate::put::finish;
 use crate::seen::Seen;
-use bay_ber::outgoing::Outgoing;
 use bay_ber::tag::Tag;
 use bay_ber::writer::Writer;
 use bay_tree::tree::{Handle, Tree};
-use std::alloc::Global;
 
-/// Writes the data of a row.
-pub(crate) fn put_value(writer: &mut Writer, seen: &Seen<'_>, handle: Handle)
+/// Writes the data of a row (IEC 61850-8-1, the mapping of values to MMS data) behind what the
+/// writer holds.
+pub fn write_value(writer: &mut Writer, seen: &Seen<'_>, handle: Handle)
     requires { IsHandle seen.now handle }
     ensures { writer.new ≡ sheet_with writer.old (datum_text (data_at seen.now handle)) }
 {
@@ -29,7 +24,7 @@ pub(crate) fn put_value(writer: &mut Writer, seen: &Seen<'_>, handle: Handle)
             let start = writer.open(Tag::context_constructed(2));
             let mut next = seen.below(handle);
             while let Some(part) = next {
-                put_value(writer, seen, part);
+                write_value(writer, seen, part);
                 next = seen.beside(part);
             }
             writer.close(start);
@@ -37,8 +32,8 @@ pub(crate) fn put_value(writer: &mut Writer, seen: &Seen<'_>, handle: Handle)
     }
 }
 
-/// Writes the type of a row.
-pub(crate) fn put_type(writer: &mut Writer, tree: &Tree, handle: Handle)
+/// Writes the type of a row (ISO 9506-2, TypeSpecification) behind what the writer holds.
+pub fn write_type(writer: &mut Writer, tree: &Tree, handle: Handle)
     requires { IsHandle tree.now handle }
     ensures { writer.new ≡ sheet_with writer.old (type_text (type_at tree.now handle)) }
 {
@@ -52,7 +47,7 @@ pub(crate) fn put_type(writer: &mut Writer, tree: &Tree, handle: Handle)
                 let component = writer.open(Tag::sequence());
                 writer.text(Tag::context(0), tree.word(part));
                 let inner = writer.open(Tag::context_constructed(1));
-                put_type(writer, tree, part);
+                write_type(writer, tree, part);
                 writer.close(inner);
                 writer.close(component);
                 next = tree.beside(part);
@@ -61,40 +56,4 @@ pub(crate) fn put_type(writer: &mut Writer, tree: &Tree, handle: Handle)
             writer.close(structure);
         }
     }
-}
-
-/// Writes the data of a row (IEC 61850-8-1, the mapping of values to MMS data). `TooLong` if they
-/// have more than `size` octets.
-#[tactic(auto, using(bay_ber::proofs::SheetLemmas::message_put))]
-pub fn write_value(
-    alloc: Global,
-    tree: &Tree,
-    handle: Handle,
-    size: u32,
-) -> Result<Outgoing, EncodeFault>
-    requires { IsHandle tree.now handle }
-    ensures { Gives EncodeFault.OutOfMemory (λ octets. octets) result
-        (text_within size (datum_text (data_at tree.now handle))) }
-{
-    let mut writer = Writer::new(alloc, size)?;
-    put_value(&mut writer, &Seen::new(tree, None), handle);
-    finish(writer)
-}
-
-/// Writes the type of a row (ISO 9506-2, TypeSpecification). `TooLong` if it has more than `size`
-/// octets.
-#[tactic(auto, using(bay_ber::proofs::SheetLemmas::message_put))]
-pub fn write_type(
-    alloc: Global,
-    tree: &Tree,
-    handle: Handle,
-    size: u32,
-) -> Result<Outgoing, EncodeFault>
-    requires { IsHandle tree.now handle }
-    ensures { Gives EncodeFault.OutOfMemory (λ octets. octets) result
-        (text_within size (type_text (type_at tree.now handle))) }
-{
-    let mut writer = Writer::new(alloc, size)?;
-    put_type(&mut writer, tree, handle);
-    finish(writer)
 }

@@ -2,10 +2,12 @@
 use anyhow::{Context, Result, bail};
 use bay_base::listing::Listing;
 use bay_base::text::Text;
+use bay_ber::writer::Writer;
 use bay_config::read::read_bay;
 use bay_mms::data::{data_of, type_spec_of};
 use bay_mms::names::NameTexts;
 use bay_mms::page::write_page;
+use bay_mms::seen::Seen;
 use bay_mms::value::{write_type, write_value};
 use bay_tree::leaf::{Dbpos, Leaf, Quality};
 use bay_tree::row::Row;
@@ -51,13 +53,15 @@ fn leaf_of(alloc: Global, kind: &str, value: &str) -> Result<Option<Leaf>> {
 // Returns a row's data or its type, as a tree and in octets.
 fn row_text(alloc: Global, tree: &Tree, kind: &str, name: &str) -> Result<String> {
     let handle = tree.find(name)?;
-    let (text, octets) = if kind == "value" {
-        let text = format!(in alloc; "{:?}", data_of(alloc, tree, handle)?)?;
-        (text, write_value(alloc, tree, handle, SIZE)?)
+    let mut writer = Writer::new(alloc, SIZE)?;
+    let text = if kind == "value" {
+        write_value(&mut writer, &Seen::new(tree, None), handle);
+        format!(in alloc; "{:?}", data_of(alloc, tree, handle)?)?
     } else {
-        let text = format!(in alloc; "{:?}", type_spec_of(alloc, tree, handle)?)?;
-        (text, write_type(alloc, tree, handle, SIZE)?)
+        write_type(&mut writer, tree, handle);
+        format!(in alloc; "{:?}", type_spec_of(alloc, tree, handle)?)?
     };
+    let octets = writer.finish().context("too long")?;
     Ok(format!(in alloc; "{text} |{}", hex::encode(alloc, octets.as_slice())?)?)
 }
 

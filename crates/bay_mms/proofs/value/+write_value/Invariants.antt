@@ -1,9 +1,9 @@
 use Rattle.std.proofs.Common.{◌-◌, length}
 use Rattle.bay_mms.proofs.NodeLemmas.{Written, nodes_text, left_of}
-use Rattle.bay_mms.proofs.value.+put_value.Given as goal
+use Rattle.bay_mms.proofs.value.+write_value.Given as goal
 
-abbrev pub decreases-put_value : goal.decreases-put_value
-decreases-put_value l = length l.seen.now - l.handle
+abbrev pub decreases-write_value : goal.decreases-write_value
+decreases-write_value l = length l.seen.now - l.handle
 
 abbrev pub invariant-loop-next : goal.invariant-loop-next
 invariant-loop-next l = Written l.seen l.fn.handle nodes_text 0xA2 l.fn.writer l.writer l.next

@@ -4,7 +4,7 @@ use Rattle.bay_mms.specs.Data.{datum_text}
 use Rattle.bay_ber.specs.Tags.{constructed}
 use Rattle.bay_mms.specs.Nodes.{data_at}
 use Rattle.bay_mms.proofs.NodeLemmas.{nodes_text, parts_at, written-first, written-more, written-end, structure-at}
-use Rattle.bay_mms.proofs.value.+put_value.Goals as goal
+use Rattle.bay_mms.proofs.value.+write_value.Goals as goal
 
 pub loop-next-init : goal.loop-next-init
 loop-next-init t c =
@@ -17,7 +17,7 @@ loop-next-preserved t c =
     written-more c.args.seen.now c.args.handle c.in-Some-next.part nodes_text 0xA2
     c.args.writer.now c.loop-next.writer _
     (datum_text (data_at c.args.seen.now c.in-Some-next.part)) c.beside-next.result refl
-    (rw c.in-Some-next.is at c.loop-next.invariant) c.put_value.ensures
+    (rw c.in-Some-next.is at c.loop-next.invariant) c.write_value.ensures
     c.beside-next.ensures.next c.beside-next.ensures.after
 
 pub close-requires : goal.close-requires

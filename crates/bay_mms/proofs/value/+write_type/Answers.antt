@@ -8,7 +8,7 @@ use Rattle.bay_ber.specs.Tags.{context, constructed, sequence}
 use Rattle.bay_mms.specs.Types.{type_text}
 use Rattle.bay_mms.specs.Nodes.{type_at}
 use Rattle.bay_mms.proofs.NodeLemmas.{nodes_types_text, component_text, parts_at, written-first, written-more, written-end, structure-type}
-use Rattle.bay_mms.proofs.value.+put_type.Goals as goal
+use Rattle.bay_mms.proofs.value.+write_type.Goals as goal
 
 pub loop-next-init : goal.loop-next-init
 loop-next-init t c =
@@ -25,7 +25,7 @@ pub close-requires : goal.close-requires
 close-requires t c =
     open-value c.text.new.self _ _ (constructed 1) c.open-inner.result
     (type_text (type_at c.args.tree.now c.in-Some-next.part)) c.open-inner.ensures.start
-    (rw c.context_constructed-in-Some-next.ensures at c.open-inner.ensures.tag) c.put_type.ensures
+    (rw c.context_constructed-in-Some-next.ensures at c.open-inner.ensures.tag) c.write_type.ensures
 
 pub close-requires-in-Some-next : goal.close-requires-in-Some-next
 close-requires-in-Some-next t c =
@@ -40,7 +40,7 @@ close-requires-in-Some-next t c =
     (rw (c.context.ensures, c.word.ensures.word) at c.text.ensures)
     (long-value c.text.new.self _ _ _ (constructed 1) c.open-inner.result type
     c.open-inner.ensures.start
-    (rw c.context_constructed-in-Some-next.ensures at c.open-inner.ensures.tag) c.put_type.ensures
+    (rw c.context_constructed-in-Some-next.ensures at c.open-inner.ensures.tag) c.write_type.ensures
     c.close.ensures))
 
 pub loop-next-preserved : goal.loop-next-preserved
@@ -59,7 +59,7 @@ loop-next-preserved t c =
     (rw (c.context.ensures, c.word.ensures.word) at c.text.ensures)
     (long-value c.text.new.self _ _ _ (constructed 1) c.open-inner.result type
     c.open-inner.ensures.start
-    (rw c.context_constructed-in-Some-next.ensures at c.open-inner.ensures.tag) c.put_type.ensures
+    (rw c.context_constructed-in-Some-next.ensures at c.open-inner.ensures.tag) c.write_type.ensures
     c.close.ensures))
     c.close-in-Some-next.ensures)
     c.beside-next.ensures.next c.beside-next.ensures.after

@@ -1,10 +1,10 @@
 use Rattle.std.proofs.Common.{◌-◌, [], ◌∷◌, length}
 use Rattle.bay_ber.specs.Sheets.{sheet_with}
 use Rattle.bay_mms.proofs.NodeLemmas.{Written, nodes_types_text, left_of}
-use Rattle.bay_mms.proofs.value.+put_type.Given as goal
+use Rattle.bay_mms.proofs.value.+write_type.Given as goal
 
-abbrev pub decreases-put_type : goal.decreases-put_type
-decreases-put_type l = length l.tree.now - l.handle
+abbrev pub decreases-write_type : goal.decreases-write_type
+decreases-write_type l = length l.tree.now - l.handle
 
 abbrev pub invariant-loop-next : goal.invariant-loop-next
 invariant-loop-next l =
