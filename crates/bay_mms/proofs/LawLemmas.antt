@@ -1,16 +1,12 @@
 -- Texts are BER.
-use Rattle.std.proofs.Common.{ℕ, ◌<◌, List, [], length, arith}
+use Rattle.std.proofs.Common.{ℕ, ◌<◌, List, length, arith}
 use Rattle.bay_ber.specs.declared.tag.Tag.{Tag}
 use Rattle.bay_ber.specs.Spelling.{Spells}
 use Rattle.bay_ber.specs.Writing.{element}
 use Rattle.bay_ber.proofs.WriteLemmas.{element-spells}
-use Rattle.bay_mms.specs.declared.response.Response.{Response}
-use Rattle.bay_mms.specs.declared.response.Response.TheVariants as response
 use Rattle.bay_ber.specs.Tags.{context, constructed}
-use Rattle.bay_mms.specs.Data.{Datum, Data, structure, truth, bits, integer, unsigned, octets, text, utc, other, datum_text}
-use Rattle.bay_mms.specs.Reports.{report_text}
-use Rattle.bay_mms.specs.Responses.{confirmed_response, response_text}
-use Rattle.bay_mms.specs.Laws.{IsOneValue, datum_tag, datum_content, response_tag}
+use Rattle.bay_mms.specs.Data.{Datum, structure, truth, bits, integer, unsigned, octets, text, utc, other, datum_text}
+use Rattle.bay_mms.specs.Laws.{IsOneValue, datum_tag, datum_content}
 use Rattle.bay_ber.proofs.SheetLemmas.{content-less}
 
 spelled : (tag : Tag) (content : List ℕ) → tag.number < 31
@@ -30,27 +26,8 @@ datum-spells (text value) low short = spelled (context 10) value (omega arith) s
 datum-spells (utc value) low short = spelled (context 17) value (omega arith) short
 datum-spells (other tag value) low short = spelled tag value low short
 
-pub response-spells : (r : Response) → length (response_text r) < 4294967296
-    → IsOneValue (response_text r) (response_tag r)
-response-spells (response.Initiate agreed) short =
-    record { content = _; spelled = spelled (constructed 9) _ (omega arith) short }
-response-spells response.Conclude short =
-    record { content = []; spelled = spelled (context 12) [] (omega arith) short }
-response-spells (response.Confirmed id service) short =
-    record { content = _; spelled = spelled (constructed 1) _ (omega arith) short }
-response-spells (response.Error id class) short =
-    record { content = _; spelled = spelled (constructed 2) _ (omega arith) short }
-response-spells (response.Reject id reason) short =
-    record { content = _; spelled = spelled (constructed 4) _ (omega arith) short }
-
-pub confirmed-spells : (id : ℕ) (service : List ℕ)
-    → length (confirmed_response id service) < 4294967296
-    → IsOneValue (confirmed_response id service) (constructed 1)
-confirmed-spells id service short =
-    record { content = _; spelled = spelled (constructed 1) _ (omega arith) short }
-
-pub report-spells : (names : List (List ℕ)) (values : Data)
-    → length (report_text names values) < 4294967296
-    → IsOneValue (report_text names values) (constructed 3)
-report-spells names values short =
-    record { content = _; spelled = spelled (constructed 3) _ (omega arith) short }
+-- so it is one value
+pub one-value : (tag : Tag) (content : List ℕ) → tag.number < 31
+    → length (element tag content) < 4294967296 → IsOneValue (element tag content) tag
+one-value tag content low short =
+    record { content = content; spelled = spelled tag content low short }

@@ -4,8 +4,6 @@ use Rattle.std.specs.Int.{w64}
 use Rattle.bay_ber.specs.declared.tag.Tag.{Tag}
 use Rattle.bay_ber.specs.Spelling.{Spells}
 use Rattle.bay_ber.specs.Writing.{truth_octets, integer_octets, bit_octets, bit_string_octets}
-use Rattle.bay_mms.specs.declared.response.Response.{Response}
-use Rattle.bay_mms.specs.declared.response.Response.TheVariants as response
 use Rattle.bay_ber.specs.Tags.{context, constructed}
 use Rattle.bay_mms.specs.Data.{Datum, Data, structure, truth, bits, integer, unsigned, octets, text, utc, other, no_data, datum, data_text}
 
@@ -32,14 +30,6 @@ datum_content (octets value) = value
 datum_content (text value) = value
 datum_content (utc value) = value
 datum_content (other tag value) = value
-
--- the tag of a response's PDU (ISO 9506-2, MMSpdu)
-abbrev pub response_tag : Response → Tag
-response_tag (response.Initiate agreed) = constructed 9
-response_tag response.Conclude = context 12
-response_tag (response.Confirmed id service) = constructed 1
-response_tag (response.Error id class) = constructed 2
-response_tag (response.Reject id reason) = constructed 4
 
 -- The list is one value under the tag.
 pub record IsOneValue (list : List ℕ) (tag : Tag) : Type 0 where

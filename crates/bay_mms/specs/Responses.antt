@@ -1,12 +1,9 @@
 -- The canonical texts of responses (ISO 9506-2).
 use Rattle.std.specs.Prelude.{ℕ, pos, Bool, false, Option, Some, None, List, [], ◌∷◌, ◌++◌}
 use Rattle.bay_ber.specs.Writing.{element, integer_octets, truth_octets}
-use Rattle.bay_initiate.specs.Agreed.{agreed_text}
 use Rattle.bay_tree.specs.Rows.{IsHandle}
 use Rattle.bay_mms.specs.Code.{access_code_of}
 use Rattle.bay_mms.specs.declared.fault.DataAccessError.{DataAccessError}
-use Rattle.bay_mms.specs.declared.response.Response.{Response}
-use Rattle.bay_mms.specs.declared.response.Response.TheVariants as response
 use Rattle.bay_mms.specs.declared.response.Service.{Service}
 use Rattle.bay_mms.specs.declared.response.Service.TheVariants as service
 use Rattle.bay_mms.specs.declared.response.ErrorClass.{ErrorClass}
@@ -118,22 +115,7 @@ content_text (service.Attributes tree handle) =
 abbrev pub service_text : Service → List ℕ
 service_text s = element (constructed (service_number s)) (content_text s)
 
--- ---- a response
-
--- the response
-abbrev pub response_text : Response → List ℕ
-response_text (response.Initiate agreed) = agreed_text agreed
-response_text response.Conclude = concluded_text
-response_text (response.Confirmed id s) = confirmed_response id (service_text s)
-response_text (response.Error id class) = error_text id class
-response_text (response.Reject id reason) = reject_text id reason
-
 -- The handles are the tree's.
 abbrev pub IsOfTree : Service → Type 0
 IsOfTree (service.Attributes tree handle) = IsHandle tree.now handle
 IsOfTree s = Unit {0}
-
--- A response can be written: the handles in it are the tree's.
-abbrev pub IsAnswerable : Response → Type 0
-IsAnswerable (response.Confirmed id s) = IsOfTree s
-IsAnswerable r = Unit {0}

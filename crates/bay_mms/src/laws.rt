@@ -5,16 +5,17 @@ ghost use Rattle.bay_ber.specs.Spelling.{Spells};
 ghost use Rattle.bay_mms.specs.Data.{Datum, Data, datum_text};
 ghost use Rattle.bay_mms.specs.Types.{TypeSpec, type_text};
 ghost use Rattle.bay_mms.specs.Reports.{report_text};
-ghost use Rattle.bay_mms.specs.Responses.{confirmed_response, response_text};
-ghost use Rattle.bay_ber.specs.Tags.{constructed};
+ghost use Rattle.bay_mms.specs.Responses.{concluded_text, confirmed_response, error_text, reject_text};
+ghost use Rattle.bay_ber.specs.Tags.{context, constructed};
 ghost use Rattle.bay_base.specs.Exact.{Gives};
 ghost use Rattle.bay_mms.specs.Answers.{IsAnswer};
 ghost use Rattle.bay_mms.specs.Asks.{Asks, AsksUnknown, AsksMany, AsksNothing};
 ghost use Rattle.bay_mms.specs.Grammar.{answer_to};
+ghost use Rattle.bay_initiate.specs.Agreed.{agreed_text};
 ghost use Rattle.bay_initiate.specs.Initiate.{initiate_in};
 ghost use Rattle.bay_ber.specs.Values.{value};
 ghost use Rattle.bay_mms.specs.Controls.{Control, Operate, IsOperate, operate_datum, cancel_datum, operate_as, cancel_as, is_in_range, operate_in};
-ghost use Rattle.bay_mms.specs.Laws.{IsPlain, IsOneValue, datum_tag, datum_content, response_tag};
+ghost use Rattle.bay_mms.specs.Laws.{IsPlain, IsOneValue, datum_tag, datum_content};
 ghost use Rattle.bay_mms.specs.SpelledData.{IsDatum};
 ghost use Rattle.bay_mms.specs.Requests.{Message};
 ghost use Rattle.bay_mms.specs.RequestViews.{message};
@@ -23,7 +24,9 @@ ghost use Rattle.bay_mms.specs.declared.request.Request.{Request};
 ghost use Rattle.bay_initiate.specs.SpelledInitiate.{IsInitiate};
 ghost use Rattle.bay_mms.specs.declared.fault.MmsFault.TheVariants as MmsFault;
 ghost use Rattle.bay_initiate.specs.declared.initiate.Proposal.{Proposal};
-ghost use Rattle.bay_mms.specs.declared.response.Response.{Response};
+ghost use Rattle.bay_initiate.specs.declared.initiate.Agreed.{Agreed};
+ghost use Rattle.bay_mms.specs.declared.response.ErrorClass.{ErrorClass};
+ghost use Rattle.bay_mms.specs.declared.response.RejectReason.{RejectReason};
 
 /// What is written is read back as one value of BER (X.690 8.1): data under their tags, which have
 /// one octet, with their contents; responses and reports under the tags of their PDUs. Data that
@@ -34,8 +37,12 @@ pub fn written_is_read()
         → Spells (datum_text datum) (datum_tag datum) (datum_content datum) }
     ensures received { (datum : Datum) → IsPlain datum → length (datum_text datum) < 4294967296
         → IsDatum (value (datum_tag datum) (datum_content datum)) datum }
-    ensures response { (response : Response) → length (response_text response) < 4294967296
-        → IsOneValue (response_text response) (response_tag response) }
+    ensures agreed { (agreed : Agreed) → IsOneValue (agreed_text agreed) (constructed 9) }
+    ensures concluded { IsOneValue concluded_text (context 12) }
+    ensures error { (id : ℕ) (class : ErrorClass)
+        → IsOneValue (error_text id class) (constructed 2) }
+    ensures reject { (id : Option ℕ) (reason : RejectReason)
+        → IsOneValue (reject_text id reason) (constructed 4) }
     ensures confirmed { (id : ℕ) (service : List ℕ)
         → length (confirmed_response id service) < 4294967296
         → IsOneValue (confirmed_response id service) (constructed 1) }

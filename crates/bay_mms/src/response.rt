@@ -7,7 +7,7 @@ ghost use Rattle.bay_tree.specs.Rows.{IsHandle};
 ghost use Rattle.bay_ber.specs.Tags.{context, constructed, int_tag};
 ghost use Rattle.bay_mms.specs.Types.{type_text};
 ghost use Rattle.bay_mms.specs.Nodes.{type_at};
-ghost use Rattle.bay_mms.specs.Responses.{confirmed_response, error_text, identity_text, names_text, listing_text, class_text, id_text, reason_text, reject_text, concluded_text, service_text, response_text, IsOfTree, IsAnswerable};
+ghost use Rattle.bay_mms.specs.Responses.{confirmed_response, error_text, identity_text, names_text, listing_text, class_text, id_text, reason_text, reject_text, concluded_text, service_text, IsOfTree};
 ghost use Rattle.bay_mms.specs.Writing.{text_within};
 
 use crate::fault::EncodeFault;
@@ -17,7 +17,7 @@ use bay_base::text::Text;
 use bay_ber::outgoing::Outgoing;
 use bay_ber::tag::Tag;
 use bay_ber::writer::Writer;
-use bay_initiate::initiate::{Agreed, put_agreed, put_number};
+use bay_initiate::initiate::put_number;
 use bay_tree::tree::{Handle, Tree};
 use std::alloc::{AllocError, Global};
 
@@ -57,30 +57,6 @@ pub enum Service<'a> {
     Attributes {
         tree: &'a Tree,
         handle: Handle,
-    },
-}
-
-/// A response to a client.
-#[derive(Clone, Copy)]
-pub enum Response<'a> {
-    /// The answer to an initiate.
-    Initiate(Agreed),
-    /// The answer to a conclude.
-    Conclude,
-    /// The answer to the confirmed request with this invoke id.
-    Confirmed {
-        id: u32,
-        service: Service<'a>,
-    },
-    /// A confirmed error.
-    Error {
-        id: u32,
-        class: ErrorClass,
-    },
-    /// A reject, with the invoke id if it was read.
-    Reject {
-        id: Option<u32>,
-        reason: RejectReason,
     },
 }
 
@@ -235,34 +211,21 @@ fn put_concluded(writer: &mut Writer)
     writer.append(&[0x8C, 0]);
 }
 
-// Writes a response.
-fn put_response(writer: &mut Writer, response: &Response<'_>)
-    requires { IsAnswerable response.now }
-    ensures { writer.new ≡ sheet_with writer.old (response_text response.now) }
-{
-    match response {
-        Response::Initiate(agreed) => put_agreed(writer, *agreed),
-        Response::Conclude => put_concluded(writer),
-        Response::Confirmed { id, service } => put_confirmed(writer, *id, service),
-        Response::Error { id, class } => put_error(writer, *id, *class),
-        Response::Reject { id, reason } => put_reject(writer, *id, *reason),
-    }
-}
-
-/// Writes a response in its one canonical spelling (ISO 9506-2). `TooLong` if it has more than
-/// `size` octets. Its handles must be of its trees.
+/// Writes the response to a confirmed request with an invoke id in its one canonical spelling (ISO
+/// 9506-2). `TooLong` if it has more than `size` octets. A handle must be of its tree.
 #[tactic(auto, using(bay_ber::proofs::SheetLemmas::message_put))]
 pub fn write_response(
     alloc: Global,
-    response: &Response<'_>,
+    id: u32,
+    service: &Service<'_>,
     size: u32,
 ) -> Result<Outgoing, EncodeFault>
-    requires { IsAnswerable response.now }
+    requires { IsOfTree service.now }
     ensures { Gives EncodeFault.OutOfMemory (λ octets. octets) result
-        (text_within size (response_text response.now)) }
+        (text_within size (confirmed_response id (service_text service.now))) }
 {
     let mut writer = Writer::new(alloc, size)?;
-    put_response(&mut writer, response);
+    put_confirmed(&mut writer, id, service);
     finish(writer)
 }
 
