@@ -6,7 +6,6 @@ ghost use Rattle.bay_tree.specs.Rows.{IsHandle, name_at};
 ghost use Rattle.bay_mms.specs.ControlViews.{originating};
 ghost use Rattle.bay_services.specs.Controls.{ending_of, endings, object_of, refusal_reports, written_decision};
 ghost use Rattle.bay_services.specs.Controls as spec_controls;
-ghost use Rattle.bay_services.specs.Places.{IsFound};
 ghost use Rattle.bay_services.specs.Writes.{cancel_asked, commands_for, decision_result, later_ending, operate_asked, select_with_asked};
 ghost use Rattle.bay_services.specs.Writes as spec;
 ghost use Rattle.bay_mms.specs.RequestViews.{naming};
