@@ -33,4 +33,5 @@ mod step;
 mod table;
 
 // What a step answers.
-pub use bay_services::answer::{Command, Decision};
+pub use bay_services::answer::{Asked, Command, Decision};
+pub use bay_services::target::ControlPart;
