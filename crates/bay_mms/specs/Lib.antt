@@ -6,8 +6,8 @@
 -- id. `Grammar` is the function: it works on the values that bytes are (`Values` of bay_ber), part
 -- by part: a value's tag says what it is, and its content is read as values again. `Asks` is the
 -- relation: a request, a service that is not served, too many variables, the invoke id in front, or
--- none of these. Its parts are `SpelledNames`, `SpelledData` and `SpelledServices`, and the initiate is that
--- of bay_assoc; `Spelled` has their common words.
+-- none of these. Its parts are `SpelledNames`, `SpelledData` and `SpelledServices`, and the initiate
+-- is that of bay_initiate; `Spelled` has their common words.
 --
 -- `Answers` joins them: the request that some bytes ask, or their fault. Memory may run out only
 -- for a read or a write that names a variable or has data.
