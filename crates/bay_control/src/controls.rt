@@ -18,7 +18,7 @@ use bay_tree::leaf::Dbpos;
 /// Times are in milliseconds since 1970. Whatever expires at a time counts as ended at that time: a
 /// selection after `sbo_timeout_ms`, an execution after `travel_ms`. Each request first ends what
 /// has expired; `advance` reports it.
-#[derive(Clone, Copy)]
+#[derive(Drop)]
 pub struct Controls {
     /// The selected switch, by one association.
     pub selection: Option<Selection>,
@@ -34,6 +34,16 @@ impl Controls {
         Controls {
             selection: None,
             execution: None,
+        }
+    }
+
+    /// Returns a copy, on which a request is tried. Takes no memory.
+    pub fn duplicate(&self) -> Self
+        ensures { result ≡ self.now }
+    {
+        Controls {
+            selection: self.selection.as_ref().map(|held| held.duplicate()),
+            execution: self.execution,
         }
     }
 

@@ -3,36 +3,24 @@ ghost use Rattle.std.specs.Prelude.{◌≡◌, ◌≤◌, length};
 ghost use Rattle.bay_control.specs.Requests.{asked_choice, same_choice, same_origin};
 ghost use Rattle.bay_control.specs.Requests as spec;
 
+use arrayvec::ArrayVec;
 use bay_nodes::switch::Operation;
 use bay_tree::leaf::Dbpos;
 use std::marker::Model;
 
 /// The identity of an originator, at most 64 octets (IEC 61850-7-3, orIdent). Contracts see it as
 /// its octets.
-#[derive(Clone, Copy, Debug)]
+#[derive(Debug, Drop)]
 pub struct Identity {
-    octets: [u8; 64],
-    count: usize,
+    octets: ArrayVec<u8, 64>,
 }
 
 impl Model for Identity {
-    ghost use Rattle.std.specs.Prelude.{List, ℕ, ◌≡◌, length, take};
-    ghost use Rattle.std.proofs.Common.{sym};
-    ghost use Rattle.bay_control.specs.Identities.{padded};
+    ghost use Rattle.std.specs.Prelude.{List, ℕ};
 
     ghost Value = { List ℕ };
 
-    ghost view = { λ i. take i.count i.octets };
-
-    ghost inverse = { λ xs. record { octets = padded xs; count = length xs } };
-
-    // Zeros stand behind the octets, so that equal identities are the same.
-    ghost invariant = { λ i. i ≡ record {
-      octets = padded (take i.count i.octets);
-      count = length (take i.count i.octets);
-    } };
-
-    ghost inverse_ok = { λ _ h. sym h };
+    ghost view = { λ i. i.octets.items };
 }
 
 impl Identity {
@@ -41,25 +29,22 @@ impl Identity {
         requires { length octets.now ≤ 64 }
         ensures { result ≡ octets.now }
     {
-        let mut all = [0; 64];
-        all[..octets.len()].copy_from_slice(octets);
-        Identity {
-            octets: all,
-            count: octets.len(),
-        }
+        let mut all = ArrayVec::new();
+        let _ = all.try_extend_from_slice(octets);
+        Identity { octets: all }
     }
 
     /// Returns the octets.
     pub fn as_slice(&self) -> &[u8]
         ensures { result.now ≡ self.now }
     {
-        &self.octets[..self.count]
+        self.octets.as_slice()
     }
 }
 
 /// The originator of a control (IEC 61850-7-3, Originator), as a selection keeps it. bay_mms has
 /// the one that borrows from a request.
-#[derive(Clone, Copy, Debug)]
+#[derive(Debug, Drop)]
 pub struct Originator {
     /// The category (orCat).
     pub cat: i8,
@@ -76,7 +61,7 @@ impl Originator {
 }
 
 /// What a select with value is granted for: an operation and the originator.
-#[derive(Clone, Copy, Debug)]
+#[derive(Debug, Drop)]
 pub struct Choice {
     /// What the switch is told to do (ctlVal).
     pub operation: Operation,
@@ -90,10 +75,22 @@ impl Choice {
     {
         ask.operation == self.operation && ask.origin.is_same(&self.origin)
     }
+
+    // Returns a copy, which takes no memory.
+    pub(crate) fn duplicate(&self) -> Self
+        ensures { result ≡ self.now }
+    {
+        let ident = Identity::new(self.origin.ident.octets.as_slice());
+        let cat = self.origin.cat;
+        Choice {
+            operation: self.operation,
+            origin: Originator { cat, ident },
+        }
+    }
 }
 
 /// A request to operate a switch, or to select it with value (IEC 61850-7-2, 20: Oper and SBOw).
-#[derive(Clone, Copy, Debug)]
+#[derive(Debug, Drop)]
 pub struct Ask {
     /// What the switch is told to do (ctlVal).
     pub operation: Operation,

@@ -1,9 +1,11 @@
 // Which switch is selected, and which is operating.
+ghost use Rattle.std.specs.Prelude.{◌≡◌};
+
 use crate::request::Choice;
 use bay_nodes::switch::Operation;
 
 /// A switch that an association has selected.
-#[derive(Clone, Copy, Debug)]
+#[derive(Debug, Drop)]
 pub struct Selection {
     /// The index of the switch in the bay file, from 0.
     pub switch: usize,
@@ -12,6 +14,16 @@ pub struct Selection {
     pub since: u64,
     /// What a select with value was granted for.
     pub choice: Option<Choice>,
+}
+
+impl Selection {
+    // Returns a copy, which takes no memory.
+    pub(crate) fn duplicate(&self) -> Self
+        ensures { result ≡ self.now }
+    {
+        let choice = self.choice.as_ref().map(|choice| choice.duplicate());
+        Selection { choice, ..*self }
+    }
 }
 
 /// A switch that is operating.

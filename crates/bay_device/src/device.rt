@@ -449,7 +449,7 @@ impl Device {
     pub fn over_at(&self, now: u64) -> Option<usize>
         ensures { result ≡ spec_device.over_at now self.now }
     {
-        let mut controls = self.state.bay.controls;
+        let mut controls = self.state.bay.controls.duplicate();
         controls.advance(&self.state.bay.control_table, now)
     }
 

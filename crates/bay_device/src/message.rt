@@ -225,7 +225,7 @@ pub fn message(
     let sent = made.sent.len();
     let commands = made.commands.len();
     let decisions = made.decisions.len();
-    let mut controls = state.bay.controls;
+    let mut controls = Controls::new();
     match answer(alloc, state, client, connection, &mut controls, made) {
         Ok(due) => {
             put_in(state, controls, due);

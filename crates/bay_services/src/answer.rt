@@ -14,7 +14,7 @@ pub struct Command {
 }
 
 /// What a client writes to a control.
-#[derive(Clone, Copy, Debug)]
+#[derive(Debug, Drop)]
 pub struct Asked {
     /// What the switch is told to do (ctlVal).
     pub operation: Operation,
@@ -24,7 +24,7 @@ pub struct Asked {
 }
 
 /// A control that a client asked for, and what was decided of it.
-#[derive(Clone, Copy, Debug)]
+#[derive(Debug, Drop)]
 pub struct Decision {
     /// The number of the client's association.
     pub association: u16,

@@ -182,7 +182,7 @@ impl Invocation<'_> {
         match fitting(response)? {
             Some(pdu) => told(self.alloc, pdu, decisions),
             None => {
-                *controls = self.bay.controls;
+                *controls = self.bay.controls.duplicate();
                 failed(self.alloc, self.id, ErrorClass::Resource)
             }
         }
@@ -228,7 +228,7 @@ impl Invocation<'_> {
                 })
             }
             None => {
-                *controls = self.bay.controls;
+                *controls = self.bay.controls.duplicate();
                 failed(self.alloc, self.id, ErrorClass::Resource)
             }
         }
@@ -314,7 +314,7 @@ impl ServedBay {
             (λ answer. All (λ pdu. length pdu ≤ longest_pdu) answer.sent.items) }
         ensures ending { IfOk result (λ answer. IsShort answer.ending) }
     {
-        *controls = self.controls;
+        *controls = self.controls.duplicate();
         let request = read_request(alloc, pdu);
         self.respond(alloc, client, request, controls)
     }
