@@ -19,7 +19,6 @@ FOR_USERS = {
     'scan_ranges',  # what a scan may leave, without limits on timers
     'serve_turn',  # a turn with a line of text
     'tree',  # the tree of a device's values
-    'write_type', 'write_value',  # the text of a type, and of a value
 }
 OUTSIDE = re.compile(r'//.*|^\s*ghost .*$', re.M)
 CLAUSE = re.compile(r'^\s*(?:ensures|requires)\b[^{]*\{', re.M)
