@@ -20,7 +20,7 @@ use Rattle.bay_rules.specs.declared.token.Value.{Value}
 use Rattle.bay_rules.specs.declared.token.Value.TheVariants.{Position, Truth, Number}
 use Rattle.bay_rules.specs.Facts.{Items, ◌⊕◌, item, negation, input_items, measure_items, number_items, truth_of, value_items, relation_items}
 use Rattle.bay_rules.specs.Grammar.{AreValues, IsFact, Level, operand, conjunction, condition, Reads, Says}
-use Rattle.bay_rules.specs.Meaning.{TokensRead, LineRead, LinesRead, onto, is_unknown, is_deep, rules_of, is_line_end}
+use Rattle.bay_rules.specs.Meaning.{TokensRead, LineRead, LinesRead, onto, some_rule, is_unknown, is_deep, rules_of, is_line_end}
 use Rattle.bay_rules.specs.Laws.{OneReading, IsCondition, AreConditions, AreTruths}
 use Rattle.bay_rules.specs.Process.{Process, after_item, after_items, top, holds}
 use Rattle.bay_rules.proofs.ConditionLemmas.{plus-four}
@@ -244,4 +244,7 @@ lines-once bay line count lines r q (LinesRead.next {text = text} {rest = rest} 
     ∙ ap (λ (xs : List Rule). onto xs t) same
 
 pub one-reading : OneReading
-one-reading bay text r q p o = lines-once bay 1 0 (slice_split is_line_end text) r q p o
+one-reading bay text r q p o =
+    p.is
+    ∙ ap some_rule (lines-once bay 1 0 (slice_split is_line_end text) p.all o.all p.read o.read)
+    ∙ sym o.is

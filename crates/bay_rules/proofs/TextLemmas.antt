@@ -6,7 +6,7 @@ use Rattle.std.specs.Bool.{◌==◌}
 use Rattle.bay_base.specs.Options.{◌>>=◌}
 use Rattle.bay_config.specs.declared.bay.Bay.{Bay}
 use Rattle.bay_rules.specs.declared.fault.RuleFault.{RuleFault}
-use Rattle.bay_rules.specs.declared.fault.RuleFault.TheVariants.{OutOfMemory, TooMany}
+use Rattle.bay_rules.specs.declared.fault.RuleFault.TheVariants.{NoRule, OutOfMemory, TooMany}
 use Rattle.bay_rules.specs.declared.rule.Rule.{Rule}
 use Rattle.bay_rules.specs.declared.statement.Statement.{Statement}
 use Rattle.bay_rules.specs.declared.statement.Statement.TheVariants.{Looks}
@@ -14,7 +14,7 @@ use Rattle.bay_rules.specs.declared.token.NamedThing.{NamedThing}
 use Rattle.bay_rules.specs.declared.token.Token.{Token}
 use Rattle.bay_rules.specs.Facts.{Items, ◌⊕◌}
 use Rattle.bay_rules.specs.Grammar.{Says}
-use Rattle.bay_rules.specs.Meaning.{onto, line_tokens, TokensRead, LinesRead, LineRead}
+use Rattle.bay_rules.specs.Meaning.{AllRead, TextRead, onto, line_tokens, TokensRead, LinesRead, LineRead}
 use Rattle.bay_rules.specs.Reading.{Pushes, Tells}
 use Rattle.bay_rules.specs.Running.{Taken, fact_at}
 use Rattle.bay_rules.specs.Sayings.{alone, looks_at, statement_at}
@@ -147,3 +147,22 @@ pub goes-err : (bay : Bay) (line : ℕ) (rules new : List Rule) (first : List �
 goes-err bay line rules new first lines more IsAnswer fault p goes (inl memory) = inl memory
 goes-err bay line rules new first lines more IsAnswer fault p goes (inr read) =
     inr (goes-refused bay line rules first lines more IsAnswer fault p goes read)
+
+-- ---- the text
+
+pub text-err : (bay : Bay) (text : List ℕ) (fault : RuleFault)
+    → (fault ≡ OutOfMemory) ⊎ AllRead bay text (Err fault)
+    → (fault ≡ OutOfMemory) ⊎ TextRead bay text (Err fault)
+text-err bay text fault (inl memory) = inl memory
+text-err bay text fault (inr read) = inr (record { all = Err fault; read = read; is = refl })
+
+pub text-none : (bay : Bay) (text : List ℕ) (rules : List Rule) → AllRead bay text (Ok rules)
+    → (length rules == 0) ≡ true → TextRead bay text (Err NoRule)
+text-none bay text [] read e = record { all = Ok []; read = read; is = refl }
+text-none bay text (rule ∷ rules) read e = absurd (grind (arith, nat_tests))
+
+pub text-some : (bay : Bay) (text : List ℕ) (rules : List Rule) → AllRead bay text (Ok rules)
+    → (length rules == 0) ≡ false → TextRead bay text (Ok rules)
+text-some bay text [] read e = absurd (grind (arith, nat_tests))
+text-some bay text (rule ∷ rules) read e =
+    record { all = Ok (rule ∷ rules); read = read; is = refl }

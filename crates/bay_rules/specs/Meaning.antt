@@ -5,7 +5,7 @@ use Rattle.std.specs.List.{list_any, before_first, slice_split}
 use Rattle.bay_config.specs.declared.bay.Bay.{Bay}
 use Rattle.bay_base.specs.Options.{◌>>=◌}
 use Rattle.bay_rules.specs.declared.fault.RuleFault.{RuleFault}
-use Rattle.bay_rules.specs.declared.fault.RuleFault.TheVariants.{BadWord, BadLine, UnknownName, BadValue, TooMany}
+use Rattle.bay_rules.specs.declared.fault.RuleFault.TheVariants.{BadWord, BadLine, UnknownName, BadValue, TooMany, NoRule}
 use Rattle.bay_rules.specs.declared.pieces.Cut.TheVariants.{Line}
 use Rattle.bay_rules.specs.declared.rule.Rule.{Rule}
 use Rattle.bay_rules.specs.declared.rule.Timing.{Timing}
@@ -151,6 +151,17 @@ pub data LinesRead (bay : Bay) : ℕ → ℕ → List (List ℕ) → Result (Lis
 abbrev pub is_line_end : ℕ → Bool
 is_line_end b = b == 10
 
--- what a text is read as: its rules, or its first fault
-abbrev pub TextRead : Bay → List ℕ → Result (List Rule) RuleFault → Type 0
-TextRead bay text = LinesRead bay 1 0 (slice_split is_line_end text)
+-- what all lines of a text are read as
+abbrev pub AllRead : Bay → List ℕ → Result (List Rule) RuleFault → Type 0
+AllRead bay text = LinesRead bay 1 0 (slice_split is_line_end text)
+
+-- no rule is a fault
+abbrev pub some_rule : Result (List Rule) RuleFault → Result (List Rule) RuleFault
+some_rule (Ok []) = Err NoRule
+some_rule other = other
+
+-- what a text is read as: its rules, of which there is one at least, or its first fault
+pub record TextRead (bay : Bay) (text : List ℕ) (r : Result (List Rule) RuleFault) : Type 0 where
+  pub all : Result (List Rule) RuleFault
+  pub read : AllRead bay text all
+  pub is : r ≡ some_rule all

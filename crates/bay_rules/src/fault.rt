@@ -24,13 +24,16 @@ pub enum RuleFault {
     /// More than 1,000 rules, or more than 64 parentheses within each other.
     #[error("too many rules, or too many parentheses within each other")]
     TooMany { line: usize },
+    /// A text without a rule.
+    #[error("a text without a rule")]
+    NoRule,
     /// Out of memory.
     #[error("out of memory")]
     OutOfMemory,
 }
 
 impl RuleFault {
-    /// Returns the fault's number, 140 to 144, or `None` for out of memory.
+    /// Returns the fault's number, 140 to 145, or `None` for out of memory.
     pub fn code(self) -> Option<u8>
         ensures { result ≡ code_of self }
     {
@@ -40,11 +43,13 @@ impl RuleFault {
             RuleFault::UnknownName { .. } => Some(142),
             RuleFault::BadValue { .. } => Some(143),
             RuleFault::TooMany { .. } => Some(144),
+            RuleFault::NoRule => Some(145),
             RuleFault::OutOfMemory => None,
         }
     }
 
-    /// Returns the line of the fault, counted from 1, or 0 for out of memory.
+    /// Returns the line of the fault, counted from 1, which is 1 for a text without a rule, or 0
+    /// for out of memory.
     pub fn line(self) -> usize
         ensures { result ≡ line_of self }
     {
@@ -54,6 +59,7 @@ impl RuleFault {
             | RuleFault::UnknownName { line }
             | RuleFault::BadValue { line }
             | RuleFault::TooMany { line } => line,
+            RuleFault::NoRule => 1,
             RuleFault::OutOfMemory => 0,
         }
     }

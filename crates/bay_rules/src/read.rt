@@ -3,7 +3,7 @@ ghost use Rattle.std.specs.Prelude.{◌≡◌, ◌≤◌, ◌<◌, ◌⊎◌, �
 ghost use Rattle.std.specs.List.{list_any, slice_split};
 ghost use Rattle.bay_rules.specs.declared.fault.RuleFault.TheVariants.{OutOfMemory};
 ghost use Rattle.bay_rules.specs.declared.statement.Statement.TheVariants as statement;
-ghost use Rattle.bay_rules.specs.Meaning.{TokensRead, LineRead, TextRead, timing_of, rules_of, is_line_end};
+ghost use Rattle.bay_rules.specs.Meaning.{TokensRead, LineRead, AllRead, TextRead, timing_of, rules_of, is_line_end};
 ghost use Rattle.bay_rules.specs.Meaning as spec;
 ghost use Rattle.bay_rules.specs.Reading.{Pushes, Tells, rest_lines};
 
@@ -248,13 +248,11 @@ fn cut_line(text: &[u8]) -> (&[u8], Option<&[u8]>)
     }
 }
 
-/// Reads the rules of a text for a bay.
-pub fn read_rules(alloc: Global, bay: &Bay, text: &[u8]) -> Result<Listing<Rule>, RuleFault>
-    // The rules that the text means.
-    ensures read { IfOk result (λ rules. TextRead bay.now text.now (Ok rules)) }
-    // Its first fault, unless memory ran out.
+// Reads the rules of all lines of a text.
+fn read_lines(alloc: Global, bay: &Bay, text: &[u8]) -> Result<Vec<Rule>, RuleFault>
+    ensures read { IfOk result (λ rules. AllRead bay.now text.now (Ok rules.items)) }
     ensures refused { IfErr result
-        (λ fault. (fault ≡ OutOfMemory) ⊎ TextRead bay.now text.now (Err fault)) }
+        (λ fault. (fault ≡ OutOfMemory) ⊎ AllRead bay.now text.now (Err fault)) }
 {
     let mut rules = Vec::new(alloc);
     let mut rest = text;
@@ -267,8 +265,23 @@ pub fn read_rules(alloc: Global, bay: &Bay, text: &[u8]) -> Result<Listing<Rule>
         }
         match behind {
             Some(behind) => rest = behind,
-            None => return Ok(Listing::new(rules)),
+            None => return Ok(rules),
         }
         line += 1;
     }
+}
+
+/// Reads the rules of a text for a bay. There is one at least.
+pub fn read_rules(alloc: Global, bay: &Bay, text: &[u8]) -> Result<Listing<Rule>, RuleFault>
+    // The rules that the text means.
+    ensures read { IfOk result (λ rules. TextRead bay.now text.now (Ok rules)) }
+    // Its first fault, unless memory ran out.
+    ensures refused { IfErr result
+        (λ fault. (fault ≡ OutOfMemory) ⊎ TextRead bay.now text.now (Err fault)) }
+{
+    let rules = read_lines(alloc, bay, text)?;
+    if rules.is_empty() {
+        return Err(RuleFault::NoRule);
+    }
+    Ok(Listing::new(rules))
 }
