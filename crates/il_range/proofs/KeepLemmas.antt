@@ -1,9 +1,8 @@
--- A run of the machine keeps the types of the slots and the kinds of the timers.
+-- A run of the machine keeps the number of the slots and the kinds of the timers.
 use Rattle.std.proofs.Common.{◌≡◌, ◌⊎◌, inl, inr, ℕ, zero, suc, ◌+◌, Bool, true, false, cond, List, length, [], ◌∷◌, refl, sym, ap, subst, ◌∙◌, Option, Some, None, slice_get, slice_set, map}
 use Rattle.std.specs.Prelude.{◌&&◌, ◌||◌, not, nat_lt}
 use Rattle.std.specs.Ordering.{int_eq}
 use Rattle.std.specs.Prelude.{ℤ, pos}
-use Rattle.bay_base.specs.Types.{same_type}
 use Rattle.il_image.specs.declared.arithmetic.Width.{Width}
 use Rattle.il_image.specs.declared.arithmetic.Width.TheVariants as width
 use Rattle.il_image.specs.declared.instr.Instr.{Instr}
@@ -23,15 +22,16 @@ use Rattle.bay_base.specs.declared.types.TimerKind.{TimerKind}
 use Rattle.bay_base.specs.declared.types.TimerKind.TheVariants.{OnDelay, OffDelay}
 use Rattle.il_image.specs.Timers.{after_call, phase_after}
 use Rattle.il_image.specs.Values.{number_of, type_of}
-use Rattle.il_image.proofs.KindLemmas.{same-is}
+use Rattle.bay_base.specs.Types.{same_type}
+use Rattle.std.proofs.lemmas.List.{length-set}
 use Rattle.il_range.specs.Laws.{Continues}
 use Rattle.il_range.specs.Ranges.{began, began_at, kind_of}
 
--- The slots have the types, and the timers the kinds, that they had, and a delay that runs began
+-- There are as many slots, the timers have the kinds that they had, and a delay that runs began
 -- now, or ran before.
 pub record Keeps (now : ℕ) (slots : List Value) (timers : List TimerState) (s : State)
     : Type 0 where
-  pub types : map type_of slots ≡ map type_of s.slots
+  pub size : length slots ≡ length s.slots
   pub kinds : map kind_of timers ≡ map kind_of s.timers
   pub begins : Continues now timers s.timers
 
@@ -42,7 +42,7 @@ NextKeeps now Halts s = Unit {0}
 NextKeeps now (Traps trap) s = Unit {0}
 
 same : (now : ℕ) (s : State) → Keeps now s.slots s.timers s
-same now s = record { types = refl; kinds = refl; begins = λ n start is. inr is }
+same now s = record { size = refl; kinds = refl; begins = λ n start is. inr is }
 
 map-stays : {A B : Type 0} (f : A → B) (xs : List A) (n : ℕ) (x y : A) → slice_get xs n ≡ Some x
     → f y ≡ f x → map f (slice_set xs n y) ≡ map f xs
@@ -52,9 +52,9 @@ map-stays {B = B} f (z ∷ xs) zero x y at e = let is : z ≡ x = cc in
 map-stays {B = B} f (z ∷ xs) (suc n) x y at e =
     ap (λ (bs : List B). f z ∷ bs) (map-stays f xs n x y at e)
 
-keep-if : (now : ℕ) (b : Bool) (t : StepResult) (trap : Trap) (s : State) → (b ≡ true → NextKeeps now t s)
+keep-if : (now : ℕ) (b : Bool) (t : StepResult) (trap : Trap) (s : State) → NextKeeps now t s
     → NextKeeps now (cond b t (Traps trap)) s
-keep-if now true t trap s h = h refl
+keep-if now true t trap s h = h
 keep-if now false t trap s h = tt
 
 keep-unless : (now : ℕ) (b : Bool) (t : StepResult) (trap : Trap) (s : State) → NextKeeps now t s
@@ -76,8 +76,8 @@ keep-two now (v ∷ []) f s h = tt
 keep-two now (v ∷ u ∷ below) f s h = h u v below
 
 keep-truth : (now : ℕ) (v : Value) (f : Bool → StepResult) (s : State)
-    → ((b : Bool) → v ≡ Truth b → NextKeeps now (f b) s) → NextKeeps now (as_truth v f) s
-keep-truth now (Truth b) f s h = h b refl
+    → ((b : Bool) → NextKeeps now (f b) s) → NextKeeps now (as_truth v f) s
+keep-truth now (Truth b) f s h = h b
 keep-truth now v f s h = tt
 
 keep-span : (now : ℕ) (v : Value) (f : ℕ → StepResult) (s : State) → ((n : ℕ) → NextKeeps now (f n) s)
@@ -94,14 +94,13 @@ keep-number now width.Lint (Wide z) f s h = h z
 keep-number now w v f s h = tt
 
 keep-slot : (now : ℕ) (n : ℕ) (s : State) (f : Value → StepResult)
-    → ((v : Value) → slice_get s.slots n ≡ Some v → NextKeeps now (f v) s)
-    → NextKeeps now (with_slot n s f) s
-keep-slot now n s f h = go (slice_get s.slots n) refl
+    → ((v : Value) → NextKeeps now (f v) s) → NextKeeps now (with_slot n s f) s
+keep-slot now n s f h = go (slice_get s.slots n)
   where
-    go : (o : Option Value) → slice_get s.slots n ≡ o
+    go : (o : Option Value)
         → NextKeeps now (elim o [ None ↦ Traps MissingSlot | Some v ↦ f v ]) s
-    go None e = tt
-    go (Some v) e = h v e
+    go None = tt
+    go (Some v) = h v
 
 keep-timer : (now : ℕ) (n : ℕ) (s : State) (f : TimerState → StepResult)
     → ((t : TimerState) → slice_get s.timers n ≡ Some t → NextKeeps now (f t) s)
@@ -119,11 +118,11 @@ keep-wider : (now : ℕ) (o : Option Value) (f : Value → StepResult) (s : Stat
 keep-wider now None f s h = tt
 keep-wider now (Some v) f s h = h v
 
--- a slot changes to a value of its type
-slot-keeps : (now : ℕ) (s : State) (n : ℕ) (v u : Value) → slice_get s.slots n ≡ Some v
-    → type_of u ≡ type_of v → Keeps now (slice_set s.slots n u) s.timers s
-slot-keeps now s n v u at e = record {
-  types = map-stays type_of s.slots n v u at e;
+-- a slot changes
+slot-keeps : (now : ℕ) (s : State) (n : ℕ) (u : Value)
+    → Keeps now (slice_set s.slots n u) s.timers s
+slot-keeps now s n u = record {
+  size = length-set s.slots n u;
   kinds = refl;
   begins = λ m start is. inr is;
 }
@@ -162,47 +161,44 @@ call-begins OffDelay false (Since m) now start is = inr is
 timer-keeps : (now : ℕ) (s : State) (n : ℕ) (t u : TimerState) → slice_get s.timers n ≡ Some t
     → u.kind ≡ t.kind → BeginsBy now u t → Keeps now s.slots (slice_set s.timers n u) s
 timer-keeps now s n t u at e by = record {
-  types = refl;
+  size = refl;
   kinds = map-stays kind_of s.timers n t u at e;
   begins = set-begins now s.timers n t u at by;
 }
 
 -- a slot of a truth changes by the top
 truths-keep : (now n next : ℕ) (s : State) (f : Bool → Bool → Bool) (v top : Value)
-    → slice_get s.slots n ≡ Some v
     → NextKeeps now (as_truth top (λ b. as_truth v (λ o. stores n (Truth (f b o)) next s))) s
-truths-keep now n next s f v top at =
-    keep-truth now top _ s (λ b is. keep-truth now v _ s
-    (λ o e. slot-keeps now s n v (Truth (f b o)) at (ap type_of (sym e))))
+truths-keep now n next s f v top =
+    keep-truth now top _ s (λ b. keep-truth now v _ s (λ o. slot-keeps now s n (Truth (f b o))))
 
 step-keeps : (now : ℕ) (i : Instr) (next : ℕ) (s : State) → NextKeeps now (act now i next s) s
 unfolding act
 step-keeps now Halt next s = tt
 step-keeps now (Push v) next s =
     keep-if now (nat_lt (length s.cells) most_cells) (goes next (v ∷ s.cells) s) FullStack s
-    (λ e. same now s)
+    (same now s)
 step-keeps now Drop next s = keep-top now s.cells _ s (λ v below. same now s)
 step-keeps now (Slot Load n) next s =
-    keep-slot now n s _ (λ v at. keep-if now (nat_lt (length s.cells) most_cells)
+    keep-slot now n s _ (λ v. keep-if now (nat_lt (length s.cells) most_cells)
     (goes next (v ∷ s.cells) s)
     FullStack s
-    (λ e. same now s))
+    (same now s))
 step-keeps now (Slot Store n) next s =
-    keep-slot now n s _ (λ v at. keep-top now s.cells _ s
+    keep-slot now n s _ (λ v. keep-top now s.cells _ s
     (λ top below. keep-if now (same_type (type_of top) (type_of v)) (stores n top next s) WrongKind
-    s
-    (λ e. slot-keeps now s n v top at (same-is (type_of top) (type_of v) e))))
+    s (slot-keeps now s n top)))
 step-keeps now (Slot SetIf n) next s =
-    keep-slot now n s _ (λ v at. keep-top now s.cells _ s
-    (λ top below. truths-keep now n next s (λ b o. b || o) v top at))
+    keep-slot now n s _ (λ v. keep-top now s.cells _ s
+    (λ top below. truths-keep now n next s (λ b o. b || o) v top))
 step-keeps now (Slot ResetIf n) next s =
-    keep-slot now n s _ (λ v at. keep-top now s.cells _ s
-    (λ top below. truths-keep now n next s (λ b o. not b && o) v top at))
+    keep-slot now n s _ (λ v. keep-top now s.cells _ s
+    (λ top below. truths-keep now n next s (λ b o. not b && o) v top))
 step-keeps now Not next s =
-    keep-top now s.cells _ s (λ top below. keep-truth now top _ s (λ b e. same now s))
+    keep-top now s.cells _ s (λ top below. keep-truth now top _ s (λ b. same now s))
 step-keeps now (Combine c) next s =
     keep-two now s.cells _ s
-    (λ a b below. keep-truth now b _ s (λ x e. keep-truth now a _ s (λ y f. same now s)))
+    (λ a b below. keep-truth now b _ s (λ x. keep-truth now a _ s (λ y. same now s)))
 step-keeps now (Compute o w) next s =
     keep-two now s.cells _ s (λ a b below. keep-number now w b _ s (λ y. keep-number now w a _ s
     (λ x. keep-unless now (divides o && int_eq y (pos 0))
@@ -210,17 +206,17 @@ step-keeps now (Compute o w) next s =
 step-keeps now (Compare c) next s =
     keep-two now s.cells _ s (λ a b below. keep-if now (is_comparable c a b)
     (goes next (Truth (comparison_holds c (number_of a) (number_of b)) ∷ below) s) WrongKind s
-    (λ e. same now s))
+    (same now s))
 step-keeps now (Widen w) next s =
     keep-top now s.cells _ s (λ top below. keep-wider now (wider_value w top) _ s (λ v. same now s))
 step-keeps now (Jump Always distance) next s = same now s
 step-keeps now (Jump IfTrue distance) next s =
-    keep-top now s.cells _ s (λ top below. keep-truth now top _ s (λ b e. same now s))
+    keep-top now s.cells _ s (λ top below. keep-truth now top _ s (λ b. same now s))
 step-keeps now (Jump IfFalse distance) next s =
-    keep-top now s.cells _ s (λ top below. keep-truth now top _ s (λ b e. same now s))
+    keep-top now s.cells _ s (λ top below. keep-truth now top _ s (λ b. same now s))
 step-keeps now (Timer SetInput n) next s =
     keep-timer now n s _ (λ t at. keep-top now s.cells _ s (λ top below. keep-truth now top _ s
-    (λ b e. timer-keeps now s n t (record t { input = b }) at refl
+    (λ b. timer-keeps now s n t (record t { input = b }) at refl
     (λ start is. inr is))))
 step-keeps now (Timer SetPreset n) next s =
     keep-timer now n s _ (λ t at. keep-top now s.cells _ s (λ top below. keep-span now top _ s
@@ -231,10 +227,10 @@ step-keeps now (Timer Run n) next s =
     (call-begins t.kind t.input t.phase now))
 step-keeps now (Timer LoadOutput n) next s =
     keep-timer now n s _ (λ t at. keep-if now (nat_lt (length s.cells) most_cells)
-    (goes next (Truth t.output ∷ s.cells) s) FullStack s (λ e. same now s))
+    (goes next (Truth t.output ∷ s.cells) s) FullStack s (same now s))
 step-keeps now (Timer LoadElapsed n) next s =
     keep-timer now n s _ (λ t at. keep-if now (nat_lt (length s.cells) most_cells)
-    (goes next (Span t.elapsed ∷ s.cells) s) FullStack s (λ e. same now s))
+    (goes next (Span t.elapsed ∷ s.cells) s) FullStack s (same now s))
 
 turn-keeps : (now : ℕ) (o : Option (Instr × ℕ)) (s : State) → NextKeeps now (turn_of now o s) s
 turn-keeps now None s = tt
@@ -250,7 +246,7 @@ rest-keeps : (code : List ℕ) (now most steps count : ℕ) (slots : List Value)
 rest-keeps code now most steps count slots timers (Goes to) s k later e =
     let rest = later to e in
     record {
-      types = rest.types ∙ k.types;
+      size = rest.size ∙ k.size;
       kinds = rest.kinds ∙ k.kinds;
       begins = λ n start is. elim (rest.begins n start is) [
         | inl new ↦ inl new
@@ -260,7 +256,7 @@ rest-keeps code now most steps count slots timers (Goes to) s k later e =
 rest-keeps code now most steps count slots timers Halts s k later e =
     let is : s.slots ≡ slots = cc in let are : s.timers ≡ timers = cc in
     record {
-      types = ap (map type_of) (sym is);
+      size = ap length (sym is);
       kinds = ap (map kind_of) (sym are);
       begins = λ n start began. inr (subst (λ (ts : List TimerState). began_at n ts ≡ Some start)
           (sym are) began);

@@ -1,5 +1,5 @@
 -- The values that a range stands for, under what is done with one value or two.
-use Rattle.std.proofs.Common.{◌≡◌, ℤ, pos, Bool, true, false, refl, ap, subst, arith, Option, Some, None}
+use Rattle.std.proofs.Common.{◌≡◌, ℤ, pos, Bool, true, false, cond, List, [], ◌∷◌, refl, ap, subst, arith, Option, Some, None}
 use Rattle.std.proofs.lemmas.Bool.{and_parts}
 use Rattle.std.specs.Prelude.{◌≤ℤ◌, ◌<ℤ◌, ◌&&◌, ◌||◌, not, int_lt, int_le}
 use Rattle.std.specs.Ordering.{int_eq}
@@ -15,8 +15,8 @@ use Rattle.il_image.specs.Arithmetic.{comparison_holds, logic_of}
 use Rattle.il_image.specs.Values.{number_of}
 use Rattle.il_range.specs.declared.range.Range.{Range}
 use Rattle.il_range.specs.declared.range.Range.TheVariants.{Any, No, Yes, Either, Between}
-use Rattle.il_range.specs.Effects.{both, compared, connected, either, exactly, high_of, join, low_of, lower, negated, one_of, surely, surely_le, surely_lt, told, upper}
-use Rattle.il_range.specs.Ranges.{IsFalseValue, IsIn, IsTrueValue, IsTruth}
+use Rattle.il_range.specs.Effects.{both, compared, connected, either, exactly, high_of, are_within, is_within, join, low_of, lower, negated, one_of, surely, surely_le, surely_lt, told, upper, widened}
+use Rattle.il_range.specs.Ranges.{AreIn, IsFalseValue, IsIn, IsTrueValue, IsTruth}
 
 same-le : (z : ℤ) → z ≤ℤ z
 same-le z = omega (arith, ints)
@@ -76,6 +76,37 @@ in-join_right v Either Either h = h
 in-join_right v (Between a b) (Between c d) h =
     (lower-right a c (number_of v) h.0, upper-right b d (number_of v) h.1)
 in-join_right v r s h = tt
+
+in-within : (v : Value) (r s : Range) → is_within r s ≡ true → IsIn v r → IsIn v s
+in-within v r Any e h = tt
+in-within v No No e h = h
+in-within v Yes Yes e h = h
+in-within v No Either e h = false-truth v h
+in-within v Yes Either e h = true-truth v h
+in-within v Either Either e h = h
+in-within v (Between a b) (Between c d) e h =
+    let parts = and_parts e in grind (arith, ints, parts.0, parts.1, h.0, h.1)
+in-within v r s e h = absurd (cc)
+
+pub are-within : (values : List Value) (ranges others : List Range)
+    → are_within ranges others ≡ true → AreIn values ranges → AreIn values others
+are-within [] [] [] e h = tt
+are-within [] [] (s ∷ others) e h = absurd (cc)
+are-within values (r ∷ ranges) [] e h = absurd (cc)
+are-within [] (r ∷ ranges) (s ∷ others) e h = absurd h
+are-within (v ∷ values) [] others e h = absurd h
+are-within (v ∷ values) (r ∷ ranges) (s ∷ others) e h =
+    let parts = and_parts e in
+    (in-within v r s parts.0 h.0, are-within values ranges others parts.1 h.1)
+
+pub in-widened : (is_late : Bool) (v : Value) (r s : Range) → IsIn v r
+    → IsIn v (widened is_late r s)
+in-widened is_late v r s h = go (is_within s r) is_late
+  where
+    go : (b late : Bool) → IsIn v (cond b r (cond late Any (join r s)))
+    go true late = h
+    go false true = tt
+    go false false = in-join_left v r s h
 
 -- ---- truths
 

@@ -1,37 +1,34 @@
--- What a scan starts from, what it leaves by the types alone, and a machine before its first scan.
-use Rattle.std.proofs.Common.{◌≡◌, ◌+◌, length, ℕ, Bool, true, false, cond, List, [], ◌∷◌, ◌++◌, refl, sym, ap, subst, ◌∙◌, map, drop, Option, arith}
-use Rattle.bay_base.specs.declared.types.ElementaryType.{ElementaryType}
-use Rattle.bay_base.specs.declared.types.ElementaryType.TheVariants as elementary
+-- What a scan starts from, what all scans keep, and what foretells a scan and a memory.
+use Rattle.std.proofs.Common.{◌≡◌, ◌+◌, length, ℕ, zero, suc, Bool, true, false, cond, List, [], ◌∷◌, ◌++◌, refl, sym, ap, subst, ◌∙◌, map, drop, replicate, ◌≤◌, Option, arith}
 use Rattle.bay_base.specs.declared.types.TimerKind.{TimerKind}
 use Rattle.il_image.specs.declared.image.ImagePoint.{ImagePoint}
 use Rattle.il_image.specs.declared.timer.TimerState.{TimerState}
 use Rattle.il_image.specs.declared.value.Value.{Value}
-use Rattle.il_image.specs.declared.value.Value.TheVariants.{Truth, Short, Long, Wide, Span}
 use Rattle.il_image.specs.Images.{Image}
 use Rattle.il_image.specs.Timers.{first_state}
-use Rattle.il_image.specs.Values.{default_value, type_of}
+use Rattle.il_image.specs.Values.{default_value}
 use Rattle.il_scan.specs.Scans.{Held, Scans, first_input, first_slots, held_first, scan_start, with_inputs}
-use Rattle.il_image.specs.Tables.{slot_types}
-use Rattle.il_scan.specs.Words.{AreTyped}
 use Rattle.il_range.specs.declared.range.Range.{Range}
-use Rattle.il_range.specs.declared.range.Range.TheVariants.{Any, No, Yes, Either, Between}
-use Rattle.il_range.specs.Foretold.{Foretells, ForetellsTimed, IsKept, Leaves, kept_ranges, range_of_point, range_of_type, range_of_variable}
-use Rattle.il_range.specs.Outcomes.{Predicts}
-use Rattle.std.proofs.lemmas.List.{length-append, length-map}
-use Rattle.il_range.specs.Laws.{DelaysContinue, with_memory}
-use Rattle.il_range.specs.Ranges.{AreIn, AreTimersIn, AreYoung, IsIn, IsTruth, IsYoung, kind_of}
+use Rattle.il_range.specs.declared.range.Range.TheVariants.{Any}
 use Rattle.il_range.specs.declared.timer.KnownTimer.{KnownTimer}
-use Rattle.il_range.specs.Starts.{first_limit, given_behind, known_of_kinds, start_of_points, start_ranges}
-use Rattle.il_range.proofs.KeepLemmas.{run-keeps}
+use Rattle.il_range.specs.Effects.{are_within, exactly, joined, widened}
+use Rattle.il_range.specs.Foretold.{Foretells, IsMemory, IsReached, First, Next, Leaves, with_memory}
+use Rattle.il_range.specs.Laws.{DelaysContinue, ReachesByScan}
+use Rattle.il_range.specs.Outcomes.{Carries, Predicts, Tells}
+use Rattle.il_range.specs.Ranges.{AreIn, AreTimersIn, AreYoung, IsIn, IsYoung, kind_of}
+use Rattle.il_range.specs.Starts.{first_limit, known_of_kinds, range_of_point}
+use Rattle.il_range.proofs.KeepLemmas.{Keeps, run-keeps}
+use Rattle.il_range.proofs.ListLemmas.{each-left}
+use Rattle.il_range.proofs.RangeLemmas.{are-within, in-exactly, in-widened}
 
 -- ---- the start of a scan
 
-first-in : (inputs : List Value) (given : List Range) (v : Value) → AreIn inputs given
-    → IsIn (first_input inputs v) (first_input given Any)
-first-in [] [] v h = tt
-first-in [] (r ∷ given) v h = absurd h
-first-in (u ∷ inputs) [] v h = absurd h
-first-in (u ∷ inputs) (r ∷ given) v h = h.0
+first-in : (inputs : List Value) (given : List Range) (v : Value) (r : Range)
+    → AreIn inputs given → IsIn v r → IsIn (first_input inputs v) (first_input given r)
+first-in [] [] v r h k = k
+first-in [] (s ∷ given) v r h k = absurd h
+first-in (u ∷ inputs) [] v r h k = absurd h
+first-in (u ∷ inputs) (s ∷ given) v r h k = h.0
 
 behind-in : (inputs : List Value) (given : List Range) → AreIn inputs given
     → AreIn (drop 1 inputs) (drop 1 given)
@@ -40,34 +37,48 @@ behind-in [] (r ∷ given) h = absurd h
 behind-in (u ∷ inputs) [] h = absurd h
 behind-in (u ∷ inputs) (r ∷ given) h = h.1
 
-points-in : (points : List ImagePoint) (more : List Range) (inputs : List Value)
-    (given : List Range) (slots : List Value) → AreIn inputs given
-    → AreIn slots (map range_of_point points ++ more)
-    → AreIn (with_inputs points inputs slots) (start_of_points points given ++ more)
-points-in [] more inputs given slots h k = k
-points-in (p ∷ points) more inputs given [] h k = absurd k
-points-in (p ∷ points) more inputs given (v ∷ slots) h k = (
-  now p.writable k.0,
-  points-in points more (cond p.writable inputs (drop 1 inputs)) (given_behind p given) slots
-      (later p.writable) k.1,
+points-in : (points : List ImagePoint) (inputs : List Value) (given : List Range)
+    (slots : List Value) (memory : List Range) → AreIn inputs given → AreIn slots memory
+    → AreIn (with_inputs points inputs slots) (with_inputs points given memory)
+points-in [] inputs given slots memory h k = k
+points-in (p ∷ points) inputs given [] [] h k = tt
+points-in (p ∷ points) inputs given [] (r ∷ memory) h k = absurd k
+points-in (p ∷ points) inputs given (v ∷ slots) [] h k = absurd k
+points-in (p ∷ points) inputs given (v ∷ slots) (r ∷ memory) h k = (
+  now p.writable,
+  points-in points (cond p.writable inputs (drop 1 inputs))
+      (cond p.writable given (drop 1 given)) slots memory (later p.writable) k.1,
 )
   where
-    now : (b : Bool) → IsIn v (cond b (range_of_type p.elementary) Any)
-        → IsIn (cond b v (first_input inputs v))
-        (cond b (range_of_type p.elementary) (first_input given Any))
-    now true is = is
-    now false is = first-in inputs given v h
+    now : (b : Bool) → IsIn (cond b v (first_input inputs v)) (cond b r (first_input given r))
+    now true = k.0
+    now false = first-in inputs given v r h k.0
 
     later : (b : Bool) → AreIn (cond b inputs (drop 1 inputs)) (cond b given (drop 1 given))
     later true = h
     later false = behind-in inputs given h
 
-pub start-in : (machine : Held) (inputs : List Value) (given : List Range) → IsKept machine
-    → AreIn inputs given
-    → AreIn (scan_start machine inputs).slots (start_ranges machine.image given)
-start-in machine inputs given k h =
-    points-in machine.image.points (map range_of_variable machine.image.variables) inputs given
-    machine.slots h k.slots
+-- whatever the inputs are, where nothing is known of so many
+free-in : (points : List ImagePoint) (inputs : List Value) (n : ℕ) (slots : List Value)
+    (memory : List Range) → length points ≤ n → AreIn slots memory
+    → AreIn (with_inputs points inputs slots) (with_inputs points (replicate n Any) memory)
+free-in [] inputs n slots memory few k = k
+free-in (p ∷ points) inputs zero slots memory few k = absurd (omega arith)
+free-in (p ∷ points) inputs (suc n) [] [] few k = tt
+free-in (p ∷ points) inputs (suc n) [] (r ∷ memory) few k = absurd k
+free-in (p ∷ points) inputs (suc n) (v ∷ slots) [] few k = absurd k
+free-in (p ∷ points) inputs (suc n) (v ∷ slots) (r ∷ memory) few k =
+    (now p.writable, later p.writable)
+  where
+    now : (b : Bool)
+        → IsIn (cond b v (first_input inputs v)) (cond b r (first_input (replicate (suc n) Any) r))
+    now true = k.0
+    now false = tt
+
+    later : (b : Bool) → AreIn (with_inputs points (cond b inputs (drop 1 inputs)) slots)
+        (with_inputs points (cond b (replicate (suc n) Any) (drop 1 (replicate (suc n) Any))) memory)
+    later true = free-in points inputs (suc n) slots memory (omega arith) k.1
+    later false = free-in points (drop 1 inputs) n slots memory (omega arith) k.1
 
 first-young : (now : ℕ) (t : TimerState) (timers : List TimerState) (limits : List (Option ℕ))
     → AreYoung now (t ∷ timers) limits → IsYoung now t.phase (first_limit limits)
@@ -106,110 +117,18 @@ limits-young now [] (u ∷ known) h = absurd h
 limits-young now (t ∷ timers) [] h = absurd h
 limits-young now (t ∷ timers) (u ∷ known) h = (h.0.young, limits-young now timers known h.1)
 
--- with no inputs nothing is known of the points that may only be read
-points-kept : (points : List ImagePoint)
-    → start_of_points points [] ≡ map range_of_point points
-points-kept [] = refl
-points-kept (p ∷ points) =
-    ap (λ (l : List Range). range_of_point p ∷ l)
-    (ap (start_of_points points) (go p.writable) ∙ points-kept points)
-  where
-    go : (b : Bool) → let none : List Range = [] in cond b none none ≡ none
-    go true = refl
-    go false = refl
+-- ---- what each scan keeps
 
-pub start-kept : (image : Image) → start_ranges image [] ≡ kept_ranges image
-start-kept image =
-    ap (λ (l : List Range). l ++ map range_of_variable image.variables) (points-kept image.points)
+leaves-keep : (machine : Held) (inputs : List Value) (now : ℕ) (slots : List Value)
+    (timers : List TimerState) → Leaves machine inputs now slots timers
+    → Keeps now slots timers (scan_start machine inputs)
+leaves-keep machine inputs now slots timers l =
+    run-keeps machine.image.code now l.most (scan_start machine inputs) 0 slots timers l.steps
+    l.halts
 
--- ---- types alone
-
--- The range says no more than a type.
-abbrev IsByType : Range → Type 0
-IsByType Any = Unit {0}
-IsByType Either = Unit {0}
-IsByType No = ⊥
-IsByType Yes = ⊥
-IsByType (Between low high) = ⊥
-
-abbrev AreByType : List Range → Type 0
-AreByType [] = Unit {0}
-AreByType (r ∷ ranges) = IsByType r × AreByType ranges
-
-by-type : (t : ElementaryType) → IsByType (range_of_type t)
-by-type elementary.Bool = tt
-by-type elementary.Int = tt
-by-type elementary.Dint = tt
-by-type elementary.Lint = tt
-by-type elementary.Time = tt
-
-variables-by : (variables : List Value) → AreByType (map range_of_variable variables)
-variables-by [] = tt
-variables-by (v ∷ variables) = (by-type (type_of v), variables-by variables)
-
-kept-by : (points : List ImagePoint) (more : List Range) → AreByType more
-    → AreByType (map range_of_point points ++ more)
-kept-by [] more h = h
-kept-by (p ∷ points) more h = (go p.writable, kept-by points more h)
-  where
-    go : (b : Bool) → IsByType (cond b (range_of_type p.elementary) Any)
-    go true = by-type p.elementary
-    go false = tt
-
-truth-by : (v u : Value) → type_of u ≡ type_of v → IsTruth v → IsTruth u
-truth-by (Truth b) (Truth c) e h = tt
-truth-by (Truth b) u e h = absurd (cc)
-truth-by v u e h = absurd h
-
-in-by : (v u : Value) (r : Range) → IsByType r → type_of u ≡ type_of v → IsIn v r → IsIn u r
-in-by v u Any b e h = tt
-in-by v u Either b e h = truth-by v u e h
-in-by v u No b e h = absurd b
-in-by v u Yes b e h = absurd b
-in-by v u (Between low high) b e h = absurd b
-
-are-by : (values others : List Value) (ranges : List Range) → AreByType ranges
-    → map type_of others ≡ map type_of values → AreIn values ranges → AreIn others ranges
-are-by [] [] ranges b e h = h
-are-by [] (u ∷ others) ranges b e h = absurd (cc)
-are-by (v ∷ values) [] ranges b e h = absurd (cc)
-are-by (v ∷ values) (u ∷ others) [] b e h = absurd h
-are-by (v ∷ values) (u ∷ others) (r ∷ ranges) b e h =
-    let is : type_of u ≡ type_of v = cc in
-    let are : map type_of others ≡ map type_of values = cc in
-    (in-by v u r b.0 is h.0, are-by values others ranges b.1 are h.1)
-
--- ---- a scan
-
--- whatever is given, the slots at a scan's start are of the kept types
-inputs-kept : (points : List ImagePoint) (more : List Range) (inputs : List Value)
-    (slots : List Value) → AreIn slots (map range_of_point points ++ more)
-    → AreIn (with_inputs points inputs slots) (map range_of_point points ++ more)
-inputs-kept [] more inputs slots k = k
-inputs-kept (p ∷ points) more inputs [] k = absurd k
-inputs-kept (p ∷ points) more inputs (v ∷ slots) k = (
-  go p.writable k.0,
-  inputs-kept points more (cond p.writable inputs (drop 1 inputs)) slots k.1,
-)
-  where
-    go : (b : Bool) → IsIn v (cond b (range_of_type p.elementary) Any)
-        → IsIn (cond b v (first_input inputs v)) (cond b (range_of_type p.elementary) Any)
-    go true is = is
-    go false is = tt
-
--- Each scan keeps types and kinds, whatever the inputs.
-pub kept-along : (machine : Held) (inputs : List Value) (now : ℕ) (slots : List Value)
-    (timers : List TimerState) → IsKept machine → Leaves machine inputs now slots timers
-    → IsKept (with_memory slots timers machine)
-kept-along machine inputs now slots timers k l =
-    let keeps = run-keeps machine.image.code now l.most (scan_start machine inputs) 0 slots timers
-    l.steps l.halts in
-    let more = map range_of_variable machine.image.variables in record {
-      slots = are-by (scan_start machine inputs).slots slots (kept_ranges machine.image)
-          (kept-by machine.image.points more (variables-by machine.image.variables)) keeps.types
-          (inputs-kept machine.image.points more inputs machine.slots k.slots);
-      timers = keeps.kinds ∙ k.timers;
-    }
+pub delays-continue : DelaysContinue
+delays-continue machine inputs now slots timers l =
+    (leaves-keep machine inputs now slots timers l).begins
 
 -- What `scan` does is a run.
 pub leaves-by-scan : (old new : Held) (inputs outputs : List Value) (now steps : ℕ)
@@ -217,95 +136,78 @@ pub leaves-by-scan : (old new : Held) (inputs outputs : List Value) (now steps :
 leaves-by-scan old new inputs outputs now steps s =
     record { most = steps; steps = steps; halts = s.halts steps (omega arith) }
 
--- ---- before the first scan
-
-default-in : (t : ElementaryType) → IsIn (default_value t) (range_of_type t)
-default-in elementary.Bool = tt
-default-in elementary.Int = tt
-default-in elementary.Dint = tt
-default-in elementary.Lint = tt
-default-in elementary.Time = tt
-
-variable-in : (v : Value) → IsIn v (range_of_variable v)
-variable-in (Truth b) = tt
-variable-in (Short z) = tt
-variable-in (Long z) = tt
-variable-in (Wide z) = tt
-variable-in (Span n) = tt
-
-variables-in : (variables : List Value) → AreIn variables (map range_of_variable variables)
-variables-in [] = tt
-variables-in (v ∷ variables) = (variable-in v, variables-in variables)
-
-value-in : (t : ElementaryType) (v : Value) → type_of v ≡ t → IsIn v (range_of_type t)
-value-in t v e = subst (λ (u : ElementaryType). IsIn v (range_of_type u)) e (variable-in v)
-
-typed-variables : (variables slots : List Value) → AreTyped (map type_of variables) slots
-    → AreIn slots (map range_of_variable variables)
-typed-variables [] [] h = tt
-typed-variables [] (v ∷ slots) h = absurd h
-typed-variables (u ∷ variables) [] h = absurd h
-typed-variables (u ∷ variables) (v ∷ slots) h =
-    (value-in (type_of u) v h.0.0, typed-variables variables slots h.1)
-
-typed-slots : (points : List ImagePoint) (variables slots : List Value)
-    → AreTyped (map (λ p. p.elementary) points ++ map type_of variables) slots
-    → AreIn slots (map range_of_point points ++ map range_of_variable variables)
-typed-slots [] variables slots h = typed-variables variables slots h
-typed-slots (p ∷ points) variables [] h = absurd h
-typed-slots (p ∷ points) variables (v ∷ slots) h =
-    (go p.writable, typed-slots points variables slots h.1)
-  where
-    go : (b : Bool) → IsIn v (cond b (range_of_type p.elementary) Any)
-    go true = value-in p.elementary v h.0.0
-    go false = tt
-
--- All values of the slots' types are allowed.
-pub kept-typed : (machine : Held) → AreTyped (slot_types machine.image) machine.slots
-    → map kind_of machine.timers ≡ machine.image.timers → IsKept machine
-kept-typed machine h k = record {
-  slots = typed-slots machine.image.points machine.image.variables machine.slots h;
-  timers = k;
-}
-
-first-slots-in : (points : List ImagePoint) (variables : List Value)
-    → AreIn (first_slots points variables)
-    (map range_of_point points ++ map range_of_variable variables)
-first-slots-in [] variables = variables-in variables
-first-slots-in (p ∷ points) variables = (go p.writable, first-slots-in points variables)
-  where
-    go : (b : Bool)
-        → IsIn (default_value p.elementary) (cond b (range_of_type p.elementary) Any)
-    go true = default-in p.elementary
-    go false = tt
+-- It leads from a machine that is reached to another.
+pub reaches-by-scan : ReachesByScan
+reaches-by-scan old new inputs outputs now steps s r =
+    subst IsReached
+    (ap (λ (i : Image). with_memory new.slots new.timers (record new { image = i })) (sym s.image))
+    (Next old inputs now new.slots new.timers r
+    (leaves-by-scan old new inputs outputs now steps s))
 
 first-kinds : (kinds : List TimerKind) → map kind_of (map first_state kinds) ≡ kinds
 first-kinds [] = refl
 first-kinds (k ∷ kinds) = ap (λ (l : List TimerKind). k ∷ l) (first-kinds kinds)
 
--- A machine before its first scan keeps types and kinds.
-pub kept-at-first : (image : Image) → IsKept (held_first image)
-kept-at-first image =
-    record {
-      slots = first-slots-in image.points image.variables;
-      timers = first-kinds image.timers;
-    }
+kinds-stay : (machine : Held) → IsReached machine
+    → map kind_of machine.timers ≡ machine.image.timers
+kinds-stay machine (First image) = first-kinds image.timers
+kinds-stay machine (Next before inputs now slots timers r l) =
+    (leaves-keep before inputs now slots timers l).kinds ∙ kinds-stay before r
+
+inputs-size : (points : List ImagePoint) (inputs slots : List Value)
+    → length (with_inputs points inputs slots) ≡ length slots
+inputs-size [] inputs slots = refl
+inputs-size (p ∷ points) inputs [] = refl
+inputs-size (p ∷ points) inputs (v ∷ slots) =
+    ap suc (inputs-size points (cond p.writable inputs (drop 1 inputs)) slots)
+
+first-size : (points : List ImagePoint) (variables : List Value)
+    → length (first_slots points variables) ≡ length points + length variables
+first-size [] variables = refl
+first-size (p ∷ points) variables = ap suc (first-size points variables)
+
+-- the number of the slots of an image
+abbrev pub slot_count : Image → ℕ
+slot_count image = length image.points + length image.variables
+
+size-stays : (machine : Held) → IsReached machine → length machine.slots ≡ slot_count machine.image
+size-stays machine (First image) = first-size image.points image.variables
+size-stays machine (Next before inputs now slots timers r l) =
+    (leaves-keep before inputs now slots timers l).size
+    ∙ inputs-size before.image.points inputs before.slots ∙ size-stays before r
 
 -- ---- what foretells a scan
 
--- The result of the pass does.
-abbrev pub IsOfPass : Image → List (Option ℕ) → List Range → List KnownTimer → List Range → Type 0
-IsOfPass image limits given last result =
-    Predicts image.code (known_of_kinds image.timers limits) (start_ranges image given) last result
+any-in : (slots : List Value) (n : ℕ) → length slots ≡ n → AreIn slots (replicate n Any)
+any-in [] zero e = tt
+any-in [] (suc n) e = absurd (omega arith)
+any-in (v ∷ slots) zero e = absurd (omega arith)
+any-in (v ∷ slots) (suc n) e = (tt, any-in slots n (omega arith))
 
-pub pass-foretells : (image : Image) (limits : List (Option ℕ)) (given : List Range)
-    (last : List KnownTimer) (result : List Range) → IsOfPass image limits given last result
-    → ForetellsTimed image limits given (map (λ u. u.below) last) result
-pass-foretells image limits given last result p machine inputs now slots timers is k y h l =
-    let q : IsOfPass machine.image limits given last result =
-    subst (λ (i : Image). IsOfPass i limits given last result) (sym is) p in
+-- Nothing that is known holds of each machine that is reached.
+pub any-memory : (image : Image) → IsMemory image (replicate (slot_count image) Any)
+any-memory image machine is r =
+    any-in machine.slots (slot_count image) (size-stays machine r ∙ ap slot_count is)
+
+pub any-tells : (image : Image) (start : List Range) (limits : List (Option ℕ))
+    → Tells image start limits [] (replicate (slot_count image) Any)
+any-tells image start limits machine inputs now slots timers is r h y l =
+    (any-memory image (with_memory slots timers machine) is
+    (Next machine inputs now slots timers r l), tt)
+
+-- The result of the pass tells it.
+pub pass-tells : (image : Image) (start : List Range) (limits : List (Option ℕ))
+    (last : List KnownTimer) (result : List Range)
+    → Predicts image.code (known_of_kinds image.timers limits) start last result
+    → Tells image start limits (map (λ u. u.below) last) result
+pass-tells image start limits last result p machine inputs now slots timers is r h y l =
+    let q : Predicts machine.image.code (known_of_kinds machine.image.timers limits) start last
+    result =
+    subst
+    (λ (i : Image). Predicts i.code (known_of_kinds i.timers limits) start last result) (sym is)
+    p in
     let end =
-    q (scan_start machine inputs).slots slots (start-in machine inputs given k h)
+    q (scan_start machine inputs).slots slots h
     (record {
       timers = machine.timers;
       now = now;
@@ -314,43 +216,58 @@ pass-foretells image limits given last result p machine inputs now slots timers 
       steps = l.steps;
       halts = l.halts;
     })
-    (timers-start now machine.timers machine.image.timers limits k.timers y) in
+    (timers-start now machine.timers machine.image.timers limits (kinds-stay machine r) y) in
     (end.0, limits-young now timers last end.1)
 
--- Without limits that is what a scan leaves.
-pub untimed-foretells : (image : Image) (given : List Range) (last : List (Option ℕ))
-    (result : List Range) → ForetellsTimed image [] given last result
-    → Foretells image given result
-untimed-foretells image given last result f machine inputs now slots timers is k h l =
-    (f machine inputs now slots timers is k tt h l).0
+-- From given inputs.
+pub tells-given : (image : Image) (memory : List Range) (limits : List (Option ℕ))
+    (given : List Range) (last : List (Option ℕ)) (result : List Range)
+    → Tells image (with_inputs image.points given memory) limits last result
+    → Foretells image memory limits given last result
+tells-given image memory limits given last result t machine inputs now slots timers is r k y h l =
+    t machine inputs now slots timers is r
+    (subst (λ (i : Image). AreIn (with_inputs machine.image.points inputs machine.slots)
+    (with_inputs i.points given memory)) is
+    (points-in machine.image.points inputs given machine.slots memory h k)) y l
 
--- What is known with nothing given does.
-pub types-foretell : (image : Image) (limits : List (Option ℕ)) (given result : List Range)
-    → result ≡ start_ranges image [] → ForetellsTimed image limits given [] result
-types-foretell image limits given result e machine inputs now slots timers is k y h l = (
-  subst (AreIn slots) (sym (e ∙ start-kept image))
-      (subst (λ (i : Image). AreIn slots (kept_ranges i)) is
-      (kept-along machine inputs now slots timers k l).slots),
-  tt,
-)
+-- From any inputs.
+pub tells-any : (image : Image) (memory : List Range) (last : List (Option ℕ))
+    (result : List Range)
+    → Tells image (with_inputs image.points (replicate (length image.points) Any) memory) [] last
+    result
+    → Carries image memory result
+tells-any image memory last result t machine inputs now slots timers is r k l =
+    (t machine inputs now slots timers is r
+    (subst (λ (i : Image). AreIn (with_inputs machine.image.points inputs machine.slots)
+    (with_inputs i.points (replicate (length i.points) Any) memory)) is
+    (free-in machine.image.points inputs (length machine.image.points) machine.slots memory
+    (omega arith) k)) tt l).0
 
--- ---- sizes
+-- ---- what foretells a memory
 
-points-size : (points : List ImagePoint) (given : List Range)
-    → length (start_of_points points given) ≡ length points
-points-size [] given = refl
-points-size (p ∷ points) given =
-    let less = points-size points (given_behind p given) in omega arith
+-- The first values are in their ranges.
+pub firsts-in : (points : List ImagePoint) (variables : List Value)
+    → AreIn (first_slots points variables) (map range_of_point points ++ map exactly variables)
+firsts-in (p ∷ points) variables =
+    (in-exactly (default_value p.elementary), firsts-in points variables)
+firsts-in [] [] = tt
+firsts-in [] (v ∷ variables) = (in-exactly v, firsts-in [] variables)
 
-pub start-size : (image : Image) (given : List Range)
-    → length (start_ranges image given) ≡ length image.points + length image.variables
-start-size image given =
-    length-append (start_of_points image.points given) (map range_of_variable image.variables)
-    ∙ omega (arith, points-size image.points given, length-map image.variables range_of_variable)
+-- What ranges stand for, they stand for where they are widened.
+pub grows : (is_late : Bool) (slots : List Value) (ranges left : List Range) → AreIn slots ranges
+    → AreIn slots (joined (widened is_late) ranges left)
+grows is_late slots ranges left h =
+    each-left IsIn (widened is_late) (in-widened is_late) slots ranges left h
 
--- ---- delays
-
-pub delays-continue : DelaysContinue
-delays-continue machine inputs now slots timers l =
-    (run-keeps machine.image.code now l.most (scan_start machine inputs) 0 slots timers l.steps
-    l.halts).begins
+-- Ranges of the first values, within which a scan stays, are those of the memory.
+pub settled : (image : Image) (ranges left : List Range) → AreIn (held_first image).slots ranges
+    → Carries image ranges left → are_within left ranges ≡ true → IsMemory image ranges
+settled image ranges left first carries inside machine is r = go machine r is
+  where
+    go : (machine : Held) → IsReached machine → machine.image ≡ image
+        → AreIn machine.slots ranges
+    go machine (First i) is =
+        subst (λ (j : Image). AreIn (held_first j).slots ranges) (sym is) first
+    go machine (Next before inputs now slots timers r l) is =
+        are-within slots left ranges inside
+        (carries before inputs now slots timers is r (go before r is) l)

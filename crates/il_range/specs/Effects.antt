@@ -58,6 +58,28 @@ join (Between a b) Either = Any
 join (Between a b) Any = Any
 join Any b = Any
 
+-- each value of the first is one of the second
+abbrev pub is_within : Range → Range → Bool
+is_within a Any = true
+is_within No No = true
+is_within Yes Yes = true
+is_within No Either = true
+is_within Yes Either = true
+is_within Either Either = true
+is_within (Between a b) (Between c d) = int_le c a && int_le b d
+is_within a b = false
+
+-- the same of lists, place by place
+abbrev pub are_within : List Range → List Range → Bool
+are_within [] [] = true
+are_within [] (b ∷ others) = false
+are_within (a ∷ ranges) [] = false
+are_within (a ∷ ranges) (b ∷ others) = is_within a b && are_within ranges others
+
+-- what stands for each value of both: the first where it does, and what grows late is unknown
+abbrev pub widened : Bool → Range → Range → Range
+widened is_late a b = if is_within b a then a else (if is_late then Any else join a b)
+
 -- the join of two lists, place by place
 abbrev pub joined : {A : Type 0} → (A → A → A) → List A → List A → List A
 joined join [] others = []

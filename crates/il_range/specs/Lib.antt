@@ -1,8 +1,7 @@
 -- What a scan may leave in the slots of a machine.
 --
--- `Ranges` says which values a range stands for. `Foretold` is the main file: what a machine keeps
--- from scan to scan, what a scan leaves, and which ranges foretell it. `Laws`: slots keep their
--- types and timers their kinds.
+-- `Ranges` says which values a range stands for. `Foretold` is the main file: which machines scans
+-- reach, what a scan leaves, and which ranges foretell it. `Laws`: what holds of each scan.
 
 pub mod Foretold
 pub mod Laws

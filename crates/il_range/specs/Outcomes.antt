@@ -1,11 +1,14 @@
--- Inner: what the slots may hold at the end of a run.
-use Rattle.std.specs.Prelude.{ℕ, ◌≡◌, List}
+-- Inner: what the slots may hold at the end of a run, and of a scan.
+use Rattle.std.specs.Prelude.{ℕ, ◌≡◌, List, Option}
 use Rattle.il_image.specs.declared.timer.TimerState.{TimerState}
 use Rattle.il_image.specs.declared.value.Value.{Value}
+use Rattle.il_image.specs.Images.{Image}
 use Rattle.il_image.specs.Machine.{Halted, initial_state, run_from}
+use Rattle.il_scan.specs.Scans.{Held, scan_start}
 use Rattle.il_range.specs.declared.timer.KnownTimer.{KnownTimer}
 use Rattle.il_range.specs.declared.range.Range.{Range}
-use Rattle.il_range.specs.Ranges.{AreIn, AreTimersIn}
+use Rattle.il_range.specs.Foretold.{IsReached, Leaves}
+use Rattle.il_range.specs.Ranges.{AreIn, AreTimersIn, AreYoung}
 
 -- A run from these slots, with some timers and at some moment, ends with those.
 pub record Ends (code : List ℕ) (given after : List Value) : Type 0 where
@@ -24,3 +27,20 @@ Predicts code timers slots timers_after result =
     (given after : List Value) → AreIn given slots → (e : Ends code given after)
     → AreTimersIn e.now e.timers timers
     → AreIn after result × AreTimersIn e.now e.timers_after timers_after
+
+-- Whatever a machine with the image that is reached starts a scan from in the ranges, with delays
+-- that have run for less than the limits: it leaves slots in `result`, and delays that have run for
+-- less than the last ones.
+abbrev pub Tells : Image → List Range → List (Option ℕ) → List (Option ℕ) → List Range → Type 0
+Tells image start limits last result =
+    (machine : Held) (inputs : List Value) (now : ℕ) (slots : List Value)
+    (timers : List TimerState) → machine.image ≡ image → IsReached machine
+    → AreIn (scan_start machine inputs).slots start → AreYoung now machine.timers limits
+    → Leaves machine inputs now slots timers → AreIn slots result × AreYoung now timers last
+
+-- From slots in `memory` a scan leaves slots in `result`, whatever its inputs are.
+abbrev pub Carries : Image → List Range → List Range → Type 0
+Carries image memory result =
+    (machine : Held) (inputs : List Value) (now : ℕ) (slots : List Value)
+    (timers : List TimerState) → machine.image ≡ image → IsReached machine
+    → AreIn machine.slots memory → Leaves machine inputs now slots timers → AreIn slots result

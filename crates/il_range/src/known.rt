@@ -315,6 +315,7 @@ fn merged(one: Known, other: Known) -> Result<Known, Stop>
     } = one;
     traces.join_cells(&other.traces, cells.as_slice(), other.cells.as_slice());
     traces.join_slots(&other.traces, slots.as_slice(), other.slots.as_slice());
+    traces.join_timers(&other.traces, timers.as_slice(), other.timers.as_slice());
     join_all(&mut cells, other.cells.as_slice());
     join_all(&mut slots, other.slots.as_slice());
     join_timers(&mut timers, other.timers.as_slice());

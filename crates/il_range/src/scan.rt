@@ -1,13 +1,14 @@
 // What a scan of a verified image may leave in the slots.
 ghost use Rattle.std.specs.Prelude.{◌≡◌, ◌+◌, IfOk, List, Option, [], length, map, ℕ};
-ghost use Rattle.il_range.specs.Foretold.{Foretells, ForetellsTimed};
+ghost use Rattle.il_range.specs.Foretold.{Foretells};
+ghost use Rattle.il_range.specs.Outcomes.{Tells};
 ghost use Rattle.il_range.specs.Starts as spec;
 
 use crate::known::Known;
 use crate::pass::outcome;
 use crate::range::Range;
 use crate::sources::Sources;
-use crate::start::{start_ranges, timers_of};
+use crate::start::{free_ranges, start_ranges, timers_of};
 use crate::stop::Stop;
 use crate::timer::KnownTimer;
 use crate::traces::Traces;
@@ -32,15 +33,13 @@ fn first_known(
     alloc: Global,
     image: &Image,
     limits: &[Option<u32>],
-    given: &[Range],
+    slots: Vec<Range>,
 ) -> Result<Known, AllocError>
     ensures cells { IfOk result (λ first. first.cells.items ≡ []) }
-    ensures slots { IfOk result
-        (λ first. first.slots.items ≡ spec.start_ranges image.now given.now) }
+    ensures slots { IfOk result (λ first. first.slots ≡ slots) }
     ensures timers { IfOk result
         (λ first. first.timers.items ≡ spec.known_of_kinds image.now.timers limits.now) }
 {
-    let slots = start_ranges(alloc, image, given)?;
     let timers = timers_of(alloc, image.timers(), limits)?;
     let traces = Traces::new(alloc, slots.as_slice(), timers.len())?;
     Ok(Known {
@@ -51,15 +50,14 @@ fn first_known(
     })
 }
 
-// What a scan may leave, as far as the types tell.
-fn by_types(alloc: Global, image: &Image) -> Result<Forecast, AllocError>
+// Nothing is known of what a scan leaves.
+fn unknown(alloc: Global, image: &Image) -> Result<Forecast, AllocError>
     ensures size { IfOk result
         (λ f. length f.ranges.items ≡ length image.now.points + length image.now.variables) }
-    ensures foretells { (limits : List (Option ℕ)) (given : List Range)
-        → IfOk result
-        (λ f. ForetellsTimed image.now limits given f.limits.items f.ranges.items) }
+    ensures tells { (start : List Range) (limits : List (Option ℕ))
+        → IfOk result (λ f. Tells image.now start limits f.limits.items f.ranges.items) }
 {
-    let ranges = start_ranges(alloc, image, &[])?;
+    let ranges = free_ranges(alloc, image.points().len() + image.variables().len())?;
     Ok(Forecast {
         ranges,
         limits: Vec::new(alloc),
@@ -97,60 +95,51 @@ fn forecast_at(alloc: Global, end: Known) -> Result<Forecast, AllocError>
     })
 }
 
-// What a scan may leave: by the pass, or where that does not tell by the types.
-fn forecast_of(
+/// What a scan may leave that starts in these ranges: by the pass, or where that does not tell
+/// nothing.
+pub(crate) fn forecast_of(
     alloc: Global,
     image: &Image,
     limits: &[Option<u32>],
-    given: &[Range],
+    start: Vec<Range>,
 ) -> Result<Forecast, AllocError>
     ensures size { IfOk result
         (λ f. length f.ranges.items ≡ length image.now.points + length image.now.variables) }
-    ensures foretells { IfOk result (λ f. ForetellsTimed image.now limits.now given.now
-        f.limits.items f.ranges.items) }
+    ensures tells { IfOk result
+        (λ f. Tells image.now start.items limits.now f.limits.items f.ranges.items) }
 {
-    let first = first_known(alloc, image, limits, given)?;
+    let first = first_known(alloc, image, limits, start)?;
     match outcome(alloc, image.code(), first) {
         Ok(end) if end.slots.len() == image.points().len() + image.variables().len() => {
             forecast_at(alloc, end)
         }
         Err(Stop::OutOfMemory) => Err(AllocError),
-        _ => by_types(alloc, image),
+        _ => unknown(alloc, image),
     }
 }
 
-/// Returns what a scan of the image may leave in the slots, if its inputs are in these ranges: one
-/// for each read-only point, in the image's order. It holds at each moment, whatever values of
-/// their types the variables and the writable points have before, and in whatever phase the timers
-/// are. A range is as wide as the method needs, not always the least: `Any` or `Either` says that
-/// the value is not known. Fails only for want of memory. The time is proportional to the length of
-/// the code, and for each jump to the number of slots.
+/// Returns what a scan of a program may leave, in each state that its scans can reach where the
+/// slots are in `memory`, at each moment: one range for each slot, the points, then the variables,
+/// as `memory_ranges` gives them. The inputs are in the ranges `given`: one for each read-only
+/// point, in the image's order. The delays of the first timers may have limits: less than so many
+/// milliseconds have passed since each began, at the moment of the scan. A limit says nothing of a
+/// TOF whose IN is TRUE: it has no delay yet, so such a start is none that the result speaks of. A
+/// range is as wide as the method needs, not always the least: `Any` or `Either` says that the
+/// value is not known. Fails only for want of memory. The time is proportional to the length of the
+/// code, and for each jump to the number of slots.
 pub fn scan_ranges(
     alloc: Global,
     verified: &Verified,
-    given: &[Range],
-) -> Result<Forecast, AllocError>
-    ensures size { IfOk result
-        (λ f. length f.ranges.items ≡ length verified.now.points + length verified.now.variables) }
-    ensures foretells { IfOk result (λ f. Foretells verified.now given.now f.ranges.items) }
-{
-    forecast_of(alloc, verified.image(), &[], given)
-}
-
-/// Like `scan_ranges`, where the delays of the first timers may have limits: less than so many
-/// milliseconds have passed since each began, at the moment of the scan. It tells too what is known
-/// of the delays behind the scan. A limit says nothing of a TOF whose IN is TRUE: it has no delay
-/// yet, so such a start is none that the result speaks of.
-pub fn scan_timed(
-    alloc: Global,
-    verified: &Verified,
+    memory: &[Range],
     limits: &[Option<u32>],
     given: &[Range],
 ) -> Result<Forecast, AllocError>
     ensures size { IfOk result
         (λ f. length f.ranges.items ≡ length verified.now.points + length verified.now.variables) }
-    ensures foretells { IfOk result (λ f. ForetellsTimed verified.now limits.now given.now
+    ensures foretells { IfOk result (λ f. Foretells verified.now memory.now limits.now given.now
         f.limits.items f.ranges.items) }
 {
-    forecast_of(alloc, verified.image(), limits, given)
+    let image = verified.image();
+    let start = start_ranges(alloc, image.points(), given, memory)?;
+    forecast_of(alloc, image, limits, start)
 }

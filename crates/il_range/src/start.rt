@@ -1,44 +1,39 @@
 // What is known at the start of a scan.
-ghost use Rattle.std.specs.Prelude.{◌≡◌, ◌++◌, IfOk, OnOk, drop, map};
-ghost use Rattle.il_range.specs.Foretold.{range_of_variable};
-ghost use Rattle.il_range.specs.Foretold as foretold;
-ghost use Rattle.il_range.specs.Starts.{start_of_points};
+ghost use Rattle.std.specs.Prelude.{◌≡◌, IfOk, drop, replicate, if◌then◌else◌};
+ghost use Rattle.il_scan.specs.Scans.{first_input, with_inputs};
+ghost use Rattle.il_range.specs.declared.range.Range.TheVariants.{Any};
 ghost use Rattle.il_range.specs.Starts as spec;
 
 use crate::range::Range;
 use crate::timer::KnownTimer;
-use bay_base::types::{ElementaryType, TimerKind};
-use il_image::image::{Image, ImagePoint};
-use il_image::value::Value;
+use bay_base::types::TimerKind;
+use il_image::image::ImagePoint;
 use std::alloc::{AllocError, Global};
 
-// All that is known of a value by its type.
-fn range_of_type(elementary: ElementaryType) -> Range
-    ensures { result ≡ foretold.range_of_type elementary }
+/// Returns so many ranges of which nothing is known.
+pub(crate) fn free_ranges(alloc: Global, count: usize) -> Result<Vec<Range>, AllocError>
+    ensures { IfOk result (λ ranges. ranges.items ≡ replicate count Any) }
 {
-    match elementary {
-        ElementaryType::Bool => Range::Either,
-        _ => Range::Any,
+    let mut ranges = Vec::new(alloc);
+    for _ in 0..count {
+        ranges.push(Range::Any)?;
     }
+    Ok(ranges)
 }
 
-// What is known of a point's slot.
-fn range_at(point: &ImagePoint, given: &[Range]) -> Range
-    ensures { result ≡ spec.range_at point.now given.now }
+// What is known of a point's slot: what is given, where the point may only be read.
+fn range_at(point: &ImagePoint, given: &[Range], known: Range) -> Range
+    ensures { result ≡ if point.now.writable then known else first_input given.now known }
 {
-    if point.writable {
-        range_of_type(point.elementary)
-    } else {
-        match given {
-            [first, ..] => *first,
-            [] => Range::Any,
-        }
+    match given {
+        [first, ..] if !point.writable => *first,
+        _ => known,
     }
 }
 
 // What is given behind a point.
 fn behind<'a>(point: &ImagePoint, given: &'a [Range]) -> &'a [Range]
-    ensures { result.now ≡ spec.given_behind point.now given.now }
+    ensures { result.now ≡ if point.now.writable then given.now else drop 1 given.now }
 {
     match given {
         [_, later @ ..] if !point.writable => later,
@@ -46,47 +41,31 @@ fn behind<'a>(point: &ImagePoint, given: &'a [Range]) -> &'a [Range]
     }
 }
 
-// Appends what is known of the points' slots.
-fn push_points(
-    ranges: &mut Vec<Range>,
-    points: &[ImagePoint],
-    given: &[Range],
-) -> Result<(), AllocError>
-    ensures { OnOk result
-        (ranges.new.items ≡ ranges.old.items ++ start_of_points points.now given.now) }
-{
-    let mut rest = points;
-    let mut left = given;
-    while let [point, others @ ..] = rest {
-        ranges.push(range_at(point, left))?;
-        left = behind(point, left);
-        rest = others;
-    }
-    Ok(())
-}
-
-// Appends what is known of the variables' slots.
-fn push_variables(ranges: &mut Vec<Range>, variables: &[Value]) -> Result<(), AllocError>
-    ensures { OnOk result
-        (ranges.new.items ≡ ranges.old.items ++ map range_of_variable variables.now) }
-{
-    for variable in variables {
-        ranges.push(range_of_type(variable.type_of()))?;
-    }
-    Ok(())
-}
-
-/// Returns what is known of the slots at the start of a scan with inputs in these ranges.
+/// Returns what is known of the slots at the start of a scan, where this is known of the memory and
+/// of the inputs.
 pub(crate) fn start_ranges(
     alloc: Global,
-    image: &Image,
+    points: &[ImagePoint],
     given: &[Range],
+    memory: &[Range],
 ) -> Result<Vec<Range>, AllocError>
-    ensures { IfOk result (λ ranges. ranges.items ≡ spec.start_ranges image.now given.now) }
+    ensures { IfOk result
+        (λ ranges. ranges.items ≡ with_inputs points.now given.now memory.now) }
 {
     let mut ranges = Vec::new(alloc);
-    push_points(&mut ranges, image.points(), given)?;
-    push_variables(&mut ranges, image.variables())?;
+    let mut rest = points;
+    let mut left = given;
+    let mut known = memory;
+    while let [point, others @ ..] = rest {
+        let [range, later @ ..] = known else {
+            return Ok(ranges);
+        };
+        ranges.push(range_at(point, left, *range))?;
+        left = behind(point, left);
+        rest = others;
+        known = later;
+    }
+    ranges.extend_from_slice(known)?;
     Ok(ranges)
 }
 

@@ -2,6 +2,7 @@
 // the pass does, and no clause speaks of it.
 use crate::range::Range;
 use crate::sources::SourceSet;
+use crate::timer::KnownTimer;
 use il_image::instr::Instr;
 use il_image::opcode::{SlotUse, TimerUse};
 use std::alloc::{AllocError, Global};
@@ -41,30 +42,21 @@ fn is_known(range: Range) -> bool {
     }
 }
 
-// Joins the sets of two ways, where these are the ranges on the one and on the other. A value that
-// differs hangs on the way too.
-fn join_sets(
+// Joins the sets of two ways, where this is known on the one and on the other. What differs hangs
+// on the way too.
+fn join_sets<T: PartialEq>(
     sets: &mut Vec<SourceSet>,
     others: &[SourceSet],
-    ranges: &[Range],
-    other_ranges: &[Range],
+    known: &[T],
+    other_known: &[T],
     way: SourceSet,
 ) {
     for n in 0..sets.len() {
-        if n < others.len() && n < ranges.len() && n < other_ranges.len() {
-            let is_same = sets[n] == others[n] && ranges[n] == other_ranges[n];
+        if n < others.len() && n < known.len() && n < other_known.len() {
+            let is_same = sets[n] == others[n] && known[n] == other_known[n];
             if !is_same {
                 sets[n] = sets[n].or(others[n]).or(way);
             }
-        }
-    }
-}
-
-// Joins the sets of timers of two ways.
-fn join_timers(sets: &mut Vec<SourceSet>, others: &[SourceSet], way: SourceSet) {
-    for n in 0..sets.len() {
-        if n < others.len() && sets[n] != others[n] {
-            sets[n] = sets[n].or(others[n]).or(way);
         }
     }
 }
@@ -197,28 +189,26 @@ impl Traces {
     pub(crate) fn join_cells(&mut self, other: &Traces, ranges: &[Range], other_ranges: &[Range]) {
         self.way = self.way.or(other.way);
         let way = self.way;
-        join_sets(
-            &mut self.cells,
-            other.cells.as_slice(),
-            ranges,
-            other_ranges,
-            way,
-        );
+        join_sets(&mut self.cells, other.cells.as_slice(), ranges, other_ranges, way);
     }
 
-    /// Joins what the slots and the timers hang on with another way's, whose slots are in the other
-    /// ranges.
+    /// Joins what the slots hang on with another way's, whose slots are in the other ranges.
     pub(crate) fn join_slots(&mut self, other: &Traces, ranges: &[Range], other_ranges: &[Range]) {
         self.way = self.way.or(other.way);
         let way = self.way;
-        join_sets(
-            &mut self.slots,
-            other.slots.as_slice(),
-            ranges,
-            other_ranges,
-            way,
-        );
-        join_timers(&mut self.timers, other.timers.as_slice(), way);
+        join_sets(&mut self.slots, other.slots.as_slice(), ranges, other_ranges, way);
+    }
+
+    /// Joins what the timers hang on with another way's, of whose timers this is known.
+    pub(crate) fn join_timers(
+        &mut self,
+        other: &Traces,
+        known: &[KnownTimer],
+        other_known: &[KnownTimer],
+    ) {
+        self.way = self.way.or(other.way);
+        let way = self.way;
+        join_sets(&mut self.timers, other.timers.as_slice(), known, other_known, way);
     }
 
     /// Returns a copy.

@@ -2,10 +2,9 @@ use Rattle.std.proofs.Common.{◌≡◌, ◌+◌, List, ℕ, Option, length, map
 use Rattle.std.proofs.lemmas.Result.{IfOk-weaker}
 use Rattle.il_range.specs.declared.timer.KnownTimer.{KnownTimer}
 use Rattle.il_range.specs.declared.range.Range.{Range}
-use Rattle.il_range.specs.Foretold.{ForetellsTimed}
-use Rattle.il_range.specs.Outcomes.{Predicts}
-use Rattle.il_range.specs.Starts.{known_of_kinds, start_ranges}
-use Rattle.il_range.proofs.StartLemmas.{pass-foretells}
+use Rattle.il_range.specs.Outcomes.{Predicts, Tells}
+use Rattle.il_range.specs.Starts.{known_of_kinds}
+use Rattle.il_range.proofs.StartLemmas.{pass-tells}
 use Rattle.il_range.proofs.scan.forecast_of.Goals as goal
 
 pub returns-in-Ok-clause-size : goal.returns-in-Ok-clause-size
@@ -15,30 +14,30 @@ returns-in-Ok-clause-size c =
     IfOk-weaker c.forecast_at.result _ _ (λ f is. ap (λ v. length v.items) is.0 ∙ size)
     c.forecast_at.ensures
 
-pub returns-in-Ok-clause-foretells : goal.returns-in-Ok-clause-foretells
-returns-in-Ok-clause-foretells c =
+pub returns-in-Ok-clause-tells : goal.returns-in-Ok-clause-tells
+returns-in-Ok-clause-tells c =
     let image = c.args.image.now in
     let limits = c.args.limits.now in
-    let given = c.args.given.now in
+    let start = c.args.start.items in
     let end = c.in-Ok.end in
     let first = c.in_ok-first.first in
     let known = map (λ (u : KnownTimer). u.below) end.timers.items in
-    let foretells : ForetellsTimed image limits given known end.slots.items =
-    pass-foretells image limits given end.timers.items end.slots.items
+    let tells : Tells image start limits known end.slots.items =
+    pass-tells image start limits end.timers.items end.slots.items
     (subst
     (λ (code : List ℕ). Predicts code (known_of_kinds image.timers limits)
-    (start_ranges image given) end.timers.items end.slots.items) c.code.ensures.value
+    start end.timers.items end.slots.items) c.code.ensures.value
     (subst (λ (timers : List KnownTimer). Predicts c.code.result.now timers
-    (start_ranges image given) end.timers.items end.slots.items) c.in_ok-first.ensures.timers
+    start end.timers.items end.slots.items) c.in_ok-first.ensures.timers
     (subst (λ (slots : List Range). Predicts c.code.result.now first.timers.items slots
-    end.timers.items end.slots.items) c.in_ok-first.ensures.slots c.in-Ok.ensures))) in
+    end.timers.items end.slots.items) (ap (λ v. v.items) c.in_ok-first.ensures.slots)
+    c.in-Ok.ensures))) in
     IfOk-weaker c.forecast_at.result _ _
     (λ f is.
-    subst (λ (last : List (Option ℕ)). ForetellsTimed image limits given last f.ranges.items)
+    subst (λ (last : List (Option ℕ)). Tells image start limits last f.ranges.items)
     (sym is.1)
-    (subst (λ (rs : List Range). ForetellsTimed image limits given known rs)
-    (sym (ap (λ v. v.items) is.0)) foretells)) c.forecast_at.ensures
+    (subst (λ (rs : List Range). Tells image start limits known rs)
+    (sym (ap (λ v. v.items) is.0)) tells)) c.forecast_at.ensures
 
-pub returns-in_default-clause-foretells : goal.returns-in_default-clause-foretells
-returns-in_default-clause-foretells c =
-    c.by_types.ensures.foretells c.args.limits.now c.args.given.now
+pub returns-in_default-clause-tells : goal.returns-in_default-clause-tells
+returns-in_default-clause-tells c = c.unknown.ensures.tells c.args.start.items c.args.limits.now
