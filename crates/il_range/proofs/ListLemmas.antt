@@ -59,6 +59,13 @@ joined-reverse {A = A} join (x ∷ xs) (y ∷ ys) e =
     ∙ sym (ap (λ (l : List A). joined join l (reverse (y ∷ ys))) (reverse-cons x xs)
     ∙ ap (λ (l : List A). joined join (reverse xs ++ x ∷ []) l) (reverse-cons y ys))
 
+pub each-size : {A B : Type 0} (Fits : A → B → Type 0) (xs : List A) (ys : List B)
+    → AreEach Fits xs ys → length xs ≡ length ys
+each-size Fits [] [] h = refl
+each-size Fits [] (y ∷ ys) h = absurd h
+each-size Fits (x ∷ xs) [] h = absurd h
+each-size Fits (x ∷ xs) (y ∷ ys) h = ap suc (each-size Fits xs ys h.1)
+
 -- ---- one place
 
 pub each-get : {A B : Type 0} (Fits : A → B → Type 0) (xs : List A) (ys : List B) (n : ℕ) (x : A)

@@ -85,7 +85,8 @@ in-within v No Either e h = false-truth v h
 in-within v Yes Either e h = true-truth v h
 in-within v Either Either e h = h
 in-within v (Between a b) (Between c d) e h =
-    let parts = and_parts e in grind (arith, ints, parts.0, parts.1, h.0, h.1)
+    let parts = and_parts (int_le c a) (int_le b d) e in
+    grind (arith, ints, parts.0, parts.1, h.0, h.1)
 in-within v r s e h = absurd (cc)
 
 pub are-within : (values : List Value) (ranges others : List Range)
@@ -96,7 +97,7 @@ are-within values (r ∷ ranges) [] e h = absurd (cc)
 are-within [] (r ∷ ranges) (s ∷ others) e h = absurd h
 are-within (v ∷ values) [] others e h = absurd h
 are-within (v ∷ values) (r ∷ ranges) (s ∷ others) e h =
-    let parts = and_parts e in
+    let parts = and_parts (is_within r s) (are_within ranges others) e in
     (in-within v r s parts.0 h.0, are-within values ranges others parts.1 h.1)
 
 pub in-widened : (is_late : Bool) (v : Value) (r s : Range) → IsIn v r

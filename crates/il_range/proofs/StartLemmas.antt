@@ -18,7 +18,7 @@ use Rattle.il_range.specs.Outcomes.{Carries, Predicts, Tells}
 use Rattle.il_range.specs.Ranges.{AreIn, AreTimersIn, AreYoung, IsIn, IsYoung, kind_of}
 use Rattle.il_range.specs.Starts.{first_limit, known_of_kinds, range_of_point}
 use Rattle.il_range.proofs.KeepLemmas.{Keeps, run-keeps}
-use Rattle.il_range.proofs.ListLemmas.{each-left}
+use Rattle.il_range.proofs.ListLemmas.{each-left, each-size}
 use Rattle.il_range.proofs.RangeLemmas.{are-within, in-exactly, in-widened}
 
 -- ---- the start of a scan
@@ -68,17 +68,20 @@ free-in (p ∷ points) inputs (suc n) [] [] few k = tt
 free-in (p ∷ points) inputs (suc n) [] (r ∷ memory) few k = absurd k
 free-in (p ∷ points) inputs (suc n) (v ∷ slots) [] few k = absurd k
 free-in (p ∷ points) inputs (suc n) (v ∷ slots) (r ∷ memory) few k =
-    (now p.writable, later p.writable)
+    go p.writable (free-in points inputs (suc n) slots memory (omega arith) k.1)
+    (free-in points (drop 1 inputs) n slots memory (omega arith) k.1)
   where
-    now : (b : Bool)
-        → IsIn (cond b v (first_input inputs v)) (cond b r (first_input (replicate (suc n) Any) r))
-    now true = k.0
-    now false = tt
-
-    later : (b : Bool) → AreIn (with_inputs points (cond b inputs (drop 1 inputs)) slots)
-        (with_inputs points (cond b (replicate (suc n) Any) (drop 1 (replicate (suc n) Any))) memory)
-    later true = free-in points inputs (suc n) slots memory (omega arith) k.1
-    later false = free-in points (drop 1 inputs) n slots memory (omega arith) k.1
+    go : (b : Bool)
+        → AreIn (with_inputs points inputs slots)
+        (with_inputs points (replicate (suc n) Any) memory)
+        → AreIn (with_inputs points (drop 1 inputs) slots)
+        (with_inputs points (replicate n Any) memory)
+        → AreIn
+        (cond b v (first_input inputs v) ∷ with_inputs points (cond b inputs (drop 1 inputs)) slots)
+        (cond b r (first_input (replicate (suc n) Any) r)
+        ∷ with_inputs points (cond b (replicate (suc n) Any) (drop 1 (replicate (suc n) Any))) memory)
+    go true written read = (k.0, written)
+    go false written read = (tt, read)
 
 first-young : (now : ℕ) (t : TimerState) (timers : List TimerState) (limits : List (Option ℕ))
     → AreYoung now (t ∷ timers) limits → IsYoung now t.phase (first_limit limits)
@@ -163,8 +166,8 @@ inputs-size (p ∷ points) inputs (v ∷ slots) =
 
 first-size : (points : List ImagePoint) (variables : List Value)
     → length (first_slots points variables) ≡ length points + length variables
-first-size [] variables = refl
-first-size (p ∷ points) variables = ap suc (first-size points variables)
+first-size [] variables = omega arith
+first-size (p ∷ points) variables = let less = first-size points variables in omega arith
 
 -- the number of the slots of an image
 abbrev pub slot_count : Image → ℕ
@@ -189,11 +192,15 @@ pub any-memory : (image : Image) → IsMemory image (replicate (slot_count image
 any-memory image machine is r =
     any-in machine.slots (slot_count image) (size-stays machine r ∙ ap slot_count is)
 
-pub any-tells : (image : Image) (start : List Range) (limits : List (Option ℕ))
-    → Tells image start limits [] (replicate (slot_count image) Any)
-any-tells image start limits machine inputs now slots timers is r h y l =
-    (any-memory image (with_memory slots timers machine) is
-    (Next machine inputs now slots timers r l), tt)
+pub any-tells : (image : Image) (start : List Range) (limits last : List (Option ℕ))
+    (result : List Range) → last ≡ [] → result ≡ replicate (slot_count image) Any
+    → Tells image start limits last result
+any-tells image start limits last result none all machine inputs now slots timers is r h y l = (
+  subst (AreIn slots) (sym all)
+      (any-memory image (with_memory slots timers machine) is
+      (Next machine inputs now slots timers r l)),
+  subst (AreYoung now timers) (sym none) tt,
+)
 
 -- The result of the pass tells it.
 pub pass-tells : (image : Image) (start : List Range) (limits : List (Option ℕ))
@@ -220,28 +227,24 @@ pass-tells image start limits last result p machine inputs now slots timers is r
     (end.0, limits-young now timers last end.1)
 
 -- From given inputs.
-pub tells-given : (image : Image) (memory : List Range) (limits : List (Option ℕ))
+pub tells-given : (image : Image) (start memory : List Range) (limits : List (Option ℕ))
     (given : List Range) (last : List (Option ℕ)) (result : List Range)
-    → Tells image (with_inputs image.points given memory) limits last result
+    → start ≡ with_inputs image.points given memory → Tells image start limits last result
     → Foretells image memory limits given last result
-tells-given image memory limits given last result t machine inputs now slots timers is r k y h l =
+tells-given image start memory limits given last result at t machine inputs now slots timers is r k y
+    h l =
     t machine inputs now slots timers is r
-    (subst (λ (i : Image). AreIn (with_inputs machine.image.points inputs machine.slots)
-    (with_inputs i.points given memory)) is
-    (points-in machine.image.points inputs given machine.slots memory h k)) y l
+    (rw (at, ← is) (points-in machine.image.points inputs given machine.slots memory h k)) y l
 
 -- From any inputs.
-pub tells-any : (image : Image) (memory : List Range) (last : List (Option ℕ))
+pub tells-any : (image : Image) (start memory : List Range) (last : List (Option ℕ))
     (result : List Range)
-    → Tells image (with_inputs image.points (replicate (length image.points) Any) memory) [] last
-    result
-    → Carries image memory result
-tells-any image memory last result t machine inputs now slots timers is r k l =
+    → start ≡ with_inputs image.points (replicate (length image.points) Any) memory
+    → Tells image start [] last result → Carries image memory result
+tells-any image start memory last result at t machine inputs now slots timers is r k l =
     (t machine inputs now slots timers is r
-    (subst (λ (i : Image). AreIn (with_inputs machine.image.points inputs machine.slots)
-    (with_inputs i.points (replicate (length i.points) Any) memory)) is
-    (free-in machine.image.points inputs (length machine.image.points) machine.slots memory
-    (omega arith) k)) tt l).0
+    (rw (at, ← is) (free-in machine.image.points inputs (length machine.image.points)
+    machine.slots memory (omega arith) k)) tt l).0
 
 -- ---- what foretells a memory
 
@@ -252,6 +255,13 @@ firsts-in (p ∷ points) variables =
     (in-exactly (default_value p.elementary), firsts-in points variables)
 firsts-in [] [] = tt
 firsts-in [] (v ∷ variables) = (in-exactly v, firsts-in [] variables)
+
+-- There is a range for each slot.
+pub firsts-size : (image : Image) (ranges : List Range) → AreIn (held_first image).slots ranges
+    → length ranges ≡ slot_count image
+firsts-size image ranges h =
+    sym (each-size IsIn (held_first image).slots ranges h)
+    ∙ first-size image.points image.variables
 
 -- What ranges stand for, they stand for where they are widened.
 pub grows : (is_late : Bool) (slots : List Value) (ranges left : List Range) → AreIn slots ranges

@@ -9,7 +9,7 @@ ghost use Rattle.il_range.specs.Starts.{range_of_point};
 use crate::range::{Range, exactly, join};
 use crate::scan::forecast_of;
 use crate::start::{free_ranges, start_ranges};
-use il_image::image::Image;
+use il_image::image::{Image, ImagePoint};
 use il_image::value::Value;
 use il_verify::verify::Verified;
 use std::alloc::{AllocError, Global};
@@ -72,16 +72,22 @@ fn widen(ranges: &mut Vec<Range>, left: &[Range], is_late: bool)
     }
 }
 
+// The ranges of the points' first values.
+fn point_ranges(alloc: Global, points: &[ImagePoint]) -> Result<Vec<Range>, AllocError>
+    ensures { IfOk result (λ ranges. ranges.items ≡ map range_of_point points.now) }
+{
+    points
+        .iter()
+        .map(|point| exactly(Value::default_of(point.elementary)))
+        .collect(alloc)
+}
+
 // The ranges of the first values.
 fn first_ranges(alloc: Global, image: &Image) -> Result<Vec<Range>, AllocError>
     ensures { IfOk result (λ ranges. ranges.items
         ≡ map range_of_point image.now.points ++ map spec.exactly image.now.variables) }
 {
-    let mut ranges: Vec<Range> = image
-        .points()
-        .iter()
-        .map(|point| exactly(Value::default_of(point.elementary)))
-        .collect(alloc)?;
+    let mut ranges = point_ranges(alloc, image.points())?;
     for variable in image.variables() {
         ranges.push(exactly(*variable))?;
     }
