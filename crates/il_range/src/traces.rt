@@ -189,14 +189,26 @@ impl Traces {
     pub(crate) fn join_cells(&mut self, other: &Traces, ranges: &[Range], other_ranges: &[Range]) {
         self.way = self.way.or(other.way);
         let way = self.way;
-        join_sets(&mut self.cells, other.cells.as_slice(), ranges, other_ranges, way);
+        join_sets(
+            &mut self.cells,
+            other.cells.as_slice(),
+            ranges,
+            other_ranges,
+            way,
+        );
     }
 
     /// Joins what the slots hang on with another way's, whose slots are in the other ranges.
     pub(crate) fn join_slots(&mut self, other: &Traces, ranges: &[Range], other_ranges: &[Range]) {
         self.way = self.way.or(other.way);
         let way = self.way;
-        join_sets(&mut self.slots, other.slots.as_slice(), ranges, other_ranges, way);
+        join_sets(
+            &mut self.slots,
+            other.slots.as_slice(),
+            ranges,
+            other_ranges,
+            way,
+        );
     }
 
     /// Joins what the timers hang on with another way's, of whose timers this is known.
@@ -208,7 +220,13 @@ impl Traces {
     ) {
         self.way = self.way.or(other.way);
         let way = self.way;
-        join_sets(&mut self.timers, other.timers.as_slice(), known, other_known, way);
+        join_sets(
+            &mut self.timers,
+            other.timers.as_slice(),
+            known,
+            other_known,
+            way,
+        );
     }
 
     /// Returns a copy.
