@@ -15,7 +15,9 @@ from tests.loopback import needs_loopback, needs_waiting
 from tests.tool import Tools
 from wire import mms, stream
 from wire.ber import Unreadable, element, integer, number
-from wire.client import told
+from wire.client import Client, told
+from wire.control import Control
+from wire.identity import own_name
 from wire.mms import BITS, BOOLEAN, INTEGER, TEXT, Data
 from wire.sockets import port_of, seconds_of
 
@@ -314,6 +316,61 @@ class Operating(Tools):
         self.assertEqual((said[1:], status), (['held until the end of standard input'], 0))
         said, status = self.asked(Switchgear(held=0), 'select', 'CSWI1')
         self.assertEqual((said[1:], status), (['CSWI1 is no longer selected'], 1))
+
+
+class Bays:
+    """Two switches, one selected with value, one operated at once, and what is written there."""
+
+    def __init__(self) -> None:
+        self.written = []
+
+    def __call__(self, pdu):
+        if pdu.service == 'write':
+            _, origin, count, *_ = pdu.data[0].value
+            verb = pdu.names[0].rpartition('$')[2]
+            self.written.append((verb, count.value, origin.value[1].value))
+            yield respond(pdu.invoke, 0xA5, element(0x81))
+        elif pdu.service == 'names':
+            yield respond(pdu.invoke, 0xA1, element(0xA0, element(0x1A, b'D')),
+                          element(0x81, b'\0'))
+        else:
+            yield values(pdu.invoke, *(Data(INTEGER, 4 if 'CSWI1' in name else 1)
+                                       for name in pdu.names))
+
+
+@needs_loopback
+class Asking(Tools):
+    """Who asks, and for which time."""
+
+    def written(self, act):
+        bay = Bays()
+        server = served(Bay(bay))
+        try:
+            act(server.getsockname()[1])
+        finally:
+            server.close()
+        return bay.written
+
+    def test_numbers_of_controls(self):
+        def act(port):
+            client = Client('127.0.0.1', port)
+            self.addCleanup(client.socket.close)
+            one, other = Control(client, 'CSWI1', 'A'), Control(client, 'CSWI2', 'A')
+            one.select(True), one.operate(True), other.operate(True), other.operate(False)
+            one.select(True), one.cancel(True), one.cancel(True)
+            client.controls = 255
+            other.operate(True)
+
+        self.assertEqual([it[:2] for it in self.written(act)], [
+            ('SBOw', 1), ('Oper', 1), ('Oper', 2), ('Oper', 3), ('SBOw', 4), ('Cancel', 4),
+            ('Cancel', 5), ('Oper', 0)])
+
+    def test_who_asks(self):
+        for more, ident in (([], own_name()), (['--as', 'Anna'], 'Anna'), (['--as', ''], '')):
+            found = self.written(lambda port: self.call_tool(
+                'client', port, 'operate', 'CSWI1', 'on', '--wait', 0, *more))
+            self.assertEqual(found, [(verb, 1, ident.encode()) for verb in ('SBOw', 'Oper')])
+        self.assertRegex(own_name(), '^[^@]+@[^@]+$')
 
 
 class Words(unittest.TestCase):

@@ -15,7 +15,7 @@ from .sockets import is_taken, unconnected
 from .tls import ALERT, Tls, connected, refusal_in
 
 TOGETHER, PATIENCE, PARTING = 32, 10, 2  # variables of a request; seconds for an answer, at the end
-SHOWN = 12  # octets that are told
+SHOWN, COUNTS = 12, 256  # octets that are told; values of a ctlNum
 
 
 class Refused(Failed):
@@ -54,7 +54,7 @@ class Client:
         self.bay, self.trace, self.on_report = bay or Names(), trace, on_report
         self.host, self.port, self.timeout, self.tls = host, port, timeout, tls
         self.conversation, self.answers = Conversation(self.bay), stream.Stream()
-        self.waiting, self.invoke, self.size, self.cause = [], 0, 8192, None
+        self.waiting, self.invoke, self.size, self.cause, self.controls = [], 0, 8192, None, 0
         self.came, self.is_lost, self.end = b'', False, time.monotonic() + timeout
         self.on_said = lambda said: None
         self.socket = connected(host, port, timeout, tls)
@@ -272,6 +272,11 @@ class Client:
         if len(data) != 1:
             raise self.lost(f'answers {len(data)} results, and one value was written')
         return data[0]
+
+    def next_control(self) -> int:
+        """The ctlNum of the next control: 1 at first."""
+        self.controls = (self.controls + 1) % COUNTS
+        return self.controls
 
     def shape(self, item: str) -> str | list:
         return self.ask(mms.attributes_request, self.full(item)).shape

@@ -22,11 +22,13 @@ class Outcome:
 
 class Control:
     """The control of a switch, which is named by its logical node, or by its id where the client
-    knows the bay file."""
+    knows the bay file. A select and the operate or the cancel behind it have one ctlNum, and each
+    control of an association the next."""
 
     def __init__(self, client: Client, switch: str, originator: str = '',
                  test: bool = False) -> None:
         self.client, self.originator, self.test = client, originator.encode(), test
+        self.number: int | None = None
         self.node = client.bay.node(switch)
         if self.node is None:
             raise Refused(f'{switch} is not a switch: give its control as CSWI1, or its id with '
@@ -43,7 +45,9 @@ class Control:
 
     def control_value(self, on: bool, check: str | None = '00') -> mms.Data:
         moment = int(time.time() * 1000)
-        return mms.control(on, 2, self.originator, 0, moment, self.test, check)
+        if self.number is None:
+            self.number = self.client.next_control()
+        return mms.control(on, 2, self.originator, self.number, moment, self.test, check)
 
     def is_selected_first(self) -> bool:
         return self.model in (SELECTED, ENHANCED)
@@ -74,12 +78,17 @@ class Control:
 
     def operate(self, on: bool) -> Outcome:
         """The answer to an operate: accepted is no end of it."""
-        answer = self.client.write(self.item('Oper'), self.control_value(on))
+        answer = self.write_last('Oper', self.control_value(on))
         return self.outcome('operate', answer is None, answer, 'accepted')
 
     def cancel(self, on: bool = True) -> Outcome:
-        answer = self.client.write(self.item('Cancel'), self.control_value(on, check=None))
+        answer = self.write_last('Cancel', self.control_value(on, check=None))
         return self.outcome('cancel', answer is None, answer)
+
+    def write_last(self, word: str, value: mms.Data) -> Failure | None:
+        """The answer to what ends a control, behind which another begins."""
+        self.number = None
+        return self.client.write(self.item(word), value)
 
     def is_selected(self) -> bool:
         """Whether the server says that the switch is selected."""

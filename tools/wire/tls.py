@@ -10,10 +10,10 @@ from common.ending import CalledWrong, Failed
 from common.texts import in_line
 
 from . import ber
+from .identity import clipped
 
 LEAST = ssl.TLSVersion.TLSv1_2
 CIPHERS = 'ECDHE+AESGCM:DHE+AESGCM'  # of TLS 1.2: forward secrecy and authenticated encryption
-LONGEST = 64  # octets of an orIdent
 ALERT = b'\x15\x03'  # how an answer of TLS to octets that are none begins
 VERSION, SUBJECT = 0xA0, 4  # the tag of a version; the place of the subject behind it
 CERTIFICATE = re.compile('-----BEGIN CERTIFICATE-----.*?-----END CERTIFICATE-----', re.DOTALL)
@@ -61,8 +61,7 @@ class Tls:
 
     def identity(self) -> str:
         """The CN of the own certificate, as far as an orIdent takes it; or nothing."""
-        name = next((value for name, value in self.subject if name == 'CN'), '')
-        return name.encode()[:LONGEST].decode(errors='ignore')
+        return clipped(next((value for name, value in self.subject if name == 'CN'), ''))
 
 
 def add_options(found: argparse.ArgumentParser) -> None:

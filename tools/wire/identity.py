@@ -1,0 +1,20 @@
+"""Who asks, as the orIdent of a control says it."""
+import os
+import pwd
+import socket
+
+LONGEST = 64  # octets of an orIdent
+
+
+def clipped(name: str) -> str:
+    """A name as far as an orIdent takes it."""
+    return name.encode()[:LONGEST].decode(errors='ignore')
+
+
+def own_name() -> str:
+    """The user who runs this, and the machine."""
+    try:
+        user = pwd.getpwuid(os.getuid()).pw_name
+    except KeyError:
+        user = str(os.getuid())
+    return clipped(f'{user}@{socket.gethostname()}')
