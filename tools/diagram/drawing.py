@@ -5,6 +5,7 @@ from collections.abc import Mapping
 from dataclasses import dataclass, field
 
 from common.positions import POSITIONS
+from live.boxes import query
 from live.single_line import dot, earth, line, text
 
 from .network import BUSBAR, EARTH, EARTHING, JUNCTION, TRANSFORMER, Network, Node, Switch
@@ -298,16 +299,18 @@ class Drawing:
         name = html.escape(switch.name, quote=True)
         turn = '' if words == 30 else ' rotate(90)'
         left, size = (x - 38, 76) if turn else (x - 24, 150)
+        is_shown = self.is_live and switch.is_own
         state = 'unknown' if self.is_live else self.positions.get(switch.name, 'unknown')
         kind = 'switch' if switch.is_own else 'other'
         acts = (f' data-switch="{name}" role="button" tabindex="0" aria-label="{name}"'
-                if self.is_live and switch.is_own else '')
-        told = state if state in POSITIONS else '' if self.is_live else 'not known'
+                if is_shown else '')
+        told = state if state in POSITIONS else '' if self.is_live and not is_shown else 'not known'
+        drawn = blade(switch) + (query(bool(turn)) if is_shown else '')
         frees = told_releases(self.releases.get(switch.name))
         lines = [(switch.name, 'id'), (told, 'told'), (frees, 'frees'), ('', 'more')]
         return (f'<g class="{kind} {state}"{acts}><rect class="hit" x="{left:.0f}" '
                 f'y="{y - 38:.0f}" width="{size if below else max(size, 150)}" height="76" rx="8"/>'
-                f'<g transform="translate({x:.0f} {y:.0f}){turn}">{blade(switch)}</g>'
+                f'<g transform="translate({x:.0f} {y:.0f}){turn}">{drawn}</g>'
                 + ''.join(text(round(x + words), round(y - 12 + below + 17 * at), word, its)
                           for at, (word, its) in enumerate(lines)) + '</g>')
 

@@ -9,28 +9,38 @@ let waits = false;    // whether the panel has yet to answer what this page aske
 let last = null;      // the number of the last end that was told here, or before this page
 let lastTold = '';    // the events that were shown
 let isGone = true;    // whether the panel itself is gone
+let goneAt = '';      // when it went
 const page = Array.from(crypto.getRandomValues(new Uint32Array(4)), (n) => n.toString(16)).join('');
 
 function mark(way) {
+  if (lastKnown()) return '?';
   return way.free ? '✓' : '✕';
+}
+
+// When what is shown was last known, or nothing where it is known now.
+function lastKnown() {
+  if (!state.switches.length) return '';
+  return state.connected ? goneAt : state.read;
 }
 
 function described(it) {
   const ways = ['open', 'close'].map((way) => may(it, way)).map((m) => m.told.replace(/^. /, ''));
   const seen = it.selected ? ', selected' : '';
-  return `${it.id}, ${it.kind}, ${placeOf(it)}${seen}, ${ways[0]}, ${ways[1]}`;
+  const past = lastKnown() ? 'last known ' : '';
+  return `${it.id}, ${it.kind}, ${past}${placeOf(it)}${seen}, ${ways[0]}, ${ways[1]}`;
 }
 
 function showPicture() {
   for (const it of state.switches) {
     const drawn = document.querySelector(`g[data-switch="${CSS.escape(it.id)}"]`);
     if (!drawn) continue;
-    const bad = it.quality !== 'good' && it.position !== 'bad' ? ' doubtful' : '';
-    drawn.setAttribute('class',
-      `switch ${it.position}${bad}${it.selected ? ' selected' : ''}`);
+    const position = it.known ? it.position : 'unknown';
+    drawn.setAttribute('class', `switch ${position}${it.selected ? ' selected' : ''}`);
     drawn.setAttribute('aria-label', described(it));
-    drawn.querySelector('.told').textContent = placeOf(it);
-    drawn.querySelector('.more').textContent = it.selected ? 'selected' : '';
+    drawn.querySelector('.told').textContent = positionOf(it);
+    const isPlain = !it.known || it.quality === 'good' || it.position === 'bad';
+    const more = [isPlain ? '' : it.quality, it.selected ? 'selected' : ''];
+    drawn.querySelector('.more').textContent = more.filter(Boolean).join(', ');
     const frees = drawn.querySelector('.frees');
     if (frees) frees.textContent = `open ${mark(it.open)} close ${mark(it.close)}`;
   }
@@ -52,8 +62,8 @@ function row(it) {
   button.dataset.switch = it.id;
   button.setAttribute('aria-label', `${it.id}: details`);
   head.append(button);
-  const place = element('td', it.position === 'bad' ? 'place bad' : 'place', it.position);
-  place.append(element('span', 'why', it.quality + (it.selected ? ', selected' : '')));
+  const place = element('td', it.position === 'bad' ? 'place bad' : 'place', positionOf(it));
+  place.append(element('span', 'why', qualityOf(it) + (it.selected ? ', selected' : '')));
   found.append(head, place, wayCell(it, 'open'));
   if (it.control === 'status') found.lastChild.colSpan = 2;
   else found.append(wayCell(it, 'close'));
@@ -95,6 +105,11 @@ function showConnection(told, isGood) {
   byId('connection').textContent = told;
   byId('connection').className = isGood ? '' : 'lost';
   document.querySelector('main').classList.toggle('stale', !isGood);
+  const since = lastKnown();
+  for (const it of document.querySelectorAll('.last')) {
+    it.hidden = !since;
+    it.textContent = since ? `no connection: this was last known at ${since}` : '';
+  }
 }
 
 function tell(told, kind) {
@@ -131,7 +146,7 @@ function showDialog() {
   byId('dialog-title').textContent = `${it.id}, ${it.kind}`;
   const barred = operates && state.barred ? ` But ${state.barred}.` : '';
   byId('dialog-state').textContent = isGone || !state.connected
-    ? 'Nothing is known now: there is no connection.' : `It is ${placeOf(it)}${since}.${barred}`;
+    ? `There is no connection. It was ${placeOf(it)}, last known at ${lastKnown()}.` : `It is ${placeOf(it)}${since}.${barred}`;
   showWay(it, 'open');
   showWay(it, 'close');
   const ours = control(true);
@@ -220,6 +235,7 @@ function leave(isGoing) {
 function show(told) {
   state = JSON.parse(told);
   isGone = false;
+  goneAt = '';
   showConnection(state.told, state.connected);
   showPicture();
   showSwitches();
@@ -231,7 +247,9 @@ function show(told) {
 
 function gone() {
   isGone = true;
+  if (!goneAt) goneAt = new Date().toLocaleString('sv');
   showConnection('the panel is gone', false);
+  showPicture();
   showDialog();
 }
 

@@ -17,6 +17,14 @@ function may(it, way) {
   return {free: false, told: `✕ may not be ${done}`, why: it[way].why};
 }
 
+function positionOf(it) {
+  return it.known ? it.position : 'not known';
+}
+
+function qualityOf(it) {
+  return it.known ? it.quality : 'not reported yet';
+}
+
 function placeOf(it) {
-  return it.position + (it.quality === 'good' ? '' : `, ${it.quality}`);
+  return positionOf(it) + (qualityOf(it) === 'good' ? '' : `, ${qualityOf(it)}`);
 }

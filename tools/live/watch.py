@@ -25,6 +25,7 @@ OTHER = 'the server has another bay than the bay file'
 EVERY, AGAIN, KEPT = 0.25, 1.0, 200  # seconds between two reads, and two attempts; events kept
 LOST = (Failed, OSError, ValueError, LookupError, TypeError, AttributeError)
 PARTING = 1  # seconds for the end of the association
+UNREPORTED = '00', 'invalid'  # a position and its quality before the first report
 # The values that are read, with the types of their parts.
 POSITION = {'stVal': mms.BITS, 'q': mms.BITS, 't': mms.TIME}
 POSITIONS = POSITION | {'stSeld': mms.BOOLEAN}, POSITION
@@ -41,7 +42,8 @@ def now() -> int:
 class Watcher(Telling):
     """Reads a bay. `lock` is held by whoever uses the association; `conditions` are those of the
     audit by switch and way, once they are known. Where the server has another bay than the file,
-    `state['barred']` says that nothing is operated, unless it is to be operated anyway."""
+    `state['barred']` says that nothing is operated, unless it is to be operated anyway. Where the
+    connection is lost, `state['read']` says when all was last read."""
     every = EVERY
 
     def __init__(self, file, text, host, port, anyway=False, tls=None) -> None:
@@ -49,10 +51,11 @@ class Watcher(Telling):
         self.file, self.text, self.host, self.port = file, text, host, port
         self.anyway, self.differs, self.tls = anyway, [], tls
         self.conditions, self.lock, self.client = None, threading.RLock(), None
+        self.last_read: int | None = None
         self.events = collections.deque(maxlen=KEPT)
         self.on_said, self.on_read = [], []
         self.state = {'bay': file['bay']['domain'], 'connected': False, 'told': 'connecting',
-                      'switches': [], 'measures': [], 'control': None, 'barred': ''}
+                      'switches': [], 'measures': [], 'control': None, 'barred': '', 'read': ''}
 
     # ---- those who look
 
@@ -119,6 +122,8 @@ class Watcher(Telling):
                 self.event(f'not connected: {told}', 'refused')
             self.client = None
             self.state.update(connected=False, told=told, control=None)
+            if self.last_read is not None:
+                self.state['read'] = stamp(self.last_read)
             for act in self.on_said:
                 act(None)
         self.publish()
@@ -147,6 +152,7 @@ class Watcher(Telling):
             self.explain(found, measures)
             self.compare(found)
             self.state.update(switches=found, measures=measures)
+            self.last_read = now()
             for act in self.on_read:
                 act(found)
             last = self.events and self.events[-1]
@@ -169,8 +175,7 @@ class Watcher(Telling):
         """Notes what has changed since the last read."""
         for old, new in zip(self.state['switches'] or [{}] * len(found), found):
             if (old.get('position'), old.get('quality')) != (new['position'], new['quality']):
-                quality = '' if new['quality'] == 'good' else f' ({new["quality"]})'
-                self.event(f'{new["id"]} is {new["position"]}{quality}', 'position', new['moment'])
+                self.event(f'{new["id"]} is {place_told(new)}', 'position', new['moment'])
             if old and old['selected'] != new['selected']:
                 self.event(f'{new["id"]} is {"" if new["selected"] else "no longer "}selected')
             for told in may_told(old, new) if old else ():
@@ -187,6 +192,14 @@ class Watcher(Telling):
 def stamp(moment: int) -> str:
     """The date and the time of day here."""
     return f'{moments.date_of(moment):%Y-%m-%d} {moments.clock_told(moment)}'
+
+
+def place_told(switch: dict) -> str:
+    """Where a switch is, with a quality that is not good."""
+    if not switch['known']:
+        return 'not known: not reported yet'
+    quality = '' if switch['quality'] == 'good' else f' ({switch["quality"]})'
+    return switch['position'] + quality
 
 
 def may_told(old: dict, new: dict) -> list[str]:
@@ -209,6 +222,7 @@ def switch_of(switch, position, opened, closed) -> dict:
     validity = words.VALIDITIES[quality[:2]]
     return {'id': switch['id'], 'kind': switch['kind'], 'control': switch['control'],
             'position': words.POSITIONS[value], 'quality': validity,
+            'known': (value, validity) != UNREPORTED,
             'moment': moment if isinstance(moment, int) else 0,
             'time': time_told(moment) if isinstance(moment, int) and moment else '',
             'selected': bool(selected and selected[0]),

@@ -21,8 +21,8 @@ function switchRow(it) {
   const row = element('tr');
   const head = element('th', '', it.id);
   head.scope = 'row';
-  const place = element('td', it.position === 'bad' ? 'place bad' : 'place', it.position);
-  const more = [it.quality === 'good' ? '' : it.quality, it.selected ? 'selected' : ''];
+  const place = element('td', it.position === 'bad' ? 'place bad' : 'place', positionOf(it));
+  const more = [qualityOf(it) === 'good' ? '' : qualityOf(it), it.selected ? 'selected' : ''];
   if (more.some(Boolean)) {
     place.append(element('span', 'why', more.filter(Boolean).join(', ')));
   }

@@ -17,15 +17,15 @@ from unittest import mock
 TOOLS = pathlib.Path(__file__).resolve().parent.parent
 sys.path.insert(0, str(TOOLS))
 from bay.conditions import Condition, Variable
+from live.boxes import draw
 from live.operating import Operator
 from live.reasons import Seen, why_not
-from live.single_line import BadOrder, draw, order_of, usual_order
-from live.watch import Watcher, may_told, measures_of, switch_of
+from live.watch import Watcher, may_told, measures_of, place_told, switch_of
 from live.web import Pages
 from tests.loopback import needs_loopback
 from tests.test_audit import FILE
 from tests.test_client import Bay, served
-from tests.tool import Tools, interruptible
+from tests.tool import Tools, interruptible, zone
 from wire.ber import element
 from wire.client import Lost
 from wire.control import Outcome
@@ -85,40 +85,30 @@ class Reasons(unittest.TestCase):
 
 
 class Pictures(unittest.TestCase):
-    def test_the_usual_order(self):
-        order = usual_order(SWITCHES)
-        self.assertEqual([it['id'] for it in order.busbars], ['QB1', 'QB2'])
-        self.assertEqual([it['id'] for it in order.column], ['QA1', 'QC1', 'QB9', 'QC9'])
-
-    def test_an_order_that_is_given(self):
-        order = order_of(SWITCHES, 'qb1|QB2,QC1,QA1, QB9,QC9')
-        self.assertEqual([it['id'] for it in order.column], ['QC1', 'QA1', 'QB9', 'QC9'])
-        for text in ('QB1', 'QB1|QB2,QA1|QC1,QB9,QC9', 'QB1|QB2,QA1,QC1,QB9,QX', '',
-                     'QB1|QB1,QA1,QC1,QB9,QC9'):
-            with self.assertRaises(BadOrder):
-                order_of(SWITCHES, text)
-
-    def test_each_switch_is_drawn_once(self):
-        for switches in (SWITCHES, SWITCHES[:1], SWITCHES[4:5], SWITCHES * 5):
-            root = ET.fromstring(draw(usual_order(switches)))
+    def test_a_box_for_each_switch_in_the_order_of_the_file(self):
+        for switches in (SWITCHES, SWITCHES[:1], SWITCHES[::-1], SWITCHES * 5):
+            root = ET.fromstring(f'<div>{draw(switches)}</div>')
             drawn = [it for it in root.iter() if it.get('data-switch')]
-            self.assertEqual(sorted(it.get('data-switch') for it in drawn),
-                             sorted(it['id'] for it in switches))
-            self.assertTrue(all(it.get('role') == 'button' and it.get('tabindex') == '0'
-                                and it.get('aria-label') for it in drawn))
-            self.assertEqual(f'0 0 {root.get("width")} {root.get("height")}', root.get('viewBox'))
+            self.assertEqual([it.get('data-switch') for it in drawn],
+                             [it['id'] for it in switches])
+            for it in drawn:
+                self.assertEqual((it.get('role'), it.get('tabindex'), it.get('class')),
+                                 ('button', '0', 'switch unknown'))
+                self.assertEqual(it.get('aria-label'), f'{it.get("data-switch")}, not known')
+                self.assertEqual([word.text for word in it.iter('text')][:4],
+                                 ['?', it.get('data-switch'), mock.ANY, 'not known'])
 
-    def test_a_picture_with_two_busbars_fits_a_phone(self):
-        self.assertNotIn('wide', draw(usual_order(SWITCHES)))
-        self.assertIn('wide', draw(order_of(SWITCHES, 'QB1|QB2|QB9,QA1,QC1,QC9')))
+    def test_nothing_is_drawn_of_what_the_file_does_not_say(self):
+        found = draw(SWITCHES)
+        self.assertIn('no diagram: order of the bay file', found)
+        self.assertNotIn('class="wire"', found)
+        self.assertNotIn('busbar', found)
 
-    def test_long_names_side_by_side_do_not_meet(self):
-        switches = [{'id': f'Q{"B" * 14}{n}', 'kind': 'disconnector'} for n in (1, 2)]
-        first, second = re.findall(r'class="id" x="(\d+)', draw(usual_order(switches)))
-        self.assertGreaterEqual(int(second) - int(first), 16 * 11)
-
-    def test_no_busbar_is_broken_where_a_lead_crosses(self):
-        self.assertNotIn('gap', draw(usual_order(SWITCHES)))
+    def test_a_long_name_has_room(self):
+        for name in ('QA1', f'Q{"B" * 15}'):
+            root = ET.fromstring(f'<div>{draw([{"id": name, "kind": "disconnector"}])}</div>')
+            width = int(next(root.iter('svg')).get('width'))
+            self.assertGreaterEqual(width, 54 + 11 * len(name))
 
 
 class Values(unittest.TestCase):
@@ -129,11 +119,21 @@ class Values(unittest.TestCase):
         self.assertEqual((found['position'], found['quality'], found['selected'], found['time']),
                          ('closed', 'invalid', True, '5 ms'))
         self.assertEqual((found['open'], found['close']), ({'free': True}, {'free': False}))
+        self.assertEqual(place_told(found), 'closed (invalid)')
         odd = Data(STRUCTURE, [Data(INTEGER, 1)])
         for words in ((odd, Data(BOOLEAN, True), Data(BOOLEAN, True)),
                       (position, odd, Data(BOOLEAN, True)), (position, Data(BOOLEAN, True), odd)):
             with self.assertRaisesRegex(Lost, 'QA1 values of another type'):
                 switch_of(SWITCHES[0], *words)
+
+    def test_a_switch_that_has_not_reported_yet(self):
+        for bits, quality, told in (('00', '01', 'not known: not reported yet'),
+                                    ('00', '00', 'intermediate'), ('11', '01', 'bad (invalid)')):
+            position = Data(STRUCTURE, [Data(BITS, bits), Data(BITS, quality + '0' * 11),
+                                        Data(TIME, 0)])
+            found = switch_of(SWITCHES[0], position, Data(BOOLEAN, False), Data(BOOLEAN, False))
+            self.assertEqual(place_told(found), told)
+            self.assertEqual(found['known'], not told.startswith('not known'))
 
     def test_a_meter(self):
         good = Data(BITS, '0' * 13)
@@ -304,6 +304,15 @@ class Operating(unittest.TestCase):
         self.assertIsNone(self.watcher.state['control'])
         self.assertEqual(self.act('operate'), (False, 'there is no connection to the server'))
 
+    def test_when_all_was_last_known(self):
+        self.watcher.client = None
+        self.watcher.lose(OSError('gone'))
+        self.assertEqual(self.watcher.state['read'], '')
+        self.watcher.last_read = 1_790_000_000_123
+        with zone('UTC'):
+            self.watcher.lose(OSError('gone'))
+        self.assertEqual(self.watcher.state['read'], '2026-09-21 14:13:20.123')
+
 
 class Events(unittest.TestCase):
     def told(self, before, after):
@@ -328,7 +337,7 @@ class Web(unittest.TestCase):
         file = {**FILE, 'bay': {**FILE['bay'], 'vendor': vendor}}
         watcher = Watcher(file, '', '127.0.0.1', 1)
         operator = Operator(watcher) if operates else None
-        pages = Pages(0, watcher, draw(usual_order(FILE['switch'])), operator)
+        pages = Pages(0, watcher, draw(FILE['switch']), operator)
         serving = threading.Thread(target=pages.serve_forever, args=(0.02,))
         serving.start()
 

@@ -111,15 +111,16 @@ class Panels(Tools):
         own = {switch['id'] for switch in bay_at(LINE)[1]['switch']}
         self.assertEqual({name for name, it in found.items() if it.get('data-switch')}, own)
         self.assertEqual(found['TA1'].get('class'), 'other unknown')
+        for name, it in found.items():
+            self.assertEqual([word.text for word in it.iter(f'{SVG}text')
+                              if word.get('class') in ('query', 'told') and word.text],
+                             ['?', 'not known'] if name in own else [], name)
         for it in found.values():
             self.assertEqual([word.get('class') for word in it.findall(f'{SVG}text')],
                              ['id', 'told', 'frees', 'more'])
         self.assertNotIn('frees', self.picture())
 
     def test_words_that_do_not_fit(self):
-        found = self.call_tool('panel', '--bay', LINE, 1, '--diagram',
-                               LINE.with_name('diagram.toml'), '--order', 'QA1')
-        self.assertEqual((found.status, found.error.count('\n')), (2, 1))
         found = self.call_tool('panel', '--bay', LINE, 1, '--diagram',
                                SINGLE.with_name('diagram.toml'))
         self.assertEqual((found.status, found.error.count('\n')), (1, 1))

@@ -14,7 +14,7 @@ import warnings
 TOOLS = pathlib.Path(__file__).resolve().parent.parent
 sys.path.insert(0, str(TOOLS))
 from live.operating import Operator
-from live.single_line import draw, usual_order
+from live.boxes import draw
 from live.watch import Watcher
 from live.web import Pages
 from tests.loopback import needs_loopback
@@ -275,7 +275,7 @@ class Panels(unittest.TestCase):
             operator.act('select', 'QB1', 'close', 'p')
             self.assertTrue(operator.act('operate', 'QB1', 'close', 'p')['good'])
         self.assertEqual(model.idents, {b'operator'})
-        pages = Pages(0, watcher, draw(usual_order(file['switch'])))
+        pages = Pages(0, watcher, draw(file['switch']))
         self.addCleanup(pages.server_close)
         self.assertIn('as O=Station A, OU=Control, CN=operator, by TLS', pages.page())
 
