@@ -10,6 +10,7 @@ UNKNOWN = 'not yet reported'
 
 WIDTH, LEFT, RIGHT = 1200, 220, 44
 BAND, STRIP, LISTED, ROWS = 22, 12, 24, 12
+READS = '#dbe7f3'  # of reads that repeat
 FILLS = {UNKNOWN: '#ffffff', 'intermediate': 'url(#moving)', 'open': '#ffffff', 'closed': '#1f4e8c',
          'bad': 'url(#bad)'}
 PATTERN = ('<pattern id="{}" width="8" height="8" patternUnits="userSpaceOnUse" '
@@ -145,21 +146,49 @@ def draw_saltire(picture, x, y, tip) -> None:
 
 
 def draw_client(picture, history, client) -> None:
-    """When a client was connected, a tick where it was in talk with the server, and its controls,
-    granted or refused."""
-    scale, line = picture.scale, picture.y + 8
-    picture.lane(client.label, counted(len(client.marks), 'control'), line)
+    """When a client was connected, a tick where it was in talk with the server, a bar for reads
+    that repeat, and its controls, granted or refused."""
+    scale, line, label = picture.scale, picture.y + 8, f'Client {client.name()}'
+    picture.lane(label, counted(len(client.marks), 'control'), line)
     for start, end, value in client.open.spells(scale.start, scale.end):
         if value:
             picture.path([(scale.x(start), line), (scale.x(end), line)], INK, 1.5,
-                         tip=f'{client.label} is connected from {moments.told(start)}')
-    for moment, words in client.ticks.items():
-        tip = f'{moments.told(moment)}: {client.label} ' + '; '.join(word.strip() for word in words)
+                         tip=f'{label} is connected from {moments.told(start)}')
+    for moment, words in client.ticks().items():
+        tip = f'{moments.told(moment)}: {label} ' + '; '.join(word.strip() for word in words)
         picture.path([(scale.x(moment), line - 4), (scale.x(moment), line + 4)], INK, 1.5, tip=tip)
+    draw_repeats(picture, label, list(client.bars()))
+    line = picture.y + 8
     rows = rows_of([span_of(scale, mark) for mark in client.marks])
     for mark, row in zip(client.marks, rows):
         draw_mark(picture, history, mark, line + 16 + 16 * min(row, ROWS))
     picture.y += 26 + 16 * min(max(rows, default=-1) + 1, ROWS + 1)
+
+
+def draw_repeats(picture, label, repeats) -> None:
+    """Reads that repeat, each a bar with its count below the line of the client."""
+    spans = [repeat_span(picture.scale, it) for it in repeats]
+    rows = rows_of([(start, end - start + 8) for start, end, _ in spans])
+    for repeat, (_, _, text_x), row in zip(repeats, spans, rows):
+        x, far = picture.scale.x(repeat.start), picture.scale.x(repeat.end)
+        y = picture.y + 18 + 16 * min(row, ROWS)
+        words = '; '.join(word.strip() for word in [*repeat.asked, *repeat.answered])
+        picture.box(x, y, far - x, 10, READS, FAINT,
+                    f'{moments.told(repeat.start)} to {moments.told(repeat.end)}: {label}, '
+                    f'{repeat.count:,} times, the last: {words}')
+        picture.text(text_x, y + 9, repeat.label(), fill=FAINT)
+    picture.y += 16 * min(max(rows, default=-1) + 1, ROWS + 1)
+
+
+def repeat_span(scale, repeat) -> tuple:
+    """Where a bar or its words begin and end, and where the words begin: in the bar where it has
+    the room, else behind it, or before it at the edge."""
+    x, far, wide = scale.x(repeat.start), scale.x(repeat.end), room(repeat.label())
+    if wide + 8 <= far - x:
+        return x, far, x + 4
+    if far + 6 + wide <= WIDTH - 4:
+        return x, far + 6 + wide, far + 6
+    return x - 6 - wide, far, x - 6 - wide
 
 
 def span_of(scale, mark) -> tuple:
@@ -291,7 +320,7 @@ def draw_legend(picture) -> None:
     picture.y += 30
 
 
-def draw_clients_legend(picture) -> None:
+def draw_clients_legend(picture, history) -> None:
     """What the marks of clients mean."""
     x, y = LEFT, picture.y
     picture.path([(x, y + 4), (x + 26, y + 4)], INK)
@@ -306,6 +335,9 @@ def draw_clients_legend(picture) -> None:
     picture.path([(x + 440, y + 10), (x + 440, y - 2), (x + 448, y + 2), (x + 440, y + 6)], COMMAND,
                  1.5, COMMAND)
     picture.text(x + 454, y + 8, 'a command to the switch')
+    if any(True for client in history.clients.values() for _ in client.bars()):
+        picture.box(x + 640, y - 1, 26, 10, READS, FAINT)
+        picture.text(x + 672, y + 8, 'a read that repeats')
     picture.y += 24
 
 
@@ -347,7 +379,7 @@ def draw(history, name) -> str:
     if history.switches:
         draw_legend(picture)
     if history.clients:
-        draw_clients_legend(picture)
+        draw_clients_legend(picture, history)
     draw_notes(picture, history)
     return page_of(picture, history, f'Timeline of bay {domain}: {name}', top, bottom)
 
@@ -372,9 +404,10 @@ def all_told(history) -> str:
 def talk_told(history) -> str:
     """The last words of the description: clients, commands, refusals."""
     commands = sum(map(len, history.commands.values()))
+    controls = sum(len(it.marks) for it in history.clients.values())
     clients, what = '', 'events'
     if history.clients:
-        clients = (f', what {counted(len(history.clients), "client")} asked, and '
-                   f'{counted(commands, "command")}')
+        done = counted(commands, 'command') if history.switches else counted(controls, 'control')
+        clients = f', what {counted(len(history.clients), "client")} asked, and {done}'
         what = 'events and requests'
     return f'{clients}. Refused {what}: {len(history.refusals)}.'

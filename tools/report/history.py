@@ -1,7 +1,5 @@
 """What became of a scenario or of a captured session over time: positions, releases, inputs,
 measures, clients, commands and refusals."""
-from dataclasses import dataclass
-
 from common import moments
 from common.positions import POSITIONS, WAYS
 from common.texts import raised
@@ -10,52 +8,8 @@ from wire.captured import conversation_of, first_stream, go_on_behind
 from wire.conversation import Conversation, got_of
 from wire.words import cause_told
 
+from .clients import Client, Mark, Track
 from .replay import CODES, REASONS
-
-
-class Track:
-    """What one thing was over time: changes are (moment, value), in the order in which they
-    came."""
-
-    def __init__(self, label, note='') -> None:
-        self.label, self.note, self.changes = label, note, []
-
-    def set(self, moment, value) -> None:
-        if not self.changes or self.changes[-1][1] != value:
-            self.changes.append((moment, value))
-
-    def spells(self, start, end, first=None) -> list:
-        """(from, to, value) one after the other, from start to end; first is the value before any
-        change."""
-        points = [(start, first), *self.changes, (end, None)]
-        return [(a, b, value) for (a, value), (b, _) in zip(points, points[1:])
-                if b > a and value is not None]
-
-
-@dataclass
-class Mark:
-    """A control on a client's lane: what it says, whether it was granted, and else its number in
-    the list of refusals."""
-    moment: int
-    label: str
-    number: int | None = None
-
-
-class Client:
-    """What one client was over time: when it was connected, when it asked or was told something,
-    and its controls."""
-
-    def __init__(self, place) -> None:
-        self.label, self.ticks, self.marks = f'Client {place}', {}, []
-        self.open, self.count = Track(self.label), 0
-
-    def connect(self, moment: int, is_open: bool) -> None:
-        """One more or one less of its connections."""
-        self.count = max(self.count + (1 if is_open else -1), 0)
-        self.open.set(moment, self.count > 0)
-
-    def tick(self, moment, said) -> None:
-        self.ticks.setdefault(moment, []).extend(said.told())
 
 
 class History:
@@ -73,7 +27,7 @@ class History:
         self.commands = {key: [] for key in self.switches}
         self.measures, self.doubts, self.losses = {}, {}, []
         self.scans, self.moments = [], []
-        self.clients, self.conversations, self.causes = {}, {}, {}
+        self.clients, self.conversations, self.causes, self.places = {}, {}, {}, {}
         self.refusals, self.events = [], []
 
     @classmethod
@@ -87,8 +41,8 @@ class History:
 
     @classmethod
     def of_capture(cls, file, bay, events) -> 'History':
-        """What was said in a captured session. Of the process nothing is known. Each address is a
-        client."""
+        """What was said in a captured session. Of the process nothing is known. A client is an
+        association, with the number that a server gives it: the lowest that is free."""
         history, servers = cls(file), {}
         history.switches, history.inputs = {}, {}
         for event in events:
@@ -102,26 +56,36 @@ class History:
     def captured(self, event, bay, servers) -> None:
         """What happened on a connection of a capture."""
         self.moments.append(event.moment)
-        who = event.who or event.place
-        client = self.clients.setdefault(who, Client(who))
+        client = self.client_of(event)
         if event.kind in ('open', 'middle'):
             self.conversations[event.place] = conversation_of(event, bay)
             servers[event.place] = first_stream(event)
         if event.kind in ('open', 'middle', 'close'):
-            client.connect(event.moment, event.kind != 'close')
+            client.connect(event.moment, event.kind != 'close', event.who)
             return
         conversation = self.conversations[event.place]
         if event.kind == 'client':
             for got in conversation.hear(event.octets):
-                client.tick(event.moment, conversation.asks(got))
+                client.asks(event.moment, conversation.asks(got))
         elif event.kind == 'server':
             for got in servers[event.place].feed(event.octets):
                 said = conversation.answers(got)
-                client.tick(event.moment, said)
-                self.control(event.moment, who, said, (event.place, ''))
+                client.is_told(event.moment, said)
+                self.control(event.moment, client.place, said, (event.place, ''))
         else:
-            client.ticks.setdefault(event.moment, []).append('octets are missing in the capture')
+            client.tick(event.moment, ['octets are missing in the capture'])
             go_on_behind(event, conversation, servers)
+
+    def client_of(self, event) -> Client:
+        """The client of a connection of a capture. Its number is free once it has closed."""
+        place = self.places.get(event.place)
+        if place is None:
+            taken = set(self.places.values())
+            place = next(n for n in range(1, len(taken) + 2) if n not in taken)
+            self.places[event.place] = place
+        if event.kind == 'close':
+            del self.places[event.place]
+        return self.clients.setdefault(place, Client(place))
 
     def refuse(self, moment, words) -> int:
         """Notes a refusal, and gives its place in the list."""
@@ -179,7 +143,7 @@ class History:
         client = self.clients.setdefault(place, Client(place))
         if step.words[0] == 'recv':
             for got in step.heard:
-                client.tick(step.moment, self.conversations[place].asks(got))
+                client.asks(step.moment, self.conversations[place].asks(got))
             return
         client.connect(step.moment, step.words[0] == 'open')
         self.conversations[place] = Conversation(bay)
@@ -189,7 +153,7 @@ class History:
         closed."""
         for place, octets in step.sent:
             said = self.conversations[place].answers(got_of(octets))
-            self.clients[place].tick(step.moment, said)
+            self.clients[place].is_told(step.moment, said)
             self.control(step.moment, place, said, place)
         if step.command:
             name, way = step.command
@@ -219,7 +183,8 @@ class History:
 
     def mark(self, moment, place, label, good, cause, words='') -> None:
         told = cause_told(cause) if cause is not None else words
-        number = None if good else self.refuse(moment, f'client {place}: {label}: {told}')
+        who = self.clients[place].name()
+        number = None if good else self.refuse(moment, f'client {who}: {label}: {told}')
         self.clients[place].marks.append(Mark(moment, label, number))
 
     def scan(self, moment, line) -> None:

@@ -6,16 +6,18 @@ import struct
 import sys
 import time
 import unittest
+import xml.etree.ElementTree as ET
 
 TOOLS = pathlib.Path(__file__).resolve().parent.parent
 sys.path.insert(0, str(TOOLS))
 from bay.names import Names
+from picture.timeline import draw
 from report.history import History
 from report.joined import BadTrace, lines_of, sent_of, trace_of
 from tests.tool import Tools
 from wire import mms, stream
 from wire.ber import element, number
-from wire.capture import Capture
+from wire.capture import Capture, Event
 from wire.conversation import Conversation
 from wire.packets import BadCapture, Packet, packets, segment_in
 
@@ -287,11 +289,55 @@ class Talks(Tools):
             events = Capture(self.capture(pieces)).events()
             history = History.of_capture(self.FILE, Names(), events)
             self.assertEqual([told for _, told in history.refusals],
-                             ['client 10.0.0.1: operate CSWI1 close: position reached (5)'])
+                             ['client 1 (10.0.0.1): operate CSWI1 close: position reached (5)'])
 
-    def test_a_lane_for_each_address(self):
-        self.assertEqual(list(History.of_capture(self.FILE, Names(), Capture(pcap(
-            session() + session(9000))).events()).clients), ['10.0.0.1'])
+    def test_a_lane_for_each_association(self):
+        """Its number is the lowest that is free, as a server's."""
+        events = [Event(at, place, kind, who=f'10.0.0.{place % 2}') for at, (place, kind) in enumerate(
+            [(1, 'open'), (2, 'open'), (3, 'middle'), (2, 'close'), (4, 'open'), (1, 'close'),
+             (5, 'open')])]
+        clients = History.of_capture(self.FILE, Names(), events).clients
+        self.assertEqual({place: (it.name(), it.open.changes) for place, it in clients.items()}, {
+            1: ('1 (10.0.0.1)', [(0, True), (5, False), (6, True)]),
+            2: ('2 (10.0.0.0)', [(1, True), (3, False), (4, True)]),
+            3: ('3 (10.0.0.1)', [(2, True)])})
+
+    def polled(self, times, every=250, name='D/CSWI1$ST$Pos'):
+        """A session whose client reads the same again and again."""
+        events = [Event(0, 1, 'open', who='10.0.0.1'), Event(0, 1, 'client',
+                                                             stream.connection_request()),
+                  Event(0, 1, 'server', stream.framed(bytes([6, stream.CC, 0, 1, 0, 1, 0])))]
+        for at in range(1, times + 1):
+            value = mms.octets_of(mms.Data(mms.INTEGER, at))
+            answer = element(0xA1, number(2, at), element(0xA4, element(0xA1, value)))
+            events += [Event(every * at, 1, 'client', self.wrapped(mms.read_request(at, [name]))),
+                       Event(every * at + 3, 1, 'server', self.wrapped(answer))]
+        return events
+
+    def test_reads_that_repeat_are_one_bar(self):
+        for times, bars in ((3, []), (4, [(250, 1003, 4)]), (9000, [(250, 2_250_003, 9000)])):
+            history = History.of_capture(self.FILE, Names(), self.polled(times))
+            client = history.clients[1]
+            self.assertEqual([(it.start, it.end, it.count) for it in client.bars()], bars)
+            self.assertEqual(len(client.ticks()), 1 if bars else 1 + 2 * times)
+            picture = draw(history, 'one')
+            self.assertLess(len(picture), 20_000)
+            self.assertEqual(f'{times:,} times: read CSWI1$ST$Pos' in picture, bool(bars))
+            self.assertIn('what 1 client asked, and 0 controls', picture)
+            ET.fromstring(picture)
+
+    def test_a_pause_ends_a_bar(self):
+        history = History.of_capture(self.FILE, Names(), self.polled(9, every=20_000))
+        self.assertEqual(list(history.clients[1].bars()), [])
+        self.assertEqual(len(history.clients[1].ticks()), 19)
+
+    def test_a_read_that_fails_is_told(self):
+        events = self.polled(9)
+        events[-1].octets = self.wrapped(element(0xA1, number(2, 9), element(
+            0xA4, element(0xA1, number(0x80, 3)))))
+        client = History.of_capture(self.FILE, Names(), events).clients[1]
+        self.assertEqual([it.count for it in client.bars()], [9])
+        self.assertIn('object access denied (3)', ' '.join(client.ticks()[2253]))
 
     def test_an_invoke_id_that_is_used_twice(self):
         talk = Conversation(Names())

@@ -103,7 +103,7 @@ class Histories(unittest.TestCase):
         self.assertEqual((history.switches, history.inputs, history.warnings()), ({}, {}, []))
         client = history.clients[1]
         self.assertEqual(client.open.changes, [(DAY, True), (DAY + 9, False)])
-        self.assertIn('a transport connection', client.ticks[DAY + 5][0])
+        self.assertIn('a transport connection', client.ticks()[DAY + 5][0])
 
 
 if __name__ == '__main__':
