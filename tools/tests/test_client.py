@@ -15,7 +15,7 @@ from tests.loopback import needs_loopback, needs_waiting
 from tests.tool import Tools
 from wire import mms, stream
 from wire.ber import Unreadable, element, integer, number
-from wire.client import Client, told
+from wire.client import Client, silence_told, told
 from wire.control import Control
 from wire.identity import own_name
 from wire.mms import BITS, BOOLEAN, INTEGER, TEXT, Data
@@ -144,15 +144,23 @@ class Hostile(Tools):
 
     def test_a_port_that_says_nothing(self):
         self.assertRegex(self.asked(lambda connection: time.sleep(3)),
-                         'port .* of 127.0.0.1: a connection request is not answered: is it the '
-                         'port of the clients')
+                         'port .* of 127.0.0.1: the connection is taken, and a connection request '
+                         'is not answered: it is no port of clients, and none of a supervised '
+                         'process, which is greeted$')
+
+    def test_a_port_of_which_nobody_knows_whether_it_is_taken(self):
+        for is_tls in (False, True):
+            self.assertIn('is it the port of the clients, and are all eight associations taken?',
+                          silence_told(None, is_tls))
+        self.assertIn('are all eight associations taken?', silence_told(True, True))
 
     @needs_waiting
     def test_a_server_that_takes_nobody(self):
         with socket.create_server(('127.0.0.1', 0)) as server:
             found = self.call_tool('client', '--timeout', '0.5', server.getsockname()[1], 'browse')
         self.assertEqual(found.status, 3)
-        self.assertIn('the connection waits, and the server does not take it', found.error)
+        self.assertIn('the connection waits, and what listens there does not take it: a bay\'s '
+                      'server does so while eight associations are open', found.error)
 
     def test_a_server_of_the_web(self):
         told_of_it = self.asked(lambda connection: connection.sendall(b'HTTP/1.1 400 Bad'))

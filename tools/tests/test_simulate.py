@@ -364,6 +364,19 @@ class Waiting(Tools):
             run.waits_for('connected')
             connection.close()
 
+    def test_a_port_that_ends_it_at_the_first_lines(self):
+        """As that of the clients does."""
+        with socket.create_server(('127.0.0.1', 0)) as server:
+            port = server.getsockname()[1]
+            run = self.running(port)
+            for _ in range(2):
+                connection, _ = server.accept()
+                self.assertTrue(connection.recv(4096).startswith(b'0 contact QA1 1'))
+                connection.close()
+            run.waits_for('the connection was lost: the server ends it at the first lines, so port '
+                          f'{port} is not that of a process: is it that of the clients?\n')
+            self.assertNotIn('connected', run.printed())
+
     def test_statuses(self):
         bay = self.file('bay', BAY)
         short, long = self.file('short', 'a' * 31), self.file('long', 'a' * 64 + '\n\n')

@@ -105,13 +105,7 @@ class Client:
             if self.came:
                 raise Lost(f'{what}: it sends {told(self.came)}, and no whole answer to a '
                            'connection request') from None
-            if is_taken(self.socket) is False:
-                raise Lost(f'{what}: the connection waits, and the server does not take it: all '
-                           'eight associations are taken, or this is the port of a process'
-                           ) from None
-            more = ', and are all eight associations taken?' if self.tls else '?'
-            raise Lost(f'{what}: a connection request is not answered: is it the port of the '
-                       f'clients{more}') from None
+            raise Lost(f'{what}: {silence_told(is_taken(self.socket), bool(self.tls))}') from None
 
     def begin(self) -> None:
         """From now on an answer may take its time."""
@@ -300,6 +294,18 @@ def told(octets: bytes) -> str:
     text = first.decode('ascii', 'replace')
     shown = f' ({text!r})' if len(first) > 3 and text.isprintable() and text.isascii() else ''
     return first.hex(' ').upper() + more + shown
+
+
+def silence_told(is_taken_there: bool | None, is_tls: bool) -> str:
+    """What is said of a port on which nothing comes, taken by a program or not, or unknown."""
+    if is_taken_there is False:
+        return ('the connection waits, and what listens there does not take it: a bay\'s server '
+                'does so while eight associations are open; another program may do so too')
+    if is_taken_there and not is_tls:
+        return ('the connection is taken, and a connection request is not answered: it is no port '
+                'of clients, and none of a supervised process, which is greeted')
+    return ('a connection request is not answered: is it the port of the clients, and are all '
+            'eight associations taken?')
 
 
 def connection_told(error: OSError, host: str, port: int) -> str:
