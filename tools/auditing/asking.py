@@ -1,16 +1,16 @@
 """Asks bayctl for what it can prove of rules and of releases: `bayctl audit`. A program that has no
 such command proves nothing."""
-import pathlib
+import functools
 import re
-import subprocess
 import tempfile
+from typing import IO
 
 from bay.rules import SWITCH
 from common.ending import Failed
 from common.texts import raised
 from diagnosis.faults import faults
 from diagnosis.warnings import Proved
-from report.replay import not_run
+from report.bayctl import Ask, is_tried, run
 
 from .answers import Answer, Bad, read
 from .reads import POSITION
@@ -20,16 +20,10 @@ WAYS = ('opened', 'closed')
 DONE, FOUND = 0, 4  # statuses with an answer
 
 
-def run(bayctl, *words) -> subprocess.CompletedProcess:
-    try:
-        return subprocess.run([bayctl, *map(str, words)], stdin=subprocess.DEVNULL,
-                              capture_output=True)
-    except OSError as error:
-        raise not_run(error) from None
-
-
 def can_prove(bayctl) -> bool:
-    """Whether bayctl has the command: its help lists all."""
+    """Whether bayctl has the command: its help lists all. The sources have it."""
+    if is_tried(bayctl):
+        return True
     told = run(bayctl, '--help')
     return re.search(rb'(?m)^ +audit\b', told.stdout + told.stderr) is not None
 
@@ -75,7 +69,15 @@ def proved_of(bayctl, bay, logic, file: dict) -> Proved | None:
 
 def releases_of(bayctl, bay, logic, keys: set) -> Answer | None:
     """What bayctl says of the releases, without any rule; None where it can prove nothing."""
-    with tempfile.TemporaryDirectory() as folder:
-        rules = pathlib.Path(folder) / 'rules'
-        rules.write_text('', encoding='ascii')
-        return answer_of(bayctl, bay, logic, rules, keys)
+    return answer_of(bayctl, bay, logic, no_rules().name, keys)
+
+
+def ask_of_releases(bay: str, logic: str) -> Ask:
+    """What is asked for that."""
+    return Ask(('audit', '--bay', bay, '--logic', logic, '--rules', no_rules().name))
+
+
+@functools.cache
+def no_rules() -> IO[bytes]:
+    """A file of rules that has none, until the tool ends."""
+    return tempfile.NamedTemporaryFile(prefix='rules')

@@ -7,7 +7,8 @@ from collections.abc import Iterator
 
 from common.ending import Failed
 from common.texts import raised
-from report.replay import NotLoaded, not_run
+from report.bayctl import is_tried, not_run, run
+from report.replay import NotLoaded
 
 LARGEST, SHORTEST = 16_777_216, 30  # octets of a scenario, and of the lines of a combination
 LATEST = 4_294_967_295_999  # the last moment that a trace can have
@@ -67,22 +68,29 @@ def timed_scenarios(bay, pairs, offsets) -> Iterator:
 def scans_of(bayctl, octets: bytes) -> Iterator[dict]:
     """What is released at each scan that bayctl prints, as they come: of each switch, by its name
     in upper case, whether it may be opened and closed."""
+    if is_tried(bayctl):
+        done = run(bayctl, 'replay', given=octets)
+        report, *lines = done.stdout.decode('utf-8', 'backslashreplace').splitlines() or ['']
+        if not report.startswith('instructions='):
+            raise Failed(str(NotLoaded(report, done.returncode)))
+        yield from map(releases_of, lines)
+        return
     with tempfile.TemporaryFile() as file:
         file.write(octets)
         file.seek(0)
         try:
-            run = subprocess.Popen([bayctl, 'replay'], stdin=file, stdout=subprocess.PIPE,
-                                   text=True, errors='backslashreplace')
+            running = subprocess.Popen([bayctl, 'replay'], stdin=file, stdout=subprocess.PIPE,
+                                       text=True, errors='backslashreplace')
         except OSError as error:
             raise not_run(error) from None
-    with run:
+    with running:
         try:
-            report = run.stdout.readline()
+            report = running.stdout.readline()
             if not report.startswith('instructions='):
-                raise Failed(str(NotLoaded(report, run.wait())))
-            yield from map(releases_of, run.stdout)
+                raise Failed(str(NotLoaded(report, running.wait())))
+            yield from map(releases_of, running.stdout)
         finally:
-            run.kill()
+            running.kill()
 
 
 def releases_of(line: str) -> dict:

@@ -1,7 +1,5 @@
 """A scenario and what bayctl printed for it, step by step."""
-import pathlib
 import re
-import subprocess
 import sys
 from collections.abc import Iterator
 from dataclasses import dataclass, field
@@ -13,8 +11,8 @@ from common.texts import raised
 from diagnosis.trace import Known, number_of
 from wire.conversation import Conversation, replies_to, report_in
 
-TOP = pathlib.Path(__file__).resolve().parent.parent.parent
-BAYCTL = TOP / 'crates' / 'bayctl' / 'out' / 'bayctl'
+from .bayctl import run
+
 LATEST = 4_294_967_295_999
 REASONS = {110: 'earlier than the last event', 111: 'no such association, or it is not open',
            112: 'the association is open already', 113: 'no such switch, input or meter',
@@ -198,12 +196,6 @@ def parts_of(octets) -> tuple:
     return parts[0].removeprefix('\ufeff'), parts[1], lines
 
 
-def not_run(error: OSError) -> Failed:
-    """Why a program was not run, and where bayctl comes from."""
-    return Failed(f'{error.filename}: {error.strerror}; `rt run` in crates/bayctl builds bayctl, '
-                  'and --bayctl names another')
-
-
 class NotLoaded(Failed):
     """bayctl printed no line of a load: it refuses the load, or something else went wrong."""
 
@@ -225,8 +217,7 @@ def replayed(octets: bytes | None, bayctl, report=None) -> tuple[str, int]:
             raise Failed('standard input: it is closed')
         found = sys.stdin.buffer.read() if str(report) == '-' else octets_of(report)
         return found.decode('utf-8', 'backslashreplace'), 0
-    try:
-        run = subprocess.run([bayctl, 'replay'], input=octets, stdout=subprocess.PIPE)
-    except OSError as error:
-        raise not_run(error) from None
-    return run.stdout.decode('utf-8', 'backslashreplace'), run.returncode
+    found = run(bayctl, 'replay', given=octets)
+    if sys.stderr:
+        sys.stderr.write(found.stderr.decode('utf-8', 'backslashreplace'))
+    return found.stdout.decode('utf-8', 'backslashreplace'), found.returncode
