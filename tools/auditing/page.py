@@ -1,5 +1,4 @@
 """The report of an audit: one page of HTML that needs no other file, to be printed and signed."""
-import hashlib
 import pathlib
 import re
 
@@ -7,9 +6,10 @@ from bay.names import UNIT
 from bay.rules import MEASURE
 from common import moments
 from common.ending import DONE
-from common.html_page import code, escaped, page, table
+from common.html_page import A4, code, escaped, page, signatures, sum_of, table
 from common.texts import counted
 from diagram.drawing import draw
+from report.bayctl import is_tried
 
 from . import proving, verdicts
 from .judging import released, uncovered
@@ -26,40 +26,6 @@ WIDTH = 672  # of the matrix, in pixels: that of a page of A4
 PROVED = ('<b>Proved</b>: bayctl runs the verified program with values that stand for all. What is '
           'proved of a rule holds in every scan, from every state of the program and with every '
           'value of the bay, whatever its clients do.')
-STYLE = '''
-@page { size: A4; margin: 16mm 15mm 18mm;
-  @bottom-right { content: counter(page) " / " counter(pages); font: 8pt sans-serif; color: #555 }
-  @bottom-left { content: "%s"; font: 8pt sans-serif; color: #555 } }
-* { box-sizing: border-box }
-body { font: 10pt/1.4 "DejaVu Sans", Verdana, Helvetica, Arial, sans-serif; color: #1a1a1a;
-  max-width: 190mm; margin: 0 auto; padding: 6mm; -webkit-print-color-adjust: exact;
-  print-color-adjust: exact }
-@media print { body { padding: 0; max-width: none; font-size: 9pt } }
-h1 { font-size: 17pt; margin: 0 0 1mm } h2 { font-size: 12pt; margin: 7mm 0 2mm;
-  border-bottom: 1px solid #999; padding-bottom: 1mm; break-after: avoid }
-h2 + p { break-after: avoid } p { margin: 1.5mm 0 }
-table { border-collapse: collapse; width: 100%% }
-th, td { text-align: left; vertical-align: top; padding: 1mm 2mm 1mm 0;
-  border-bottom: 1px solid #ddd } tr { break-inside: avoid } thead { display: table-header-group }
-th { font-weight: bold } td.number, th.number { text-align: right }
-td.number { white-space: nowrap }
-code { font-family: "DejaVu Sans Mono", Consolas, monospace; font-size: 0.92em;
-  overflow-wrap: anywhere } td.name { white-space: nowrap }
-.verdict { border: 2px solid; padding: 1mm 4mm; margin: 4mm 0; font-size: 12pt; font-weight: bold }
-.verdict .plain { font-size: 10pt; font-weight: normal }
-.good { color: #1b5e20 } .bad { color: #b3261e } .mark { font-weight: bold; white-space: nowrap }
-.quiet { color: #555 } .figure { break-inside: avoid; overflow-x: auto }
-@media print { .figure svg { max-width: 100%%; height: auto } }
-.figure svg.diagram { max-width: 100%%; height: auto }
-.sign { break-inside: avoid; margin-top: 4mm }
-.sign table { width: calc(100%% - 2px); margin: 1px }
-.sign td { height: 14mm; border: 1px solid #777; padding: 1mm 2mm; width: 25%% }
-.sign th { border: 1px solid #777; padding: 1mm 2mm; background: #f1f1f1 }
-'''
-
-
-def sum_of(octets) -> str:
-    return hashlib.sha256(octets).hexdigest()
 
 
 def version() -> str:
@@ -92,9 +58,9 @@ class Report:
     def page(self) -> str:
         bay = self.bay.file['bay']
         title = f'Audit of the interlocking of bay {bay["domain"]}'
-        style = STYLE % f'Bay {bay["domain"]}, {self.day}'
+        style = A4 % f'Bay {bay["domain"]}, {self.day}'
         parts = [f'<h1>{escaped(title)}</h1>', self.verdict(), self.what_was_read(),
-                 self.signatures(), self.how(), self.rules(), self.diagram(), self.conditions(),
+                 signatures(), self.how(), self.rules(), self.diagram(), self.conditions(),
                  self.lost(), self.uncovered(), self.matrix()]
         return page(title, style, parts)
 
@@ -104,6 +70,9 @@ class Report:
         more = [f'Restricted in what was tried: {it}.' for it in verdicts.restrictions(self.audit)]
         if self.audit.answer is None:
             more.append('Nothing is proved: this bayctl has no command audit, so all was tried.')
+        if is_tried(self.bayctl):
+            more.append('The sources of bayctl were run, without proof: what is proved here rests '
+                        'on a program that is not.')
         return (f'<div class="verdict {kind}"><p>{escaped(verdicts.verdict(self.audit))}</p>'
                 + ''.join(f'<p class="plain">{escaped(it)}</p>' for it in more) + '</div>')
 
@@ -228,8 +197,3 @@ class Report:
         return ('<h2>Matrix</h2><p class="quiet">In how many of the combinations that were tried '
                 'with a position or value each release is given; a column is empty where the '
                 f'release does not depend on it.</p>{parts}')
-
-    def signatures(self) -> str:
-        rows = [(who, '', '', '') for who in ('Tested by', 'Checked by', 'Accepted by')]
-        return ('<div class="sign"><h2>Signatures</h2>'
-                + table(['', 'Name', 'Date', 'Signature'], rows) + '</div>')

@@ -15,6 +15,7 @@ from bay.rules import (INPUT, MEASURE, SWITCH, BadOption, BadRule, Look, held, l
                        read_looks, read_rules, time_of, value_of)
 from common.ending import CalledWrong
 from picture.svg import SMALL
+from report.bayctl import TRY
 from tests.tool import Tools, zone
 
 FILE = {'bay': {'domain': 'E1', 'vendor': 'V', 'model': 'M', 'revision': '1'},
@@ -389,6 +390,11 @@ class Pictures(unittest.TestCase):
         self.assertLess(page.index('Signatures'), page.index('what was tried</h2>'))
         timed = Report(audited(UNTIL), files, __file__, 0).page()
         self.assertNotIn('is not audited', timed)
+
+    def test_a_report_of_sources_that_are_not_proved(self):
+        for program, is_told in ((__file__, False), (TRY, True)):
+            page = Report(audited('always QA1 open'), {}, program, 0).page()
+            self.assertEqual('rests on a program that is not.' in page, is_told)
 
     def test_a_report_of_what_is_broken(self):
         page = Report(audited('never QA1 open\n'), {}, __file__, 0).page()

@@ -3,7 +3,6 @@ import http.client
 import json
 import pathlib
 import queue
-import re
 import signal
 import socket
 import subprocess

@@ -1,0 +1,1 @@
+"""A factory acceptance test: its steps, the bay that they are done at, and its page."""
