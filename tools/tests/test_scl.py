@@ -1,5 +1,6 @@
 """The SCL file of a bay: its elements in the order of the schema, and the names that it tells."""
 import pathlib
+import re
 import sys
 import tomllib
 import unittest
@@ -13,14 +14,42 @@ from tests.tool import Tools
 from wire.words import CONTROL_NODES, NODES, nodes_of
 
 BAYS = sorted((TOOLS.parent / 'examples').glob('*/bay.toml'))
+CASES = TOOLS.parent / 'crates' / 'layer_cases' / 'stdin'
 ORDER = {  # IEC 61850-6: the children of an element, in their order
-    'SCL': ['Header', 'Communication', 'IED', 'DataTypeTemplates'],
+    'SCL': ['Header', 'Substation', 'Communication', 'IED', 'DataTypeTemplates'],
+    'Substation': ['VoltageLevel'], 'VoltageLevel': ['Voltage', 'Bay'],
+    'Bay': ['ConductingEquipment', 'ConnectivityNode'], 'ConductingEquipment': ['Terminal'],
+    'Communication': ['SubNetwork'], 'SubNetwork': ['BitRate', 'ConnectedAP'],
+    'ConnectedAP': ['Address'], 'Address': ['P'],
     'IED': ['Services', 'AccessPoint'], 'AccessPoint': ['Server'],
-    'Server': ['Authentication', 'LDevice'], 'LDevice': ['LN0', 'LN'],
+    'Services': ['DynAssociation', 'GetDirectory', 'GetDataObjectDefinition', 'ReadWrite'],
+    'Server': ['Authentication', 'LDevice'], 'LDevice': ['LN0', 'LN', 'AccessControl'],
     'LN0': ['DOI'], 'LN': ['DOI'], 'DOI': ['DAI'], 'DAI': ['Val'],
     'DataTypeTemplates': ['LNodeType', 'DOType', 'DAType', 'EnumType'],
-    'LNodeType': ['DO'], 'DOType': ['SDO', 'DA'], 'DAType': ['BDA'], 'EnumType': ['EnumVal']}
-
+    'LNodeType': ['DO'], 'DOType': ['SDO', 'DA'], 'DAType': ['BDA'], 'EnumType': ['EnumVal'],
+    **dict.fromkeys(('Header', 'Authentication', 'P', 'DO', 'SDO', 'DA', 'BDA', 'Val', 'EnumVal',
+                     'DynAssociation', 'GetDirectory', 'GetDataObjectDefinition', 'ReadWrite'), ())}
+NAMED, SOME = '[A-Za-z][A-Za-z0-9_]{0,63}', r'\S.*'
+WORD = '[A-Za-z0-9][A-Za-z0-9_]{0,31}'
+NEEDED = {  # the attributes that an element must have, and their form
+    'Header': {'id': SOME, 'nameStructure': 'IEDName'}, 'SubNetwork': {'name': SOME},
+    'ConnectedAP': {'iedName': NAMED, 'apName': WORD}, 'P': {'type': SOME},
+    'IED': {'name': NAMED, 'manufacturer': SOME}, 'AccessPoint': {'name': WORD},
+    'LDevice': {'inst': '[A-Za-z0-9][A-Za-z0-9_]{0,63}'},
+    'LN0': {'lnClass': 'LLN0', 'inst': '', 'lnType': SOME},
+    'LN': {'lnClass': '[A-Z]{4}', 'inst': '[0-9]{1,12}', 'lnType': SOME},
+    'DOI': {'name': '[A-Z][A-Za-z0-9]{0,11}'}, 'DAI': {'name': '[a-zA-Z][A-Za-z0-9]{0,59}'},
+    'LNodeType': {'id': SOME, 'lnClass': 'LLN0|[A-Z]{4}'}, 'DOType': {'id': SOME, 'cdc': '[A-Z]+'},
+    'DO': {'name': '[A-Z][A-Za-z0-9]{0,11}', 'type': SOME},
+    'SDO': {'name': '[a-z][A-Za-z0-9]{0,59}', 'type': SOME},
+    'DA': {'name': '[a-zA-Z][A-Za-z0-9]{0,59}', 'fc': 'ST|MX|CO|CF|DC', 'bType': SOME},
+    'DAType': {'id': SOME}, 'BDA': {'name': '[a-zA-Z][A-Za-z0-9]{0,59}', 'bType': SOME},
+    'EnumType': {'id': SOME}, 'EnumVal': {'ord': '-?[0-9]+'}}
+LEAVES = {  # the type that a client sees of a row, by the kind of its value in the cases
+    'Truth': 'boolean', 'Int8': 'integer 8', 'Int32': 'integer 32', 'Unsigned8': 'unsigned 8',
+    'Unsigned32': 'unsigned 32', 'Dbpos': 'bit-string 2', 'Quality': 'bit-string 13',
+    'Utc': 'utc-time', 'Octets': 'octet-string -64', 'Reference': 'visible-string -129',
+    'Text': 'visible-string -255'}
 
 def written(bay, edition=2):
     file = tomllib.loads(bay.read_text())
@@ -33,7 +62,67 @@ def names(shape):
     return {name: names(part) if isinstance(part, dict) else None for name, part in shape.items()}
 
 
+def rows(shape, above=''):
+    """The names below a shape in their order, each with its type, or None where more stand below
+    it."""
+    for name, part in shape.items():
+        is_more = isinstance(part, dict)
+        yield above + name, None if is_more else part
+        yield from rows(part, f'{above}{name}$') if is_more else ()
+
+
+def worked():
+    """Bay files with the rows that the cases give them: names with types."""
+    file = ''
+    for part in ('\n' + CASES.read_text(encoding='utf-8')).split('\n== '):
+        kind, *lines = part.split('\n')
+        if kind == 'bay':
+            file = '\n'.join(lines)
+        elif kind == 'rows':
+            yield file, [row_of(line) for line in lines if line and line[0] != '#']
+
+
+def row_of(line):
+    name, _, value = line.partition(' ')
+    return name, None if value == 'None' else LEAVES[re.match(r'Some\((\w+)\(', value)[1]]
+
+
 class Scl(Tools):
+    def test_it_tells_the_rows_of_the_cases(self):
+        cases = list(worked())
+        self.assertTrue(cases)
+        for file, wanted in cases:
+            for words in ([], ['--edition', '1', '--ied', 'BAY']):
+                found = self.call_tool('scl', self.file('bay.toml', file), *words)
+                self.assertEqual(found.status, 0, found.error)
+                told = Reader(found.out)
+                self.assertEqual(told.domain(), 'BAY1')
+                self.assertEqual(list(rows(told.nodes())), wanted)
+
+    def test_bays_that_are_refused(self):
+        text = BAYS[0].read_text(encoding='utf-8')
+        first, second = re.findall(r'^id *= "(\w+)"', text, re.M)[:2]
+        for odd, code, told in (
+                (text + '[[oddity]]\n', 52, 'section oddity: there is no section oddity'),
+                (text.replace(f'"{second}"', f'"{first}"', 1), 54,
+                 f'would both have a point {first}_POS'),
+                (re.sub('^vendor.*', 'vendor = "M\u00fcller"', text, flags=re.M), 53,
+                 "[bay], key vendor: the character '\u00fc' is not from space to ~"),
+                (re.sub('^kind', 'sort', text, flags=re.M), 52, 'there is no key sort here'),
+                ('', 51, 'the section [bay] is missing')):
+            found = self.call_tool('scl', self.file('bay.toml', odd))
+            self.assertEqual((found.status, found.out, found.error.count('\n')), (1, '', 1))
+            self.assertIn(f'bay.toml is refused with {code}: ', found.error)
+            self.assertIn(told, found.error)
+
+    def test_attributes_are_those_of_the_schema(self):
+        for bay in BAYS:
+            for edition in (1, 2):
+                for element in ET.fromstring(written(bay, edition)).iter():
+                    name = Reader.bare(element)
+                    for key, form in NEEDED.get(name, {}).items():
+                        self.assertRegex(element.get(key, 'none'), f'^(?:{form})$', f'{name} {key}')
+
     def test_elements_stand_in_the_order_of_the_schema(self):
         for bay in BAYS:
             for edition in (1, 2):
@@ -42,7 +131,7 @@ class Scl(Tools):
                 for element in root.iter():
                     name = Reader.bare(element)
                     found = [ORDER[name].index(Reader.bare(child)) for child in element
-                             if name in ORDER]
+                             if Reader.bare(child)]
                     self.assertEqual(found, sorted(found), f'{bay}: {name}')
 
     def test_nodes_have_the_names_that_the_tools_know(self):
