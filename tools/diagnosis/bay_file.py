@@ -7,6 +7,7 @@ from collections.abc import Iterator
 from bay.files import WIDE, encoding_told
 from common.texts import raised
 
+from .dialects import quote_told
 from .language import FIELDS, RESERVED
 from .place import Place, near
 
@@ -74,6 +75,9 @@ def toml_place(place: Place, text: str) -> Place:
             'save the file with lines that end with LF or CR LF')
     elif '//' in line and place.start == line.find('//'):
         place.told, place.mend = 'a key can\'t begin with //', 'begin a comment with #'
+    elif quote := quote_told(line, min(place.start or 0, open_quote(line) or LONGEST)):
+        place.start, place.told, place.mend = quote
+        place.end = place.start + 1
     elif (opened := open_quote(line)) is not None and '"""' not in line and "'''" not in line:
         place.told, place.start = 'this quote is not closed on its line', opened
         place.end, place.mend = opened + 1, 'put a quote at the end of the text'

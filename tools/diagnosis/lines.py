@@ -1,6 +1,7 @@
 """A program line by line: what each line is, and why one can't stand where it does."""
 from dataclasses import dataclass, field
 
+from .dialects import operator_told, truth_told
 from .language import ALONE, COMBINES, JUMPS, LOADS, OPERATORS, RETURNS, STORES, TIMERS, TYPES
 from .place import Place, near
 from .tokens import Token, is_operator, lines_of
@@ -174,8 +175,7 @@ class Reader:
             if kind in TIMERS:
                 raise Misplaced('a timer can\'t have an initial value', rest[2])
             if len(rest) < 4 or rest[3].kind != 'literal':
-                raise Misplaced('a literal must follow :=',
-                                rest[3] if len(rest) > 3 else rest[2])
+                raise self.no_literal(rest)
             initial, at = rest[3], 4
         if initial and self.block[0] == 'VAR_EXTERNAL':
             raise Misplaced('a point of the bay can\'t have an initial value', rest[2])
@@ -185,6 +185,13 @@ class Reader:
         if len(rest) > at + 1:
             raise Misplaced('each declaration has a line of its own', rest[at + 1])
         return kind, initial
+
+    def no_literal(self, rest) -> Misplaced:
+        """Why no initial value stands behind :=."""
+        if len(rest) < 4:
+            return Misplaced('a literal must follow :=', rest[2])
+        told, mend = truth_told(rest[3].text) or ('a literal must follow :=', '')
+        return Misplaced(told, rest[3], (), mend)
 
     def body(self, number, tokens) -> None:
         if self.state == 'head':
@@ -203,11 +210,14 @@ class Reader:
         if any(token.means(*TYPES, *TIMERS) for token in tokens[1:]):
             return Misplaced('a declaration must be between VAR and END_VAR, before the first '
                              'instruction', first)
-        if len(tokens) > 1 and tokens[1].text == '(':
+        if len(tokens) > 2 and tokens[1].text == '(':
             return Misplaced(f'{first.text} is not an operator: a timer is called by CAL, as '
                              f'CAL {first.text}(IN := a, PT := T#5s)', first)
         if len(tokens) > 1 and tokens[1].text == ':':
             return Misplaced('only an instruction may follow a label', tokens[2])
+        other = operator_told(first.text, [token.text for token in tokens[1:]])
+        if other:
+            return Misplaced(other[0], first, (), other[1])
         return Misplaced(f'{first.text} is not an operator{near(first.text, OPERATORS)} (a '
                          'label has a : after it)', first)
 

@@ -2,6 +2,7 @@
 size once it is compiled."""
 from dataclasses import dataclass, field
 
+from .dialects import truth_told
 from .language import COMBINES, CONVERTS, JUMPS, LOADS, NUMBERS, RETURNS, STORES, TIMERS, TYPES
 from .lines import read
 from .place import Place, near
@@ -63,6 +64,8 @@ class Checker:
         if kind:
             self.note(70, line, f'{token.text} is a point of the bay, but not declared', token, (),
                       f'add it to VAR_EXTERNAL: {token.text} : {kind};')
+        elif other := truth_told(token.text):
+            self.note(70, line, other[0], token, (), other[1])
         else:
             told = f'{token.text} is not declared{meant(token.upper, self.names, self.points)}'
             self.note(70, line, told, token)

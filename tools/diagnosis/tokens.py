@@ -108,6 +108,8 @@ def odd_told(character) -> tuple[str, str]:
     if ord(character) > 126 or ord(character) < 32:
         told = f'the character {character!r} (U+{ord(character):04X}) is not ASCII'
         return f'{told}, so it may only be in a comment', 'use ASCII, or put it in a comment'
+    if character == '=':
+        return '= is no operator: ST stores the result, EQ compares it', 'write ST or EQ'
     if character in '+-':
         told = 'a sign must be directly before the first digit of a number'
         return told, 'remove what is between the sign and the digit'
@@ -126,6 +128,9 @@ def word_token(text, start) -> 'Token':
         told = told if len(text) > 64 else ''
         return Token('bad' if told else 'name', text, start, told)
     kind, held = literal_of(upper)
+    if kind == 'bad' and duration_of(upper)[0] != 'bad':
+        return Token('bad', text, start, f'{text} is a duration, which begins with T#',
+                     mend=f'write T#{text}')
     if isinstance(held, str):
         return Token(kind, text, start, held)
     return Token(kind, text, start, literal=held)

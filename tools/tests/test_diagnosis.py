@@ -199,6 +199,14 @@ class Bays(unittest.TestCase):
         self.assertEqual(bay_file.open_quote('a = "b\\"" # "'), None)
         self.assertEqual(bay_file.open_quote('a = \'b\' "c'), 8)
 
+    def test_quotes_that_are_typographic(self):
+        for text, quote in ((FILE.replace('"B"', '\u201cB\u201d'), '\u201c (U+201C)'),
+                            (FILE.replace('"B"', '"B\u201d'), '\u201d (U+201D)'),
+                            (FILE.replace('"B"', '\u201eB\u201c'), '\u201e (U+201E)')):
+            self.assertEqual(first_told(text), (50, f'{quote} is not the quote of TOML',
+                                                'write " before and behind the text'))
+        self.assertIsNone(first_told(FILE + '# \u201cB\u201d\n'))
+
     def test_more_than_the_first(self):
         text = FILE.replace('"direct"', '"Status"').replace('"1"', '1')
         self.assertEqual([it.code for it in bay_file.refusals(text.encode())], [53, 53, 53])
@@ -248,6 +256,37 @@ class Programs(unittest.TestCase):
             found = lines.placed(head + line + '\nEND_PROGRAM\n', 5)
             self.assertIn(told, found.told)
             self.assertIn(mend, found.mend)
+
+    def test_words_of_other_dialects(self):
+        head = HEAD.format('a, b : BOOL;')
+        for line, told, mend in (
+                ('U SF6_OK', 'U is an operator of another dialect: here it is AND',
+                 'write AND SF6_OK'),
+                ('on a', 'on is an operator of another dialect: here it is ORN', 'write ORN a'),
+                ('U(', 'here it is AND', 'write AND ('), ('BEA', 'here it is RET', 'write RET'),
+                ('SET', 'here it is LD TRUE', 'write LD TRUE'),
+                ('= a', '= is no operator: ST stores the result', 'write ST or EQ'),
+                ('b := TRUE;', 'is Structured Text', 'write LD TRUE, and ST b on the next line'),
+                ('b := a AND c;', 'is Structured Text',
+                 'write its value by LD and operators, and ST b on the next line'),
+                ('IF a THEN', 'IF is a word of Structured Text',
+                 'use JMPC, JMP and labels, or AND and OR of the conditions')):
+            found = lines.placed(head + line + '\nEND_PROGRAM\n', 5)
+            self.assertEqual((told in found.told, found.mend), (True, mend), found.told)
+        found = lines.placed(HEAD.format('a : BOOL := WAHR;') + 'END_PROGRAM\n', 3)
+        self.assertEqual((found.told, found.mend), (
+            'WAHR is not a word of the language: here it is TRUE', 'write TRUE'))
+        fault = program.faults_of(head + 'LD wahr\nST a\nEND_PROGRAM\n', None)[0]
+        self.assertEqual((fault.code, fault.mend), (70, 'write TRUE'))
+
+    def test_a_duration_without_its_beginning(self):
+        text = HEAD.format('t1 : TON;\na : BOOL;') + 'CAL t1(IN := a, PT := 10s)\nEND_PROGRAM\n'
+        found = lines.placed(text, 6)
+        self.assertEqual((found.told, found.mend, found.start),
+                         ('10s is a duration, which begins with T#', 'write T#10s', 22))
+        self.assertEqual(tokens.word_token('1h_30m', 0).mend, 'write T#1h_30m')
+        self.assertEqual(tokens.word_token('10', 0).literal.value, 10)
+        self.assertEqual(tokens.word_token('5x', 0).told, 'X is not a digit of base 10')
 
     def test_carriage_returns_and_marks(self):
         text = HEAD.format('a : BOOL;') + 'END_PROGRAM\n'
