@@ -64,9 +64,7 @@ function row(it) {
   head.append(button);
   const place = element('td', it.position === 'bad' ? 'place bad' : 'place', positionOf(it));
   place.append(element('span', 'why', qualityOf(it) + (it.selected ? ', selected' : '')));
-  found.append(head, place, wayCell(it, 'open'));
-  if (it.control === 'status') found.lastChild.colSpan = 2;
-  else found.append(wayCell(it, 'close'));
+  found.append(head, place, wayCell(it, 'open'), wayCell(it, 'close'));
   return found;
 }
 

@@ -10,9 +10,9 @@ function element(name, kind, text) {
   return found;
 }
 
+// A switch without control is moved by hand: what is released of it goes to its blocking magnet.
 function may(it, way) {
-  const done = way === 'open' ? 'opened' : 'closed';
-  if (it.control === 'status') return {free: false, told: 'moved by hand only', why: ''};
+  const done = (way === 'open' ? 'opened' : 'closed') + (it.control === 'status' ? ' by hand' : '');
   if (it[way].free) return {free: true, told: `✓ may be ${done}`, why: ''};
   return {free: false, told: `✕ may not be ${done}`, why: it[way].why};
 }

@@ -27,8 +27,7 @@ function switchRow(it) {
     place.append(element('span', 'why', more.filter(Boolean).join(', ')));
   }
   const releases = element('td', 'releases');
-  const ways = ['open', 'close'].map((way) => may(it, way));
-  for (const found of it.control === 'status' ? ways.slice(0, 1) : ways) {
+  for (const found of ['open', 'close'].map((way) => may(it, way))) {
     releases.append(element('span', found.free ? 'way free' : 'way', found.told));
   }
   row.append(head, place, releases);

@@ -3,6 +3,8 @@ import http.client
 import json
 import pathlib
 import queue
+import re
+import shutil
 import signal
 import socket
 import subprocess
@@ -328,6 +330,24 @@ class Events(unittest.TestCase):
         self.assertEqual(self.told((True, True), (False, False)),
                          ['may no longer be opened or closed'])
         self.assertEqual(self.told((True, False), (True, False)), [])
+
+
+class Told(unittest.TestCase):
+    """What the pages say of a switch, where node is there to run their script."""
+    ASKED = ("console.log(JSON.stringify(['open', 'close'].map((way) => may("
+             "{control: process.argv[1], open: {free: true, why: ''}, "
+             "close: {free: false, why: 'W'}}, way))));")
+
+    @unittest.skipUnless(shutil.which('node'), 'there is no node')
+    def test_releases_of_a_switch_that_is_moved_by_hand(self):
+        script = (TOOLS / 'live' / 'shown.js').read_text(encoding='utf-8').partition('const byId')
+        for control, more in (('status', ' by hand'), ('sbo', '')):
+            done = subprocess.run(
+                ['node', '-e', f'const byId{script[2]}\n{self.ASKED}', control],
+                capture_output=True, check=True)
+            self.assertEqual(json.loads(done.stdout), [
+                {'free': True, 'told': f'\u2713 may be opened{more}', 'why': ''},
+                {'free': False, 'told': f'\u2715 may not be closed{more}', 'why': 'W'}])
 
 
 @needs_loopback
