@@ -320,11 +320,20 @@ def is_derived(audit: Audit) -> bool:
 
 
 def uncovered(audit: Audit) -> dict | None:
-    """The least condition under which something is released that no rule asks for; and how often,
-    by each switch and way. None where not all was tried."""
+    """The least condition under which something is released that no rule asks for, by each switch
+    and way: by the cases that bayctl proves, or by what was tried, with how often. None where
+    nothing is proved and not all was tried."""
     if 'uncovered' not in audit.kept:
-        audit.kept['uncovered'] = found_uncovered(audit) if is_derived(audit) else None
+        audit.kept['uncovered'] = (
+            proved_uncovered(audit) if audit.answer else
+            found_uncovered(audit) if is_derived(audit) else None)
     return audit.kept['uncovered']
+
+
+def proved_uncovered(audit: Audit) -> dict:
+    found = conditions(audit.answer, audit.bay.file,
+                       [it.rule for it in audit.findings if it.rule.wanted])
+    return {key: (None, it) for key, it in found.items() if it is None or not it.is_never()}
 
 
 def found_uncovered(audit: Audit) -> dict:
@@ -333,8 +342,7 @@ def found_uncovered(audit: Audit) -> dict:
     def is_bare(name, way, combination, seen) -> bool:
         state = audit.bay.state(combination)
         is_so = seen[name][way] and not any(
-            rule.switch == name and way in rule.ways and rule.condition(state)
-            and (not rule.since or rule.since.condition(state)) for rule in rules)
+            rule.switch == name and way in rule.ways and rule.asks(state) for rule in rules)
         counts[name, way] = counts.get((name, way), 0) + is_so
         return is_so
 

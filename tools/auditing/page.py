@@ -179,15 +179,19 @@ class Report:
                 + table(['!Switch', *WAYS], rows) + warnings)
 
     def uncovered(self) -> str:
-        bare = uncovered(self.audit)
-        lead = ('<h2>Releases that no rule covers</h2><p class="quiet">What was released, as '
-                'tried, and no rule with <code>always</code> asks for.</p>')
+        bare, is_proved = uncovered(self.audit), self.audit.answer is not None
+        how = 'is released, as proved,' if is_proved else 'was released, as tried,'
+        lead = (f'<h2>Releases that no rule covers</h2><p class="quiet">What {how} and no rule '
+                'with <code>always</code> asks for.</p>')
         if bare is None:
             return lead + '<p>Not known: not all combinations were tried.</p>'
-        rows = [(f'<b>{escaped(name)}</b> {WAYS[way]}', f'{count:,}', product_list(it))
+        if not bare:
+            return lead + '<p>None: each release is asked for by a rule.</p>'
+        heads = ['!Release', 'when', *([] if is_proved else ['#Combinations'])]
+        rows = [(f'<b>{escaped(name)}</b> {WAYS[way]}', product_list(it),
+                 *([] if is_proved else [f'{count:,}']))
                 for (name, way), (count, it) in bare.items()]
-        return lead + (table(['!Release', '#Combinations', 'when'], rows) if rows else
-                       '<p>None: each release is asked for by a rule.</p>')
+        return lead + table(heads, rows)
 
     def matrix(self) -> str:
         if not self.audit.is_whole():

@@ -1,10 +1,11 @@
 """What bayctl proves, for those who read an audit: scenarios of cases that break a rule, and the
 least condition of each release by its cases."""
+from collections.abc import Iterable, Iterator
 from dataclasses import dataclass, field
 
 from bay.conditions import Condition, TooLarge, Variable
-from bay.cubes import condition_of
-from bay.rules import INPUT, MEASURE, SWITCH
+from bay.cubes import EXACT, condition_of, products_of, without
+from bay.rules import INPUT, MEASURE, SWITCH, Rule
 from common.ending import Failed
 from common.positions import POSITIONS
 from common.texts import raised
@@ -79,41 +80,75 @@ class Derived:
         return found + [f'{line} (hangs on {", ".join(kept)})'
                         for kept, condition in self.hanging for line in condition.lines()]
 
+    def is_never(self) -> bool:
+        """Whether it is given nowhere."""
+        return not self.condition.products and not self.hanging
 
-def variable_of(thing: Thing, cases: list[Case]) -> Variable:
-    """A thing with the values between which some cases tell."""
+
+def variable_of(thing: Thing, cases: list[Case], rules: list[Rule]) -> Variable:
+    """A thing with the values between which some cases and rules tell."""
     if thing.kind == SWITCH:
         return Variable(thing.name, POSITIONS)
     if thing.kind == INPUT:
         return Variable(thing.name, ('0', '1'), True)
     ranges = [it for case in cases for it in case.values.get(thing.key, ())]
+    ranges += [(it, it) for rule in rules for it in rule.constants.get(thing.key, ())]
     begins = sorted({LEAST, *(least for least, _ in ranges),
                      *(most + 1 for _, most in ranges if most < MOST)})
     found = tuple(zip(begins, [*(begin - 1 for begin in begins[1:]), MOST]))
     return Variable(thing.name, tuple(range_told(thing, *it) for it in found), ranges=found)
 
 
+def firsts_of(variable: Variable) -> list[int]:
+    """The least number of each value."""
+    return [least for least, _ in variable.ranges] or list(range(len(variable.values)))
+
+
 def cube_of(case: Case, things: list[Thing], variables: list[Variable]) -> tuple:
     """The values that a case allows of each variable, as bits."""
-    found = []
-    for thing, variable in zip(things, variables):
-        firsts = [least for least, _ in variable.ranges] or range(len(variable.values))
-        found.append(sum(case.allows(thing.key, value) << at for at, value in enumerate(firsts)))
-    return tuple(found)
+    return tuple(sum(case.allows(thing.key, value) << at
+                     for at, value in enumerate(firsts_of(variable)))
+                 for thing, variable in zip(things, variables))
 
 
-def derived(release: Release, bay_file: dict) -> Derived:
-    """When a release is given, by its cases."""
-    things = [thing for thing in all_things(bay_file)
-              if any(thing.key in case.values for case in release.cases)]
-    variables = [variable_of(thing, release.cases) for thing in things]
+def asking(rule: Rule, values: dict[tuple, list[int]], state: dict) -> Iterator[dict]:
+    """The states in which a rule asks for what it names, each as far as the rule looks at it."""
+    try:
+        if rule.asks(state):
+            yield state
+    except KeyError as unknown:
+        key = unknown.args[0]
+        for value in values[key]:
+            yield from asking(rule, values, state | {key: value})
+
+
+def asked_cubes(rule: Rule, things: list[Thing], variables: list[Variable]) -> list[tuple]:
+    """Where a rule asks for what it names, as cubes; TooLarge where these are too many."""
+    values = {thing.key: firsts_of(it) for thing, it in zip(things, variables)}
+    cubes = []
+    for state in asking(rule, values, {}):
+        cubes.append(tuple(sum((state.get(thing.key, value) == value) << at
+                               for at, value in enumerate(values[thing.key])) for thing in things))
+        if len(cubes) > EXACT:
+            raise TooLarge
+    return products_of(cubes, [len(it.values) for it in variables])[0]
+
+
+def derived(release: Release, bay_file: dict, rules: list[Rule]) -> Derived:
+    """When a release is given, by its cases, and none of the rules asks for it."""
+    named = {key for case in release.cases for key in case.values}
+    named |= {key for rule in rules for key in rule.names}
+    things = [thing for thing in all_things(bay_file) if thing.key in named]
+    variables = [variable_of(thing, release.cases, rules) for thing in things]
+    asked = [cube for rule in rules for cube in asked_cubes(rule, things, variables)]
 
     def condition(kept: tuple) -> Condition:
         cubes = [cube_of(case, things, variables) for case in release.cases if case.kept == kept]
-        return condition_of(variables, cubes)
+        return condition_of(variables, without(cubes, asked))
 
     groups = dict.fromkeys(case.kept for case in release.cases if case.kept)
-    return Derived(condition(()), [(kept, condition(kept)) for kept in groups])
+    hanging = [(kept, condition(kept)) for kept in groups]
+    return Derived(condition(()), [it for it in hanging if it[1].products])
 
 
 def lost_table(answer: Answer | None, bay_file: dict) -> list[tuple[str, str, str]]:
@@ -125,14 +160,16 @@ def lost_table(answer: Answer | None, bay_file: dict) -> list[tuple[str, str, st
             for switch in bay_file['switch'] if told]
 
 
-def conditions(answer: Answer, bay_file: dict) -> dict[tuple[str, int], Derived | None]:
-    """When each release is given, by the switch's id and the way; None where its cases are too
-    many."""
+def conditions(answer: Answer, bay_file: dict,
+               rules: Iterable[Rule] = ()) -> dict[tuple[str, int], Derived | None]:
+    """When each release is given and none of the rules asks for it, by the switch's id and the way;
+    None where its cases are too many."""
     names = {raised(switch['id']): switch['id'] for switch in bay_file['switch']}
     found = {}
     for it in answer.releases:
+        own = [rule for rule in rules if rule.switch == it.name and it.way in rule.ways]
         try:
-            found[names[it.name], it.way] = derived(it, bay_file) if it.is_known else None
+            found[names[it.name], it.way] = derived(it, bay_file, own) if it.is_known else None
         except TooLarge:
             found[names[it.name], it.way] = None
     return found

@@ -1,6 +1,7 @@
 """The least condition of what cases say, as a sum of products. A case is a cube: for each variable
 the set of its values, as bits."""
 import math
+from collections.abc import Iterator
 
 from .conditions import Condition, Products, TooLarge, Variable, cells, cost, fewest, within
 
@@ -25,6 +26,26 @@ def is_covered(cube: tuple, cubes: list[tuple]) -> bool:
     inside, outside = cube[place] & live[0][place], cube[place] & ~live[0][place]
     return all(is_covered((*cube[:place], part, *cube[place + 1:]), live)
                for part in (inside, outside))
+
+
+def without(cubes: list[tuple], others: list[tuple]) -> list[tuple]:
+    """The parts of some cubes that lie in none of the others. TooLarge where these are too many."""
+    for other in others:
+        cubes = [part for cube in cubes for part in outside(cube, other)]
+        if len(cubes) > EXACT:
+            raise TooLarge
+    return cubes
+
+
+def outside(cube: tuple, other: tuple) -> Iterator[tuple]:
+    """The parts of a cube that lie outside another."""
+    if not all(mine & theirs for mine, theirs in zip(cube, other)):
+        yield cube
+        return
+    for place, theirs in enumerate(other):
+        if cube[place] & ~theirs:
+            yield (*cube[:place], cube[place] & ~theirs, *cube[place + 1:])
+        cube = (*cube[:place], cube[place] & theirs, *cube[place + 1:])
 
 
 def grown(cube: tuple, cubes: list[tuple], sizes: list[int]) -> tuple:

@@ -97,6 +97,10 @@ class Rule:
         return any(self.condition(dict(zip(sorted(self.names), state)))
                    for state in itertools.product(*values))
 
+    def asks(self, state: dict) -> bool:
+        """Whether it applies in a state, a rule with a time once its condition has held so long."""
+        return bool(self.condition(state) and (not self.since or self.since.condition(state)))
+
     def values_of(self, key: tuple) -> list[int]:
         """The values of a thing between which a condition may tell."""
         if key[0] != MEASURE:

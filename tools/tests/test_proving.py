@@ -281,7 +281,7 @@ class Verdicts(unittest.TestCase):
         look = 'look M1_AA ' + '|'.join(map(str, range(10_000))) + '\n'
         found = proved(look + 'always QA1 open\n', LOADED + 'rule 2 holds cases=1\n')
         self.assertEqual((len(found.table), verdicts.status(found)), (0, 0))
-        self.assertIsNone(judging.uncovered(found))
+        self.assertEqual(judging.uncovered(found), {})
         with mock.patch.multiple('auditing.judging', USUAL=4, WHOLE=100):
             rules, answer = 'always QA1 open\n', LOADED + 'rule 1 holds cases=2\n'
             self.assertEqual([len(proved(rules, answer, is_table_asked=it).table)
@@ -381,6 +381,50 @@ class Conditions(unittest.TestCase):
         self.assertEqual(told[('QC1', 1)], [
             'QA1 open and VT_DEAD and M1_AA 0',
             'QA1 open and (M1_AA <= -1 or M1_AA >= 6) (hangs on t1, LOCK)'])
+
+    def test_what_no_rule_asks_for(self):
+        """By the cases that are proved, though not all was tried: the part of each that lies in no
+        rule."""
+        rules = ('always QA1 open\nalways QC1 close when QA1 open and VT_DEAD and M1_AA >= 0\n'
+                 'always QC1 close after VT_DEAD for 5s when M1_AA > 9\n')
+        held = ''.join(f'rule {line} holds cases=1\n' for line in (1, 2, 3))
+        found = proved(rules, LOADED + held + ANSWER[ANSWER.index('release'):])
+        bare = judging.uncovered(found)
+        self.assertEqual({key: (count, it.lines()) for key, (count, it) in bare.items()}, {
+            ('QC1', 1): (None, ['QA1 open and M1_AA <= -1 (hangs on t1, LOCK)',
+                                'QA1 open and not VT_DEAD and (M1_AA <= -1 or M1_AA >= 6) '
+                                '(hangs on t1, LOCK)'])})
+        self.assertIn('is released, as proved, and no rule with', page_of(found))
+        self.assertIn('and M1_AA &lt;= -1 (hangs on', page_of(found))
+
+    def test_it_is_exact(self):
+        rng, words = random.Random(3), ('QA1 open', 'QA1 not bad', 'VT_DEAD', 'not VT_DEAD',
+                                        'M1_AA > 3', 'M1_AA <= 5', 'QC1 open|closed')
+        for _ in range(60):
+            cases = [self.any_case(rng) for _ in range(rng.randrange(4))]
+            text = ''.join(f'always QC1 close when {rng.choice(words)} and {rng.choice(words)}\n'
+                           for _ in range(rng.randrange(3)))
+            rules = read_rules(text, KEYS)
+            told = proving.derived(answers.Release('QC1', 1, cases), FILE, rules)
+            for _ in range(40):
+                state = {QA1: rng.randrange(4), QC1: rng.randrange(4), DEAD: rng.randrange(2),
+                         AA: rng.randrange(-1, 9)}
+                is_given = any(all(case.allows(*it) for it in state.items()) for case in cases)
+                is_asked = any(rule.condition(state) for rule in rules)
+                self.assertEqual(self.holds(told.condition, state), is_given and not is_asked)
+
+    @staticmethod
+    def any_case(rng):
+        values = {QA1: ((rng.randrange(4),) * 2,), DEAD: ((rng.randrange(2),) * 2,),
+                  AA: ((-2 ** 31, rng.randrange(3)), (rng.randrange(3, 6), 7))}
+        return Case({key: it for key, it in values.items() if rng.randrange(3)})
+
+    @staticmethod
+    def holds(condition, state):
+        values = {name: value for (_, name), value in state.items()}
+        return any(all((it.word_of(str(values[it.name])) if it.ranges else
+                        it.values[values[it.name]]) in words for it, words in product)
+                   for product in condition.facts)
 
     def test_cases_that_are_too_many(self):
         answer = read(LOADED + 'release QA1 open many\nrelease QA1 close cases=0\n', KEYS)
