@@ -131,7 +131,8 @@ class Report:
             kind = 'good' if it.verdict() in ('PROVED', 'TRIED') else 'bad'
             first, *others = verdicts.lines_of(self.audit, it)
             others = [first.replace('PROVED', 'proved')] if it.verdict() == 'PROVED' else others
-            told = code(it.rule.text) + ''.join(
+            told = ''.join(f'<span class="remark">{escaped(one)}</span>' for one in it.rule.remarks)
+            told += code(it.rule.text) + ''.join(
                 f'<br><span class="quiet">{escaped(line)}</span>' for line in others)
             cases = f'{it.proof.cases:,}' if it.proof and it.proof.cases else ''
             looked = f'{it.looked:,}' if it.is_tried else ''

@@ -78,7 +78,8 @@ class Since:
 class Rule:
     """`ways` are the releases of a switch (0 to open, 1 to close) that may not be, or are to be,
     where the condition holds of a state, which gives each name its value. `since` is the condition
-    of a rule with a time; `constants` are those of which measures are asked."""
+    of a rule with a time; `constants` are those of which measures are asked; `remarks` are the
+    comments above it, a paragraph each."""
     line: int
     text: str
     wanted: bool
@@ -88,6 +89,7 @@ class Rule:
     since: Since | None = None
     names: set = field(default_factory=set)
     constants: dict = field(default_factory=dict)
+    remarks: tuple = ()
 
     def can_apply(self) -> bool:
         """Whether its condition holds of any state; where that is too much to be tried it may."""
@@ -328,11 +330,29 @@ def held(option: str, text: str | None, kind: str) -> list[Look]:
 
 def read_rules(text: str, known: set) -> list[Rule]:
     """The rules of a text, for the things of a bay, each as its kind and its name in upper case."""
-    rules = []
+    rules, above = [], remarks_above(text)
     for number, line in lines_of(text):
         if raised(line.split(' ')[0]) != 'LOOK':
             try:
                 rules.append(Reader(line, known).rule(number, line))
             except BadRule as error:
                 raise BadRule(f'line {number}: {error}') from None
+            rules[-1].remarks = above[number]
     return rules
+
+
+def remarks_above(text: str) -> dict[int, tuple[str, ...]]:
+    """The comments above each rule, up to the rule before it, with a comment at its end; lines of a
+    comment that follow one another are a paragraph."""
+    found, paragraphs, is_open = {}, [], False
+    for number, line in enumerate(text.split('\n'), 1):
+        said, mark, comment = line.partition('#')
+        comment = ' '.join(comment.split())
+        if comment and is_open and not said.strip():
+            paragraphs[-1] += f' {comment}'
+        elif comment:
+            paragraphs.append(comment)
+        is_open = bool(comment)
+        if raised(said.strip().partition(' ')[0]) not in ('', 'LOOK'):
+            found[number], paragraphs, is_open = tuple(paragraphs), [], False
+    return found

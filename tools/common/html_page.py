@@ -28,7 +28,8 @@ code { font-family: "DejaVu Sans Mono", Consolas, monospace; font-size: 0.92em;
 .verdict { border: 2px solid; padding: 1mm 4mm; margin: 4mm 0; font-size: 12pt; font-weight: bold }
 .verdict .plain { font-size: 10pt; font-weight: normal }
 .good { color: #1b5e20 } .bad { color: #b3261e } .mark { font-weight: bold; white-space: nowrap }
-.quiet { color: #555 } .figure { break-inside: avoid; overflow-x: auto }
+.quiet { color: #555 } .remark { display: block; font-style: italic; margin-bottom: 1mm }
+.figure { break-inside: avoid; overflow-x: auto }
 @media print { .figure svg { max-width: 100%%; height: auto } }
 .figure svg.diagram { max-width: 100%%; height: auto }
 .sign { break-inside: avoid; margin-top: 4mm }

@@ -396,6 +396,17 @@ class Pictures(unittest.TestCase):
             page = Report(audited('always QA1 open'), {}, program, 0).page()
             self.assertEqual('rests on a program that is not.' in page, is_told)
 
+    def test_comments_above_rules_stand_in_the_report(self):
+        text = ('# Rules of <E1>,\n#  by a planner\n\n# The breaker\nlook M1_AA 0\n'
+                'always QA1 open # at any time\nalways QA1 open\n#none\n\nnever QC1 open\n# end\n')
+        found = audited(text)
+        self.assertEqual([it.rule.remarks for it in found.findings], [
+            ('Rules of <E1>, by a planner', 'The breaker', 'at any time'), (), ('none',)])
+        page = Report(found, {}, __file__, 0).page()
+        self.assertIn('<span class="remark">Rules of &lt;E1&gt;, by a planner</span>'
+                      '<span class="remark">The breaker</span>', page)
+        self.assertEqual(page.count('class="remark"'), 4)
+
     def test_a_report_of_what_is_broken(self):
         page = Report(audited('never QA1 open\n'), {}, __file__, 0).page()
         self.assertIn('NOT PASSED: the rule is broken.', page)
