@@ -12,10 +12,10 @@ state of the bay.
 A condition is made with and, or, not and parentheses of: a switch and its positions (intermediate,
 open, closed, bad; several with |; `not` before them), an input alone, an input or a measure and its
 values (`M1_AA 0|5`), or a measure that is compared (`M1_AA < 5`; <=, >, >=, =, <>). `is` may stand
-before positions and values; off and on mean open and closed. Case does not matter in names, and #
-begins a comment. Where a switch and an input have one name, positions mean the switch. `look` says
-which values a switch, an input or a measure goes through: all positions, 0 and 1, and of a measure
-0 alone, where nothing is said.
+before positions and values; off and on are older words for open and closed. Case does not matter in
+names, and # begins a comment. Where a switch and an input have one name, positions mean the switch.
+`look` says which values a switch, an input or a measure goes through: all positions, 0 and 1, and
+of a measure 0 alone, where nothing is said.
 
 `never .. until C for T` forbids a release until C has held without a break for the time T, and
 `always .. after C for T` demands it from then on; `when` says in which combinations that is asked.

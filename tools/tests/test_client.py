@@ -220,7 +220,7 @@ class Hostile(Tools):
 
         self.assertIn('answers 0 values, and 1 were asked', self.answered(read(), 'read', 'A$B'))
         self.assertIn('gives CSWI1$CF$Pos$ctlModel a value of another type',
-                      self.answered(read(Data(TEXT, 'x')), 'operate', 'CSWI1', 'on'))
+                      self.answered(read(Data(TEXT, 'x')), 'operate', 'CSWI1', 'close'))
         self.assertIn('answers names, and read was asked', self.answered(
             lambda pdu: [respond(pdu.invoke, 0xA1, element(0xA0, element(0x1A, b'D')),
                                  element(0x81, b'\0'))], 'read', 'A$B'))
@@ -300,20 +300,21 @@ class Operating(Tools):
         return found.out.splitlines(), found.status
 
     def test_an_operate_waits_for_the_position(self):
-        said, status = self.asked(Switchgear(), 'operate', 'CSWI1', 'off')
+        said, status = self.asked(Switchgear(), 'operate', 'CSWI1', 'open')
         self.assertEqual(said, ['select CSWI1: done', 'operate CSWI1: accepted',
                                 'operate CSWI1: done: open'])
         self.assertEqual(status, 0)
 
     def test_a_switch_that_does_not_come(self):
-        said, status = self.asked(Switchgear(moves=False), 'operate', 'CSWI1', 'off', '--wait',
+        said, status = self.asked(Switchgear(moves=False), 'operate', 'CSWI1', 'open', '--wait',
                                   '0.3')
         self.assertEqual((said[-1], status), ('operate CSWI1: not done: closed after 0.3 s', 1))
-        said, status = self.asked(Switchgear(moves=False), 'operate', 'CSWI1', 'off', '--wait', '0')
+        said, status = self.asked(Switchgear(moves=False), 'operate', 'CSWI1', 'open', '--wait',
+                                  '0')
         self.assertEqual((said[-1], status), ('operate CSWI1: accepted', 0))
 
     def test_which_switch_still_moves(self):
-        said, status = self.asked(Switchgear(accepts=False), 'operate', 'CSWI1', 'off')
+        said, status = self.asked(Switchgear(accepts=False), 'operate', 'CSWI1', 'open')
         self.assertEqual(said[1:], [
             'operate CSWI1: object access denied (3)',
             'CSWI1 is closed, may not be opened and may not be closed; still moving: CSWI2'])

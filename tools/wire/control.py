@@ -8,7 +8,7 @@ from .client import Client, Refused
 from .mms import Failure
 
 STATUS_ONLY, SELECTED, ENHANCED = 0, 2, 4  # control models: never operated, and selected first
-WAYS = {'close': True, 'open': False, 'on': True, 'off': False}
+WAYS = {'close': True, 'open': False}
 ENDS = {True: '10', False: '01'}  # the positions to which an operate leads
 INTERMEDIATE, GOOD, EVERY = '00', '00', 0.1  # seconds between two looks at a position
 
