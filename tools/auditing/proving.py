@@ -1,6 +1,6 @@
 """What bayctl proves, for those who read an audit: scenarios of cases that break a rule, and the
 least condition of each release by its cases."""
-from collections.abc import Iterable, Iterator
+from collections.abc import Iterator, Sequence
 from dataclasses import dataclass, field
 
 from bay.conditions import Condition, TooLarge, Variable
@@ -161,7 +161,7 @@ def lost_table(answer: Answer | None, bay_file: dict) -> list[tuple[str, str, st
 
 
 def conditions(answer: Answer, bay_file: dict,
-               rules: Iterable[Rule] = ()) -> dict[tuple[str, int], Derived | None]:
+               rules: Sequence[Rule] = ()) -> dict[tuple[str, int], Derived | None]:
     """When each release is given and none of the rules asks for it, by the switch's id and the way;
     None where its cases are too many."""
     names = {raised(switch['id']): switch['id'] for switch in bay_file['switch']}
