@@ -186,8 +186,8 @@ class Operating(Tools):
 
     def test_nothing_is_operated_on_another_bay(self):
         other = FILE.replace('revision = "1"', 'revision = "2"')
-        for words in (('select', 'QA1'), ('operate', 'QA1', 'on'), ('cancel', 'QA1'),
-                      ('operate', 'CSWI2', 'on'), ('operate', 'QB1', 'on', '--unselected')):
+        for words in (('select', 'QA1'), ('operate', 'QA1', 'close'), ('cancel', 'QA1'),
+                      ('operate', 'CSWI2', 'close'), ('operate', 'QB1', 'close', '--unselected')):
             found, is_operated = self.asked(other, *words)
             self.assertEqual(found.out, 'the server has revision \'2\', the bay file has \'1\'\n')
             self.assertRegex(found.error, 'client: .*bay.toml: the server has another bay, so '
@@ -196,14 +196,14 @@ class Operating(Tools):
 
     def test_anyway(self):
         other = FILE.replace('revision = "1"', 'revision = "2"')
-        found, is_operated = self.asked(other, 'operate', 'QA1', 'on', '--anyway')
+        found, is_operated = self.asked(other, 'operate', 'QA1', 'close', '--anyway')
         self.assertEqual(found.out.splitlines(), [
             'the server has revision \'2\', the bay file has \'1\'', 'select QA1: done',
             'operate QA1: accepted', 'operate QA1: done: closed'])
         self.assertEqual((found.status, is_operated), (0, True))
 
     def test_the_same_bay(self):
-        found, is_operated = self.asked(FILE, 'operate', 'QB1', 'on')
+        found, is_operated = self.asked(FILE, 'operate', 'QB1', 'close')
         self.assertEqual(found.out, 'operate QB1: accepted\noperate QB1: done: closed\n')
         self.assertEqual((found.status, is_operated), (0, True))
 

@@ -63,7 +63,7 @@ class Clients(Tools):
             self.assertEqual((found.out, found.status, len(reached)),
                              ('CSWI1$ST$Pos$stVal = closed\n', 0, 1), found)
         bay = self.file('bay.toml', FILE)
-        found, _ = self.asked([*files(), '--bay', bay], 'operate', 'QB1', 'on', seen=model)
+        found, _ = self.asked([*files(), '--bay', bay], 'operate', 'QB1', 'close', seen=model)
         self.assertEqual((found.out, found.status),
                          ('operate QB1: accepted\noperate QB1: done: closed\n', 0), found)
 
@@ -175,7 +175,7 @@ class Clients(Tools):
         bay = self.file('bay.toml', FILE)
         for more, ident in (([], b'operator'), (['--originator', 'A'], b'A')):
             model = Noted(FILE)
-            self.asked([*files(), '--bay', bay], 'operate', 'QB1', 'on', *more, seen=model)
+            self.asked([*files(), '--bay', bay], 'operate', 'QB1', 'close', *more, seen=model)
             self.assertEqual(model.idents, {ident})
 
 
