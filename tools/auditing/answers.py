@@ -1,12 +1,11 @@
 """What `bayctl audit` answers, read from what it prints:
 
     instructions=20 depth=2 budget=20
-    rule 4 holds cases=3
-    rule 5 broken QA1=0|2|3 ES=1
-    rule 6 open QA1=1 M1_AA=6..2147483647 by t1 LOCK
-    rule 7 timed
-    rule 9 holds cases=12 by t1
-    rule 8 many
+    rule 4 QB1 close holds cases=3
+    rule 5 QB1 open broken QA1=0|2|3 ES=1
+    rule 6 QB1 close open QA1=1 M1_AA=6..2147483647 by t1 LOCK
+    rule 8 QC1 close many
+    rule 9 QC1 close holds cases=12 by t1
     release QB1 open cases=3
     released QA1=1 QC1=1
     hangs QA1=2 by t1
@@ -15,10 +14,10 @@
     lost QB1 open blocked
     lost QB1 close hangs by t1
 
-A rule with a time that holds names the timer that bears it. A line of rules that is about opening
-and closing has two answers. In a case a switch has its
-positions as numbers, an input 0 or 1, a measure a number or a range; what it does not name is free.
-The cases of a release are those in which it is given whatever the program keeps from scan to scan,
+A rule has an answer for each switch and operation that its line is about. One with a time that
+holds names the timer that bears it, where one does. In a case a switch has its positions as
+numbers, an input 0 or 1, a measure a number or a range; what it does not name is free.
+The cases of a release are those in which it is given in every state that the program can reach,
 those in which it depends on what stands behind `by`, and those in which it is not given. That are
 variables, timers, and measures with which the program calculates in a way that is not followed;
 nothing stands there if it calculates so with the values of the case. The word before a case may be
@@ -34,10 +33,10 @@ from common.texts import raised
 LEAST, MOST = -2 ** 31, 2 ** 31 - 1
 WAYS = ('open', 'close')
 VALUES = re.compile(r'(-?[0-9]{1,10})(?:\.\.(-?[0-9]{1,10}))?', re.ASCII)
-BROKEN, MANY, OPEN, TIMED, HOLDS = 'broken', 'many', 'open', 'timed', 'holds'
+BROKEN, MANY, OPEN, HOLDS = 'broken', 'many', 'open', 'holds'
 RELEASED, HANGS, BLOCKED = 'released', 'hangs', 'blocked'
 COMPUTED = 'what the program calculates'  # what a case depends on where no name is told
-WORST = [BROKEN, MANY, OPEN, TIMED, HOLDS]  # of the answers of one line, the worst first
+WORST = [BROKEN, MANY, OPEN, HOLDS]  # of the answers of one line, the worst first
 
 
 class Bad(Exception):
@@ -58,8 +57,11 @@ class Case:
 
 @dataclass(frozen=True)
 class Proof:
-    """The answer on a rule for one direction; `timer` is the one that bears a rule with a time."""
+    """The answer on a rule for one operation of its switch; `timer` is the one that bears a rule
+    with a time."""
     line: int
+    name: str
+    way: int
     verdict: str
     cases: int = 0
     case: Case = Case({})
@@ -143,24 +145,32 @@ def read(printed: str, keys: set) -> Answer:
 
 def proof_of(line: str, words: list[str], keys: set) -> Proof:
     """The answer on a rule."""
-    if len(words) < 2 or not words[0].isdecimal() or words[1] not in WORST:
+    if len(words) < 4 or not words[0].isdecimal() or words[3] not in WORST:
         raise Bad(line)
-    number, verdict, *rest = int(words[0]), *words[1:]
+    verdict, rest = words[3], words[4:]
+    asked = int(words[0]), *way_of(line, words[1:3], keys)
     if verdict == HOLDS and len(rest) == 1:
-        return Proof(number, verdict, count_of(line, rest[0]))
+        return Proof(*asked, verdict, count_of(line, rest[0]))
     if verdict == HOLDS and len(rest) == 3 and rest[1] == 'by':
-        return Proof(number, verdict, count_of(line, rest[0]), timer=rest[2])
+        return Proof(*asked, verdict, count_of(line, rest[0]), timer=rest[2])
     if verdict in (BROKEN, OPEN):
-        return Proof(number, verdict, case=case_of(line, rest, keys))
+        return Proof(*asked, verdict, case=case_of(line, rest, keys))
     if rest or verdict == HOLDS:
         raise Bad(line)
-    return Proof(number, verdict)
+    return Proof(*asked, verdict)
+
+
+def way_of(line: str, words: list[str], keys: set) -> tuple[str, int]:
+    """A switch of the bay, and the number of its operation."""
+    if len(words) != 2 or words[1] not in WAYS or (SWITCH, raised(words[0])) not in keys:
+        raise Bad(line)
+    return raised(words[0]), WAYS.index(words[1])
 
 
 def release_of(line: str, words: list[str], keys: set) -> tuple[Release, int]:
-    if len(words) != 3 or words[1] not in WAYS or (SWITCH, raised(words[0])) not in keys:
+    if len(words) != 3:
         raise Bad(line)
-    release = Release(raised(words[0]), WAYS.index(words[1]))
+    release = Release(*way_of(line, words[:2], keys))
     if words[2] == MANY:
         release.is_known = False
         return release, 0
@@ -169,9 +179,9 @@ def release_of(line: str, words: list[str], keys: set) -> tuple[Release, int]:
 
 def lost_of(line: str, words: list[str], keys: set) -> Lost:
     """What is said of a release while the process is lost."""
-    if len(words) < 3 or words[1] not in WAYS or (SWITCH, raised(words[0])) not in keys:
+    if len(words) < 3:
         raise Bad(line)
-    name, way, (state, *rest) = raised(words[0]), WAYS.index(words[1]), words[2:]
+    (name, way), (state, *rest) = way_of(line, words[:2], keys), words[2:]
     if state == HANGS and rest[:1] == ['by']:
         return Lost(name, way, state, tuple(rest[1:]) or (COMPUTED,))
     if state not in (RELEASED, BLOCKED) or rest:

@@ -1,11 +1,13 @@
 """Asks bayctl for what it can prove of rules and of releases: `bayctl audit`. A program that has no
 such command proves nothing."""
 import functools
+import pathlib
 import re
 import tempfile
+import tomllib
 from typing import IO
 
-from bay.rules import SWITCH
+from bay.rules import KEYWORDS, SWITCH
 from common.ending import Failed
 from common.texts import raised
 from diagnosis.faults import faults
@@ -67,17 +69,34 @@ def proved_of(bayctl, bay, logic, file: dict) -> Proved | None:
     return Proved(never, points, {raised(name) for case in cases for name in case.kept})
 
 
+def any_rule(keys: set) -> str:
+    """A rule of a bay that asks nothing: bayctl refuses a text without a rule."""
+    name = min((name for kind, name in keys if kind == SWITCH and name not in KEYWORDS), default='')
+    return f'never {name} open when {name} open and {name} closed\n'
+
+
 def releases_of(bayctl, bay, logic, keys: set) -> Answer | None:
-    """What bayctl says of the releases, without any rule; None where it can prove nothing."""
-    return answer_of(bayctl, bay, logic, no_rules().name, keys)
+    """What bayctl says of the releases, whatever the rules are; None where it can prove nothing."""
+    answer = answer_of(bayctl, bay, logic, rules_file(any_rule(keys)).name, keys)
+    if answer is not None:
+        answer.rules.clear()
+    return answer
 
 
-def ask_of_releases(bay: str, logic: str) -> Ask:
-    """What is asked for that."""
-    return Ask(('audit', '--bay', bay, '--logic', logic, '--rules', no_rules().name))
+def ask_of_releases(bay: str, logic: str) -> list[Ask]:
+    """What is asked for that, where the bay file can be read."""
+    try:
+        keys = keys_of(tomllib.loads(pathlib.Path(bay).read_text(encoding='utf-8')))
+    except (OSError, ValueError, KeyError, TypeError, AttributeError):
+        return []
+    return [Ask(('audit', '--bay', bay, '--logic', logic, '--rules',
+                 rules_file(any_rule(keys)).name))]
 
 
 @functools.cache
-def no_rules() -> IO[bytes]:
-    """A file of rules that has none, until the tool ends."""
-    return tempfile.NamedTemporaryFile(prefix='rules')
+def rules_file(text: str) -> IO[bytes]:
+    """A file of these rules, until the tool ends."""
+    kept = tempfile.NamedTemporaryFile(prefix='rules')
+    kept.write(text.encode('ascii'))
+    kept.flush()
+    return kept

@@ -24,8 +24,8 @@ FOLDERS = ('auditing', 'bay', 'common', 'diagnosis', 'diagram', 'live', 'picture
            'wire')
 WIDTH = 672  # of the matrix, in pixels: that of a page of A4
 PROVED = ('<b>Proved</b>: bayctl runs the verified program with values that stand for all. What is '
-          'proved of a rule holds in every scan, from every state of the program and with every '
-          'value of the bay, whatever its clients do.')
+           'proved of a rule holds in every scan, from every state that the program can reach and '
+           'with every value of the bay, whatever its clients do.')
 
 
 def version() -> str:

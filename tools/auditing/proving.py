@@ -35,15 +35,38 @@ class Shown:
     is_so: bool
 
 
+def example(case: Case, things: list[Thing]) -> dict:
+    """The state by which bayctl shows that a rule with a time is broken: of each position and
+    measure the least, and of an input the greatest, that the case allows."""
+    state = {}
+    for thing in things:
+        usual = (LEAST, MOST) if thing.kind == MEASURE else (0, len(thing.values) - 1)
+        ranges = case.values.get(thing.key, (usual,))
+        state[thing.key] = max(most for _, most in ranges) if thing.kind == INPUT else min(
+            least for least, _ in ranges)
+    return state
+
+
+def moments_of(rule) -> list[int]:
+    """When a case that breaks a rule is scanned. One that forbids until a condition has held for a
+    time is broken before the time is over, and one that demands after it at its end."""
+    if rule.since is None:
+        return [0]
+    return [0, rule.since.time if rule.wanted else rule.since.time - 1]
+
+
 def shown(bay: Bay, rule, case: Case, bayctl) -> Shown:
     """A case that breaks a rule, replayed."""
-    things = list(all_things(bay.file))
-    state = completed(case, things)
-    lines = [thing.line(0, state[thing.key]) for thing in things] + ['0 scan']
-    releases = next(iter(scans_of(bayctl, bay.scenario(lines))), None)
-    if releases is None:
+    things, moments = list(all_things(bay.file)), moments_of(rule)
+    state = (example if rule.since else completed)(case, things)
+    lines = [thing.line(0, state[thing.key]) for thing in things]
+    lines += [f'{moment} scan' for moment in moments]
+    scans = list(scans_of(bayctl, bay.scenario(lines)))[:len(moments)]
+    if len(scans) < len(moments):
         raise Failed('bayctl: it printed too few scans')
-    return Shown(state, lines, bool(rule.condition(state)) and rule.breaks(releases))
+    after = rule.since.condition if rule.since and rule.wanted else lambda state: True
+    is_broken = any(map(rule.breaks, scans[-1:] if rule.wanted else scans))
+    return Shown(state, lines, bool(rule.condition(state) and after(state)) and is_broken)
 
 
 def told(case: Case, things: list[Thing]) -> str:

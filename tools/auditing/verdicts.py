@@ -42,7 +42,8 @@ def ways_told(rule, words: tuple, joint: str) -> str:
 def tail_of(rule) -> str:
     """The condition of a rule, as it is written."""
     parts = rule.text.split(' ')
-    at = next((at for at, word in enumerate(parts) if word.lower() in ('until', 'when')), None)
+    at = next((at for at, word in enumerate(parts)
+               if word.lower() in ('until', 'after', 'when')), None)
     return '' if at is None else ' ' + ' '.join(parts[at:])
 
 
@@ -95,7 +96,10 @@ def broken_lines(audit: Audit, finding: Finding) -> list[str]:
     found = []
     if finding.shown:
         where = proving.told(finding.proof.case, list(all_things(audit.bay.file)))
-        found.append(f'proved: in every state of the program with {where}')
+        is_run = finding.rule.since and not finding.rule.wanted
+        how = "a run from the program's start" if is_run else (
+            'every state that the program can reach')
+        found.append(f'proved: in {how}, with {where}')
     if finding.broken:
         after = f', {finding.after:,} ms after' if finding.after else ''
         found.append(f'{tried_told(audit, finding)}, first by '

@@ -39,6 +39,7 @@ SWITCH, INPUT, MEASURE = 'switch', 'input', 'measure'
 WANTED = {SWITCH: 'intermediate, open, closed or bad', INPUT: '0, 1, FALSE or TRUE',
           MEASURE: 'a whole number of 32 bits'}
 WORDS = {'WHEN', 'AND', 'OR', 'NOT', 'IS', 'FOR', '(', ')', '|'}
+KEYWORDS = {*WORDS, *POSITIONS, *TRUTHS, *WAYS, 'NEVER', 'ALWAYS', 'LOOK', 'UNTIL', 'AFTER'}
 DEEPEST = 64
 STATES = 200_000  # in which it is tried whether a rule can apply
 RELATIONS = {'<': operator.lt, '<=': operator.le, '>': operator.gt, '>=': operator.ge,

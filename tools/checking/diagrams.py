@@ -6,13 +6,12 @@ import sys
 from collections.abc import Iterator
 
 from auditing import answers, asking
-from auditing.things import keys_of
+from auditing.things import WAYS, keys_of
 from bay.files import bay_at, text_of
-from bay.rules import read_rules
 from wire.served import Running, Server, Simulator
 
 from .panels import Page, positions
-from .planted import EXAMPLES, parts_of, read_faults
+from .planted import EXAMPLES, read_faults
 
 TOOLS = pathlib.Path(__file__).resolve().parent.parent
 DIAGRAMS = EXAMPLES / 'diagrams'
@@ -32,8 +31,6 @@ class Asked:
     def __init__(self, checks, path) -> None:
         self.checks, self.path, self.name = checks, path, f'diagrams/{path.parent.name}'
         self.keys = keys_of(bay_at(path)[1])
-        self.rules = {name: read_rules(text_of(path.with_name(name)), self.keys)
-                      for name in (BY_HAND, OF_DIAGRAM)}
         self.logic = text_of(path.with_name('logic.il'))
 
     def printed(self, name: str) -> str:
@@ -48,10 +45,7 @@ class Asked:
         changed = self.checks.file('logic.il', logic)
         found = asking.asked(self.checks.bayctl, self.path, changed, self.path.with_name(name),
                              self.keys)
-        switches = {rule.line: rule.switch for rule in self.rules[name]}
-        parts = parts_of(self.rules[name])
-        return {(switches[line], way) for proof, (line, way) in zip(found.rules, parts, strict=True)
-                if proof.verdict in kinds}
+        return {(it.name, WAYS[it.way]) for it in found.rules if it.verdict in kinds}
 
 
 def without_a_line(logic: str) -> Iterator[tuple[int, str]]:

@@ -48,16 +48,18 @@ def read_faults(text: str) -> list[Fault]:
     return [Fault(int(line), old.strip(), new.strip(), told) for line, old, new, told in rows]
 
 
-def parts_of(rules: list) -> list[tuple[int, str]]:
-    """The line and the direction of each answer, in their order."""
-    return [(rule.line, WAYS[way]) for rule in rules for way in rule.ways]
+def parts_of(rules: list) -> list[tuple[int, str, int]]:
+    """The line, the switch and the operation of each answer, in their order."""
+    return [(rule.line, rule.switch, way) for rule in rules for way in rule.ways]
 
 
 def told_of(proofs: list, rules: list) -> str:
     """Which rules don't hold, in the words of a file of faults."""
+    if [(it.line, it.name, it.way) for it in proofs] != parts_of(rules):
+        raise ValueError('the answers are those of other rules')
     found = {}
-    for proof, (line, way) in zip(proofs, parts_of(rules), strict=True):
-        found.setdefault(proof.verdict, {}).setdefault(line, []).append(way)
+    for it in proofs:
+        found.setdefault(it.verdict, {}).setdefault(it.line, []).append(WAYS[it.way])
     kinds = [(kind.upper(), found[kind]) for kind in KINDS if kind in found]
     return '; '.join(f'{kind} ' + ', '.join(f'{line} {"|".join(ways)}' for line, ways in it.items())
                      for kind, it in kinds)

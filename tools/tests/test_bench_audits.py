@@ -52,12 +52,12 @@ class Trial(unittest.TestCase):
         return self.trial.wrong_of(self.rule, proof, told, has_memory)
 
     def test_a_rule_that_holds_is_broken_nowhere(self):
-        holds = Proof(1, answers.HOLDS)
+        holds = Proof(1, 'QA1', 0, answers.HOLDS)
         self.assertIsNone(self.wrong(holds, [(IN, released(False)), (OUT, released(True))]))
         self.assertEqual(self.wrong(holds, [(IN, released(True))]), 'a proved rule is broken')
 
     def test_each_scan_of_a_case_breaks_its_rule(self):
-        broken = Proof(1, answers.BROKEN, case=case(1))
+        broken = Proof(1, 'QA1', 0, answers.BROKEN, case=case(1))
         self.assertIsNone(self.wrong(broken, [(IN, released(True)), (OUT, released(False))]))
         self.assertEqual(self.wrong(broken, [(IN, released(False))]), 'a broken rule holds')
         outside = [(OUT, released(True))]
@@ -66,8 +66,8 @@ class Trial(unittest.TestCase):
 
     def test_only_memory_leaves_a_rule_open(self):
         for verdict in (answers.OPEN, answers.MANY):
-            self.assertIsNone(self.wrong(Proof(1, verdict), [], True))
-            self.assertIn('without an answer', self.wrong(Proof(1, verdict), []))
+            self.assertIsNone(self.wrong(Proof(1, 'QA1', 0, verdict), [], True))
+            self.assertIn('without an answer', self.wrong(Proof(1, 'QA1', 0, verdict), []))
 
     def test_what_is_released_while_the_process_is_lost(self):
         bad = {(SWITCH, 'QA1'): 3, (INPUT, 'I1'): 0, (MEASURE, 'M1_AA'): 5}
@@ -106,7 +106,7 @@ class Trial(unittest.TestCase):
                 self.assertTrue(has_memory or not verbs & {'S', 'R', 'CAL', 'JMPC', 'JMPCN'}, text)
 
     def test_all_that_bayctl_says_is_judged(self):
-        answer = Answer('', [Proof(1, answers.HOLDS)], [Release('QA1', 1)])
+        answer = Answer('', [Proof(1, 'QA1', 0, answers.HOLDS)], [Release('QA1', 1)])
         self.trial.judge(answer, [self.rule], [(IN, released(False))], False)
         self.assertEqual(list(self.trial.wrong), ['cases are not parts'])
         self.assertEqual(dict(self.trial.rules), {answers.HOLDS: 1})

@@ -305,7 +305,8 @@ def answered(states: States):
         text = Path(rules).read_text()
         broken = {(line, way) for (switch, way), rows in forbidden(states, text).items()
                   for line, bits in rows if given[switch, way] & bits}
-        return Answer('', [Proof(rule.line, BROKEN if (rule.line, way) in broken else HOLDS)
+        return Answer('', [Proof(rule.line, rule.switch, way,
+                                 BROKEN if (rule.line, way) in broken else HOLDS)
                            for rule in read_rules(text, keys) for way in rule.ways])
     return asked_of
 
@@ -338,8 +339,8 @@ class Checked(Tools):
         """An audit that finds nothing broken, and one that finds all."""
         def same(verdict):
             def asked_of(bayctl, bay_file, logic, rules, keys) -> Answer:
-                return Answer('', [Proof(rule.line, verdict) for rule in read_rules(
-                    Path(rules).read_text(), keys) for _ in rule.ways])
+                return Answer('', [Proof(rule.line, rule.switch, way, verdict) for rule in
+                                   read_rules(Path(rules).read_text(), keys) for way in rule.ways])
             return asked_of
         told = self.run_parts(*AUDITED, changed=same(HOLDS))
         self.assertIn('diagrams/line without a line', told)

@@ -7,7 +7,7 @@ from unittest import mock
 
 sys.path.insert(0, str(Path(__file__).resolve().parent.parent))
 from auditing.answers import BROKEN, HOLDS, OPEN, Answer, Proof
-from auditing.things import keys_of
+from auditing.things import WAYS, keys_of
 from bay.files import bay_at
 from bay.rules import SWITCH, read_rules
 from checking import planted
@@ -18,7 +18,7 @@ RULES = read_rules('never QA1 open|close\nalways QA1 close|open\nnever QA1 close
 
 
 def proofs(*verdicts: str) -> list[Proof]:
-    return [Proof(line, verdict) for (line, _), verdict in zip(parts_of(RULES), verdicts)]
+    return [Proof(*part, verdict) for part, verdict in zip(parts_of(RULES), verdicts)]
 
 
 class Planted(unittest.TestCase):
@@ -28,7 +28,8 @@ class Planted(unittest.TestCase):
             _, file = bay_at(path.with_name('bay.toml'))
             rules = read_rules(path.with_name('rules').read_text(), keys_of(file))
             found = [fault.rules() for fault in read_faults(path.read_text())]
-            self.assertEqual(set(parts_of(rules)) - set().union(*found), set())
+            parts = {(line, WAYS[way]) for line, _, way in parts_of(rules)}
+            self.assertEqual(parts - set().union(*found), set())
             self.assertTrue(all(found), 'a fault that breaks nothing')
 
     def test_each_fault_changes_one_line(self):
@@ -57,6 +58,8 @@ class Planted(unittest.TestCase):
                          'BROKEN 1 open|close, 2 open; OPEN 2 close, 3 close')
         with self.assertRaises(ValueError):
             told_of(proofs(HOLDS), RULES)
+        with self.assertRaises(ValueError):
+            told_of(proofs(*[HOLDS] * 5)[::-1], RULES)
 
     def test_an_answer_that_differs_is_told(self):
         checks = types.SimpleNamespace(bayctl='none', file=lambda name, text: name,

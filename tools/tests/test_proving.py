@@ -14,7 +14,7 @@ from bay.cubes import condition_of, is_covered, products_of
 from bay.rules import INPUT, MEASURE, SWITCH, read_rules
 from common.ending import Failed
 from live.reasons import Seen, why_not
-from tests.test_audit import FILE, audited
+from tests.test_audit import AFTER, FILE, UNTIL, audited
 from tests.tool import Tools
 
 KEYS = keys_of(FILE)
@@ -26,11 +26,11 @@ never QC1 close when QA1 not open
 never QC1 close until VT_DEAD for 5s
 never QC1 open
 '''
-ANSWER = LOADED + '''rule 1 holds cases=1
-rule 2 open VT_DEAD=0 by t1
-rule 3 broken QA1=0|2|3 VT_DEAD=1
-rule 4 timed
-rule 5 many
+ANSWER = LOADED + '''rule 1 QA1 open holds cases=1
+rule 2 QC1 close open VT_DEAD=0 by t1
+rule 3 QC1 close broken QA1=0|2|3 VT_DEAD=1
+rule 4 QC1 close open VT_DEAD=1 by t1 LOCK
+rule 5 QC1 open many
 release QA1 open cases=1
 
 release QA1 close cases=0
@@ -50,9 +50,10 @@ class Answers(unittest.TestCase):
     def test_all_kinds_of_lines(self):
         found = read(ANSWER, KEYS)
         self.assertEqual(found.report, LOADED.rstrip())
-        self.assertEqual([(it.line, it.verdict, it.cases) for it in found.rules],
-                         [(1, 'holds', 1), (2, 'open', 0), (3, 'broken', 0), (4, 'timed', 0),
-                          (5, 'many', 0)])
+        self.assertEqual([(it.line, it.name, it.way, it.verdict, it.cases) for it in found.rules],
+                         [(1, 'QA1', 0, 'holds', 1), (2, 'QC1', 1, 'open', 0),
+                          (3, 'QC1', 1, 'broken', 0), (4, 'QC1', 1, 'open', 0),
+                          (5, 'QC1', 0, 'many', 0)])
         self.assertEqual(found.rules[1].case, Case({DEAD: ((0, 0),)}, ('t1',)))
         self.assertEqual(found.rules[2].case.values[QA1], ((0, 0), (2, 2), (3, 3)))
         self.assertEqual([(it.name, it.way, len(it.cases)) for it in found.releases],
@@ -64,20 +65,20 @@ class Answers(unittest.TestCase):
             {QA1: ((1, 1),), AA: ((-2 ** 31, -1), (6, 2 ** 31 - 1))}, ('t1', 'LOCK')))
 
     def test_of_several_answers_on_one_line_the_worst_counts(self):
-        found = read(LOADED + 'rule 1 holds cases=2\nrule 1 broken ES=1\nrule 1 timed\n',
-                     KEYS | {(INPUT, 'ES')})
+        found = read(LOADED + 'rule 1 QA1 open holds cases=2\nrule 1 QA1 close broken ES=1\n'
+                     'rule 1 QA1 close many\n', KEYS | {(INPUT, 'ES')})
         self.assertEqual(found.of_line(1).verdict, 'broken')
         self.assertIsNone(found.of_line(2))
 
     def test_a_switch_and_an_input_of_one_name(self):
         both = KEYS | {(INPUT, 'QA1')}
-        case = read(LOADED + 'rule 1 broken QA1=1 QA1=0\n', both).rules[0].case
+        case = read(LOADED + 'rule 1 QA1 open broken QA1=1 QA1=0\n', both).rules[0].case
         self.assertEqual(case.values, {QA1: ((1, 1),), (INPUT, 'QA1'): ((0, 0),)})
 
     def test_a_case_that_depends_on_a_calculation(self):
         """`LD M1_AA`, `MUL 3`, `GT 12`, of which no range is followed."""
-        text = LOADED + ('rule 1 open M1_AA=3 by\nrelease QA1 close cases=2\nhangs M1_AA=3 by\n'
-                         'hangs M1_AA=4..11 by M1_AA\n')
+        text = LOADED + ('rule 1 QA1 close open M1_AA=3 by\nrelease QA1 close cases=2\n'
+                         'hangs M1_AA=3 by\nhangs M1_AA=4..11 by M1_AA\n')
         found = read(text, KEYS)
         self.assertEqual(found.rules[0].case, Case({AA: ((3, 3),)}, (COMPUTED,)))
         self.assertEqual([case.kept for case in found.releases[0].cases], [(COMPUTED,), ('M1_AA',)])
@@ -98,14 +99,15 @@ class Answers(unittest.TestCase):
         self.assertEqual(read(LOADED, KEYS).lost, [])
 
     def test_lines_that_are_none_of_an_answer(self):
-        for odd in ('', 'load refused 53\n', LOADED + 'rules\n', LOADED + 'rule x holds cases=1\n',
-                    LOADED + 'rule 1 holds\n', LOADED + 'rule 1 holds cases=1 by\n',
-                    LOADED + 'rule 1 holds cases=x\n',
-                    LOADED + 'rule 1 perhaps\n', LOADED + 'rule 1 timed QA1=0\n',
-                    LOADED + 'rule 1 broken QX=0\n', LOADED + 'rule 1 broken QA1\n',
-                    LOADED + 'rule 1 broken QA1=\n', LOADED + 'rule 1 broken QA1=0..\n',
-                    LOADED + 'rule 1 broken M1_AA=5..4\n',
-                    LOADED + 'rule 1 broken M1_AA=2147483648\n',
+        for odd in ('', 'load refused 53\n', LOADED + 'rules\n',
+                    *(LOADED + f'rule {told}\n' for told in (
+                        'x QA1 open holds cases=1', '1 holds cases=1', '1 QX open holds cases=1',
+                        '1 QA1 shut holds cases=1', '1 QA1 open', '1 QA1 open holds',
+                        '1 QA1 open holds cases=1 by', '1 QA1 open holds cases=x',
+                        '1 QA1 open perhaps', '1 QA1 open timed', '1 QA1 open many QA1=0',
+                        '1 QA1 open broken QX=0', '1 QA1 open broken QA1',
+                        '1 QA1 open broken QA1=', '1 QA1 open broken QA1=0..',
+                        '1 QA1 open broken M1_AA=5..4', '1 QA1 open broken M1_AA=2147483648')),
                     LOADED + 'release QX open cases=0\n', LOADED + 'release QA1 shut cases=0\n',
                     LOADED + 'release QA1 open cases=2\nQA1=0\n',
                     LOADED + 'release QA1 open cases=1\nhangs QA1=0\n',
@@ -117,7 +119,7 @@ class Answers(unittest.TestCase):
                     LOADED + 'lost QA1 open hangs\n', LOADED + 'lost QA1 open hangs t1\n',
                     LOADED + 'lost QA1 open blocked by t1\n',
                     LOADED + 'lost QA1 open released QA1=3\n',
-                    LOADED + 'rule 1 many\n\n'):
+                    LOADED + 'rule 1 QA1 open many\n\n'):
             with self.assertRaises(Bad, msg=odd):
                 read(odd, KEYS)
 
@@ -143,6 +145,13 @@ class Asking(Tools):
         self.assertIsNone(self.answer(ANSWER, 0, '  check    Checks, and is no audit\n'))
         self.assertIsNone(asking.releases_of(self.bayctl('', 0, ''), 'bay', 'logic', KEYS))
 
+    def test_releases_are_asked_for_with_a_rule_that_asks_nothing(self):
+        keys = {(SWITCH, 'CLOSED'), (SWITCH, 'QB1'), (INPUT, 'A')}
+        rule, = read_rules(asking.any_rule(keys), keys)
+        self.assertEqual((rule.switch, rule.can_apply()), ('QB1', False))
+        found = asking.releases_of(self.bayctl(ANSWER), 'bay', 'logic', KEYS)
+        self.assertEqual((found.rules, len(found.releases)), ([], 4))
+
     def test_statuses(self):
         for status in (0, 4):
             self.assertEqual(len(self.answer(ANSWER, status).rules), 5)
@@ -164,7 +173,7 @@ class Asking(Tools):
                '[[input]]\nname = "VT_DEAD"\n')
         words = [self.file('bay', bay), self.file('logic', 'PROGRAM p\nEND_PROGRAM\n')]
         rules = 'always QA1 open when VT_DEAD\nnever QC1 close when QA1 not open\n'
-        printed = LOADED + ('rule 1 holds cases=2\nrule 2 broken QA1=0\n'
+        printed = LOADED + ('rule 1 QA1 open holds cases=2\nrule 2 QC1 close broken QA1=0\n'
                             'lost QA1 open released\nlost QA1 close blocked\n'
                             'lost QC1 open released\nlost QC1 close hangs by t1\n')
         found = self.call_tool('audit', *words, self.file('rules', rules), '--bayctl',
@@ -172,7 +181,7 @@ class Asking(Tools):
         self.assertEqual((found.status, found.out.splitlines()[:5]), (1, [
             'PROVED: QA1 may always be opened when VT_DEAD',
             'BROKEN: never QC1 close when QA1 not open',
-            '    proved: in every state of the program with QA1 intermediate',
+            '    proved: in every state that the program can reach, with QA1 intermediate',
             '    tried: broken in 6 of 6 combinations, first by QA1 intermediate, VT_DEAD 0',
             '    replay broken_2.scenario, which shows it']), found)
         at = found.out.splitlines().index(
@@ -186,7 +195,7 @@ class Asking(Tools):
                                           '0 input VT_DEAD 0\n0 scan\n'))
         found = self.call_tool('audit', *words, self.file('rules', rules.split('\n')[0] + '\n'),
                                '--inputs', 'VT_DEAD=1', '--bayctl',
-                               self.bayctl(LOADED + 'rule 1 holds cases=2\n'))
+                               self.bayctl(LOADED + 'rule 1 QA1 open holds cases=2\n'))
         self.assertEqual(found.out.splitlines()[0],
                          'RESTRICTED: VT_DEAD only 1. This bears on what is tried alone.')
         self.assertEqual((found.out.splitlines()[-1], found.status), (
@@ -223,17 +232,20 @@ class Verdicts(unittest.TestCase):
             ['OPEN: never QC1 close when not VT_DEAD',
              'holds, unless t1 breaks it with VT_DEAD 0; tried in 4 combinations, no break found'],
             ['BROKEN: never QC1 close when QA1 not open',
-             'proved: in every state of the program with QA1 intermediate|closed|bad, VT_DEAD 1',
+             'proved: in every state that the program can reach, with QA1 intermediate|closed|bad, '
+             'VT_DEAD 1',
              verdicts.DOUBTED],
-            ['TRIED: never QC1 close until VT_DEAD for 5s',
-             'not proved; tried in 8 combinations, no break found'],
+            ['OPEN: never QC1 close until VT_DEAD for 5s',
+             'holds, unless t1 or LOCK breaks it with VT_DEAD 1; tried in 8 combinations, no break '
+             'found'],
             ['OPEN: never QC1 open',
              'there are too many cases to prove it; tried in 8 combinations, no break found']])
         self.assertEqual((verdicts.status(found), verdicts.verdict(found)), (
-            1, 'NOT PASSED: of 5 rules 1 proved, 1 broken, 2 open, 1 tried without a break.'))
+            1, 'NOT PASSED: of 5 rules 1 proved, 1 broken, 3 open.'))
 
     def test_a_rule_with_a_time_that_a_timer_bears(self):
-        found = proved(RULES.split('\n')[3] + '\n', LOADED + 'rule 1 holds cases=11 by t1\n')
+        found = proved(RULES.split('\n')[3] + '\n',
+                       LOADED + 'rule 1 QC1 close holds cases=11 by t1\n')
         self.assertEqual(found.answer.rules[0].timer, 't1')
         self.assertEqual(self.lines(found), [
             ['PROVED: no command to close QC1 until VT_DEAD for 5s (by timer t1)']])
@@ -241,19 +253,17 @@ class Verdicts(unittest.TestCase):
                          (0, 'PASSED: the rule is proved.'))
 
     def test_verdicts(self):
-        held = 'rule 1 holds cases=3\n'
+        held = 'rule 1 QA1 open holds cases=3\n'
         for rules, printed, status, told in (
                 ('always QA1 open\n', held, 0, 'PASSED: the rule is proved.'),
-                ('look M1_AA 0|5\nalways QA1 open\n', 'rule 2 holds cases=1\n', 0,
+                ('look M1_AA 0|5\nalways QA1 open\n', 'rule 2 QA1 open holds cases=1\n', 0,
                  'PROVED: the rule is proved; the restriction bears on nothing that is proved.'),
-                ('look QA1 open\nalways QA1 open\n', 'rule 2 holds cases=1\n', 0,
+                ('look QA1 open\nalways QA1 open\n', 'rule 2 QA1 open holds cases=1\n', 0,
                  'PROVED: the rule is proved; the restriction bears on nothing that is proved.'),
-                ('always QA1 open when VT_DEAD and not VT_DEAD\n', 'rule 1 holds cases=2\n', 4,
+                ('always QA1 open when VT_DEAD and not VT_DEAD\n',
+                 'rule 1 QA1 open holds cases=2\n', 4,
                  'NOT ALL WAS PROVED OR TRIED: the rule never applied.'),
-                ('look M1_AA 0|5\n' + RULES.split('\n')[3], 'rule 2 timed\n', 0,
-                 'TRIED UNDER A RESTRICTION: the rule holds in what was tried; tried with M1_AA '
-                 'only 0|5.'),
-                ('always QA1 open\nnever QC1 open\n', held + 'rule 2 open by t1\n', 4,
+                ('always QA1 open\nnever QC1 open\n', held + 'rule 2 QC1 open open by t1\n', 4,
                  'NOT ALL WAS PROVED OR TRIED: of 2 rules 1 proved, 1 open; M1_AA was tried only '
                  '0.')):
             found = proved(rules, LOADED + printed)
@@ -263,27 +273,44 @@ class Verdicts(unittest.TestCase):
         file = {**FILE, 'meter': []}
         logic = 'PROGRAM p\nVAR_EXTERNAL\nQA1_OPEN, VT_DEAD : BOOL;\nEND_VAR\nLD VT_DEAD\n' \
             'AND QA1_OPEN\nEND_PROGRAM\n'
-        found = proved('always QA1 open\nnever QC1 open\n', LOADED + 'rule 1 holds cases=1\n'
-                       'rule 2 open by t1\n', file=file, logic=logic)
+        held = LOADED + 'rule 1 QA1 open holds cases=1\n'
+        found = proved('always QA1 open\nnever QC1 open\n', held + 'rule 2 QC1 open open by t1\n',
+                       file=file, logic=logic)
         self.assertEqual((verdicts.status(found), verdicts.verdict(found)), (
             4, 'NOT ALL WAS PROVED OR TRIED: of 2 rules 1 proved, 1 open.'))
         found = proved('always QA1 open\nnever QC1 close until VT_DEAD for 5s\n',
-                       LOADED + 'rule 1 holds cases=1\nrule 2 timed\n', file=file, logic=logic)
+                       held + 'rule 2 QC1 close holds cases=1\n', file=file, logic=logic)
         self.assertEqual((verdicts.status(found), verdicts.verdict(found)), (
-            0, 'PASSED (NOT ALL PROVED): of 2 rules 1 proved, 1 tried without a break.'))
+            0, 'PASSED: all 2 rules are proved.'))
+
+    def test_a_rule_with_a_time_that_is_broken(self):
+        for released, wanted in ((6000, True), (5000, False)):
+            finding, = proved(AFTER, LOADED + 'rule 1 QC1 close broken QA1=1 VT_DEAD=1\n',
+                              time=released).findings
+            self.assertEqual(finding.shown.lines[-2:], ['0 scan', '5000 scan'])
+            self.assertEqual((finding.shown.is_so, finding.is_doubted()), (wanted, not wanted))
+            finding, = proved(UNTIL, LOADED + 'rule 1 QC1 close broken QA1=1|2\n',
+                              time=released - 2000).findings
+            self.assertEqual(finding.shown.state, {
+                **finding.shown.state, QA1: 1, DEAD: 1, AA: -2 ** 31})
+            self.assertEqual(finding.shown.lines[-2:], ['0 scan', '4999 scan'])
+            self.assertTrue(finding.shown.is_so)
+        found = proved(AFTER, LOADED + 'rule 1 QC1 close holds cases=2\n')
+        self.assertEqual(self.lines(found), [
+            ['PROVED: QC1 may always be closed after VT_DEAD for 5s when QA1 open']])
 
     def test_a_replay_that_speaks_against_a_proof(self):
-        found = proved('never QA1 open\n', LOADED + 'rule 1 holds cases=1\n')
+        found = proved('never QA1 open\n', LOADED + 'rule 1 QA1 open holds cases=1\n')
         self.assertEqual((found.findings[0].verdict(), verdicts.status(found)), ('BROKEN', 1))
         self.assertIn(verdicts.DOUBTED, self.lines(found)[0])
 
     def test_what_is_settled_is_not_tried_where_that_is_much(self):
         look = 'look M1_AA ' + '|'.join(map(str, range(10_000))) + '\n'
-        found = proved(look + 'always QA1 open\n', LOADED + 'rule 2 holds cases=1\n')
+        found = proved(look + 'always QA1 open\n', LOADED + 'rule 2 QA1 open holds cases=1\n')
         self.assertEqual((len(found.table), verdicts.status(found)), (0, 0))
         self.assertEqual(judging.uncovered(found), {})
         with mock.patch.multiple('auditing.judging', USUAL=4, WHOLE=100):
-            rules, answer = 'always QA1 open\n', LOADED + 'rule 1 holds cases=2\n'
+            rules, answer = 'always QA1 open\n', LOADED + 'rule 1 QA1 open holds cases=2\n'
             self.assertEqual([len(proved(rules, answer, is_table_asked=it).table)
                               for it in (False, True)], [0, 8])
         with mock.patch.multiple('auditing.judging', USUAL=4, WHOLE=4, SAMPLED=5):
@@ -297,7 +324,7 @@ class Verdicts(unittest.TestCase):
             'QC1 may be closed while the process is lost: each position is bad and each input 0'])
         self.assertIn('<h2>When the process is lost</h2>', page_of(found))
         self.assertIn('QC1 may be closed while the process is lost', page_of(found))
-        breaker = proved('always QA1 open\n', LOADED + 'rule 1 holds cases=1\n'
+        breaker = proved('always QA1 open\n', LOADED + 'rule 1 QA1 open holds cases=1\n'
                          'lost QA1 open released\nlost QA1 close released\n'
                          'lost QC1 open released\n')
         self.assertEqual([it.split(' while')[0] for it in verdicts.lost_warnings(breaker)],
@@ -305,7 +332,7 @@ class Verdicts(unittest.TestCase):
 
     def test_a_bayctl_that_does_not_tell_it(self):
         for found in (audited('always QA1 open\n'),
-                      proved('always QA1 open\n', LOADED + 'rule 1 holds cases=1\n')):
+                      proved('always QA1 open\n', LOADED + 'rule 1 QA1 open holds cases=1\n')):
             self.assertEqual(proving.lost_table(found.answer, FILE), [])
             self.assertEqual(verdicts.lost_warnings(found), [])
             self.assertNotIn('process is lost', page_of(found))

@@ -23,13 +23,15 @@ use Rattle.bay_rules.specs.Meaning.{TextRead}
 use Rattle.bay_rules.specs.declared.fault.RuleFault.{RuleFault}
 use Rattle.bay_rules.specs.declared.rule.Rule.{Rule}
 use Rattle.il_image.specs.Images.{Image}
-use Rattle.bay_auditing.specs.Text.{Known, answers_text, is_passed, refusal_text, refused_log, releases_text}
+use Rattle.il_text.specs.Listing.{Declared}
+use Rattle.bay_auditing.specs.Names.{Known, declared_in, known_of}
+use Rattle.bay_auditing.specs.Text.{answers_text, is_passed, refusal_text, refused_log, releases_text}
 
 -- Rules are answered, and it is told when each switch is released, and whether it is while the
--- process is lost: there are lines for each, and each is right.
-pub record Answers (bay : Bay) (image : Image) (rules : List Rule) (text : List ℕ) (status : ℕ)
-    : Type 0 where
-  pub names : Known
+-- process is lost: there are lines for each, and each is right. What the program keeps stands in
+-- them by these names.
+pub record Answers (bay : Bay) (names : Known) (image : Image) (rules : List Rule) (text : List ℕ)
+    (status : ℕ) : Type 0 where
   pub answers : List Answer
   pub right : AreRight (program_of bay image) rules answers
   pub releases : List Release
@@ -49,30 +51,30 @@ abbrev pub log_in : Option RuleFault → Option (List ℕ)
 log_in refused = option_and_then refused_log refused
 
 -- what is said of rules; or of a text that has none, and which line is logged then
-abbrev pub SaysOf : Bay → Image → Result (List Rule) RuleFault → Option (List ℕ) → List ℕ → ℕ
-    → Type 0
-SaysOf bay image (Ok rules) log text status =
-    (log ≡ None) × Answers bay image rules text status
-SaysOf bay image (Err fault) log text status =
+abbrev pub SaysOf : Bay → Known → Image → Result (List Rule) RuleFault → Option (List ℕ) → List ℕ
+    → ℕ → Type 0
+SaysOf bay names image (Ok rules) log text status =
+    (log ≡ None) × Answers bay names image rules text status
+SaysOf bay names image (Err fault) log text status =
     IsTold (refused_log fault) (refusal_text fault) 1 log text status
 
--- the same for the bay as which a file reads
-pub record SaysFor (file : Result Bay BayFault) (rules : List ℕ) (image : Image)
-    (log : Option (List ℕ)) (text : List ℕ) (status : ℕ) : Type 0 where
+-- the same for the bay as which a file reads, and the names of what a program declares
+pub record SaysFor (file : Result Bay BayFault) (declared : List Declared) (rules : List ℕ)
+    (image : Image) (log : Option (List ℕ)) (text : List ℕ) (status : ℕ) : Type 0 where
   pub bay : Bay
   pub read : file ≡ Ok bay
   pub meant : Result (List Rule) RuleFault
   pub means : TextRead bay rules meant
-  pub says : SaysOf bay image meant log text status
+  pub says : SaysOf bay (known_of image.points declared) image meant log text status
 
 -- of a device: the line of its load, and what is said of rules, unless there is no memory for that
-pub record DeviceReport (file : Result Bay BayFault) (rules : List ℕ) (s : State)
-    (log : Option (List ℕ)) (text : List ℕ) (status : ℕ) : Type 0 where
+pub record DeviceReport (file : Result Bay BayFault) (declared : List Declared) (rules : List ℕ)
+    (s : State) (log : Option (List ℕ)) (text : List ℕ) (status : ℕ) : Type 0 where
   pub report : Report
   pub is : IsReport s.machine.image report
   pub rest : List ℕ
   pub whole : text ≡ report_text report ++ rest
-  pub says : SaysFor file rules s.machine.image log rest status
+  pub says : SaysFor file declared rules s.machine.image log rest status
       ⊎ IsTold None (codes "fault memory\n") 3 log rest status
 
 -- the device is that of the bay file and the program
@@ -80,7 +82,7 @@ pub record LoadedReport (bay : List ℕ) (form : Form) (program rules : List ℕ
     (log : Option (List ℕ)) (text : List ℕ) (status : ℕ) : Type 0 where
   pub device : State
   pub loaded : IsLoaded (file_of bay) (IsImageOf form program) device
-  pub tells : DeviceReport (file_of bay) rules device log text status
+  pub tells : DeviceReport (file_of bay) (declared_in form program) rules device log text status
 
 -- or the load is refused
 pub record LoadRefused (bay : List ℕ) (form : Form) (program : List ℕ)

@@ -23,9 +23,10 @@ use Rattle.bay_nodes.specs.declared.switch.Operation.TheVariants as operations
 use Rattle.bay_nodes.specs.declared.switch.Switch.{Switch}
 use Rattle.bay_rules.specs.Code.{code_of, line_of}
 use Rattle.bay_rules.specs.declared.fault.RuleFault.{RuleFault}
-use Rattle.bay_rules.specs.declared.fault.RuleFault.TheVariants.{BadWord, BadLine, UnknownName, BadValue, TooMany, OutOfMemory}
+use Rattle.bay_rules.specs.declared.fault.RuleFault.TheVariants.{BadWord, BadLine, UnknownName, BadValue, TooMany, NoRule, OutOfMemory}
 use Rattle.bay_rules.specs.declared.rule.Rule.{Rule}
 use Rattle.il_image.specs.declared.image.ImagePoint.{ImagePoint}
+use Rattle.bay_auditing.specs.Names.{Known}
 use Rattle.bay_tree.specs.declared.leaf.Dbpos.TheVariants.{Intermediate, Off, On, Bad}
 
 -- ---- a case
@@ -101,11 +102,6 @@ case_text bay case = flat_map (point_text bay case) bay.points
 
 -- ---- what a program keeps
 
-pub record Known : Type 0 where
-  pub points : List ImagePoint
-  pub variables : List (List ℕ)
-  pub timers : List (List ℕ)
-
 -- a name, or else a word and the number
 abbrev pub named_text : List ℕ → ℕ → Option (List ℕ) → List ℕ
 named_text word k None = codes " " ++ (word ++ decimal k)
@@ -132,36 +128,47 @@ kept_text names kept =
 
 -- ---- answers
 
-abbrev pub front_text : ℕ → List ℕ → List ℕ
-front_text line word = codes "rule " ++ (decimal line ++ word)
+abbrev pub operation_text : Operation → List ℕ
+operation_text operations.Open = codes " open"
+operation_text operations.Close = codes " close"
 
-abbrev pub said_text : Bay → Known → ℕ → Answer → List ℕ
-said_text bay names line (answer.Holds cases) =
-    front_text line (codes " holds cases=") ++ decimal cases
-said_text bay names line (answer.Broken case) =
-    front_text line (codes " broken") ++ case_text bay case
-said_text bay names line (answer.Open case kept) =
-    front_text line (codes " open") ++ (case_text bay case ++ kept_text names kept)
-said_text bay names line (answer.Since n cases) =
-    front_text line (codes " holds cases=")
-    ++ (decimal cases ++ (codes " by" ++ timer_text names n))
-said_text bay names line answer.TooMany = front_text line (codes " many")
-said_text bay names line answer.Timed = front_text line (codes " timed")
+-- a word, the id of a switch and an operation
+abbrev pub way_text : List ℕ → List ℕ → Operation → List ℕ
+way_text word id operation = word ++ (id ++ operation_text operation)
+
+abbrev pub id_of : Option Switch → List ℕ
+id_of None = []
+id_of (Some switch) = switch.id
+
+-- the line of a rule, its switch and its operation
+abbrev pub front_text : Bay → Rule → List ℕ
+front_text bay rule =
+    codes "rule " ++ (decimal rule.line
+    ++ way_text (codes " ") (id_of (slice_get bay.switches rule.switch)) rule.operation)
+
+abbrev pub said_text : Bay → Known → Answer → List ℕ
+said_text bay names (answer.Holds cases) = codes " holds cases=" ++ decimal cases
+said_text bay names (answer.Broken case) = codes " broken" ++ case_text bay case
+said_text bay names (answer.Open case kept) =
+    codes " open" ++ (case_text bay case ++ kept_text names kept)
+said_text bay names (answer.Since n cases) =
+    codes " holds cases=" ++ (decimal cases ++ (codes " by" ++ timer_text names n))
+said_text bay names answer.TooMany = codes " many"
 
 abbrev pub answer_text : Bay → Known → Rule × Answer → List ℕ
-answer_text bay names pair = said_text bay names pair.0.line pair.1 ++ codes "\n"
+answer_text bay names pair =
+    front_text bay pair.0 ++ (said_text bay names pair.1 ++ codes "\n")
 
 abbrev pub answers_text : Bay → Known → List (Rule × Answer) → List ℕ
 answers_text bay names pairs = flat_map (answer_text bay names) pairs
 
--- a rule holds, or has a time and is not answered
+-- a rule holds
 abbrev pub is_passed : Answer → Bool
 is_passed (answer.Holds cases) = true
 is_passed (answer.Broken case) = false
 is_passed (answer.Open case kept) = false
 is_passed answer.TooMany = false
 is_passed (answer.Since n cases) = true
-is_passed answer.Timed = true
 
 -- ---- releases
 
@@ -182,14 +189,6 @@ cases_text bay names cases =
 abbrev pub found_text : Bay → Known → Release → List ℕ
 found_text bay names r =
     if length r.left.items == 0 then cases_text bay names r.cases.items else codes " many\n"
-
-abbrev pub operation_text : Operation → List ℕ
-operation_text operations.Open = codes " open"
-operation_text operations.Close = codes " close"
-
--- a word, the id of a switch and an operation
-abbrev pub way_text : List ℕ → List ℕ → Operation → List ℕ
-way_text word id operation = word ++ (id ++ operation_text operation)
 
 abbrev pub release_of : Bay → Known → List ℕ → Release → List ℕ
 release_of bay names id r =
@@ -251,6 +250,7 @@ fault_words (BadLine line) = codes "a line is no rule"
 fault_words (UnknownName line) = codes "a name is unknown"
 fault_words (BadValue line) = codes "a position, a value or a time that what is named can't have"
 fault_words (TooMany line) = codes "too many rules, or too many parentheses within each other"
+fault_words NoRule = codes "a text without a rule"
 fault_words OutOfMemory = codes "out of memory"
 
 -- the line of rules that are refused

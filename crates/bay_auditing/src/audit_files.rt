@@ -3,11 +3,12 @@ ghost use Rattle.std.specs.Prelude.{◌≡◌, ◌++◌, None, Ok, true, is_ok, 
 ghost use Rattle.bay_report.specs.Load.{file_of};
 ghost use Rattle.bay_report.specs.LogLines.{IsTold, LogsSome, PrintsLogs};
 ghost use Rattle.bay_report.specs.Report.{code_of, report_text};
+ghost use Rattle.bay_auditing.specs.Names.{declared_in, known_of};
 ghost use Rattle.bay_auditing.specs.Auditing.{Answers, Audits, SaysFor, SaysRefused, log_in};
 
 use crate::kept::names_of;
 use crate::text::{are_passed, fault_words, put_answers, put_refused, put_releases};
-use bay_audit::audit::audit;
+use bay_audit::audit::{PASSES, audit};
 use bay_config::bay::Bay;
 use bay_config::fault::BayFault;
 use bay_config::read::read_bay;
@@ -27,9 +28,6 @@ use bay_rules::rule::Rule;
 use il_verify::verify::Verified;
 use std::alloc::{AllocError, Global};
 
-// The most passes over the code for one rule.
-const PASSES: u32 = 10_000;
-
 // The lines behind a load's line, the exit status, and why rules are refused, if they are.
 #[derive(Drop)]
 struct AuditOutput {
@@ -47,8 +45,8 @@ fn answers_said(
     program: &[u8],
     rules: &[Rule],
 ) -> Result<AuditOutput, AllocError>
-    ensures answers { IfOk result
-        (λ said. Answers bay.now verified.now rules.now said.text.items (code_of said.status)) }
+    ensures answers { IfOk result (λ said. Answers bay.now (known_of verified.now.points
+        (declared_in form program.now)) verified.now rules.now said.text.items (code_of said.status)) }
     ensures taken { IfOk result (λ said. said.refused ≡ None) }
 {
     let names = names_of(alloc, verified.image().points(), form, program)?;
@@ -109,8 +107,8 @@ fn device_said(
     device: &Device,
 ) -> Result<AuditOutput, AllocError>
     requires { is_ok (file_of both.now.bay.items) ≡ true }
-    ensures { IfOk result (λ said. SaysFor (file_of both.now.bay.items) rules.now
-        device.now.machine.image (log_in said.refused) said.text.items (code_of said.status)) }
+    ensures { IfOk result (λ said. SaysFor (file_of both.now.bay.items)
+        (declared_in form both.now.program.items) rules.now device.now.machine.image (log_in said.refused) said.text.items (code_of said.status)) }
 {
     let bay = bay_again(alloc, both.bay.as_slice())?;
     match read_rules(alloc, &bay, rules) {
@@ -173,7 +171,7 @@ fn write_said<W: Sink>(
 
 /// Answers a text of rules for a bay file and a program or an image, by the names of their files.
 /// Writes the line of the load, a line for each rule, and those of the releases. The exit status is
-/// 0 if each rule holds or has a time, 4 if not, 1 if the load or the rules are refused, and 3 if a
+/// 0 if each rule holds, 4 if not, 1 if the load or the rules are refused, and 3 if a
 /// file can't be read, or memory runs out.
 pub fn audit_files<F: FileSystem, W: Sink>(
     alloc: Global,

@@ -1,6 +1,8 @@
 // The names of what a program keeps from scan to scan.
-ghost use Rattle.std.specs.Prelude.{◌≡◌, map};
-ghost use Rattle.bay_auditing.specs.Text.{Known};
+ghost use Rattle.std.specs.Prelude.{◌≡◌, IfOk, OnOk, map};
+ghost use Rattle.bay_report.specs.Load.{text_of};
+ghost use Rattle.il_text.specs.ItemViews.{declared_of};
+ghost use Rattle.bay_auditing.specs.Names.{declarations_of, declared_in, known_of, with_declared};
 
 use bay_report::load::Form;
 use il_image::image::ImagePoint;
@@ -22,7 +24,7 @@ pub struct KeptNames<'a> {
 
 impl<'a> Model for KeptNames<'a> {
     ghost use Rattle.std.specs.Prelude.{map};
-    ghost use Rattle.bay_auditing.specs.Text.{Known};
+    ghost use Rattle.bay_auditing.specs.Names.{Known};
 
     ghost Value = { Known };
 
@@ -34,8 +36,10 @@ impl<'a> Model for KeptNames<'a> {
 }
 
 impl<'a> KeptNames<'a> {
-    // Adds the name of a variable or a timer.
-    fn add(&mut self, declared: &Declaration<'a>) -> Result<(), AllocError> {
+    // Adds what is declared, if it is a variable or a timer of the program.
+    fn add(&mut self, declared: &Declaration<'a>) -> Result<(), AllocError>
+        ensures { OnOk result (self.new ≡ with_declared self.old (declared_of declared.now)) }
+    {
         match (declared.scope, declared.kind) {
             (VariableScope::External, _) => {}
             (VariableScope::Local, DeclaredType::Elementary(_)) => self
@@ -47,29 +51,59 @@ impl<'a> KeptNames<'a> {
     }
 }
 
-/// Returns the names of a program that was loaded in this form.
-pub fn names_of<'a>(
+// Returns the names where this is declared.
+fn names_in<'a>(
     alloc: Global,
     points: &'a [ImagePoint],
-    form: Form,
-    program: &'a [u8],
-) -> Result<KeptNames<'a>, AllocError> {
+    declarations: &[Declaration<'a>],
+) -> Result<KeptNames<'a>, AllocError>
+    ensures { IfOk result
+        (λ names. names ≡ known_of points.now (map declared_of declarations.now)) }
+{
     let mut names = KeptNames {
         points,
         variables: Vec::new(alloc),
         timers: Vec::new(alloc),
     };
-    let (Form::Logic, Ok(text)) = (form, std::str::from_utf8(program)) else {
-        return Ok(names);
+    for declared in declarations {
+        names.add(declared)?;
+    }
+    Ok(names)
+}
+
+// Returns the names of the program of a text.
+fn text_names<'a>(
+    alloc: Global,
+    points: &'a [ImagePoint],
+    program: &'a [u8],
+) -> Result<KeptNames<'a>, AllocError>
+    ensures { IfOk result
+        (λ names. names ≡ known_of points.now (declarations_of (text_of program.now))) }
+{
+    let Ok(text) = std::str::from_utf8(program) else {
+        return names_in(alloc, points, &[]);
     };
     match read_program(alloc, text) {
-        Ok(read) => {
-            for declared in read.declarations.as_slice() {
-                names.add(declared)?;
-            }
-            Ok(names)
-        }
-        Err(TextFault::OutOfMemory) => Err(AllocError),
-        Err(_) => Ok(names),
+        Ok(read) => names_in(alloc, points, read.declarations.as_slice()),
+        Err(fault) => match fault {
+            TextFault::OutOfMemory => Err(AllocError),
+            _ => names_in(alloc, points, &[]),
+        },
+    }
+}
+
+/// Returns the names of a program in this form: those of what it declares.
+pub fn names_of<'a>(
+    alloc: Global,
+    points: &'a [ImagePoint],
+    form: Form,
+    program: &'a [u8],
+) -> Result<KeptNames<'a>, AllocError>
+    ensures { IfOk result
+        (λ names. names ≡ known_of points.now (declared_in form program.now)) }
+{
+    match form {
+        Form::Logic => text_names(alloc, points, program),
+        Form::Image => names_in(alloc, points, &[]),
     }
 }

@@ -233,49 +233,70 @@ fn put_kept(text: &mut Vec<u8>, names: &KeptNames<'_>, kept: &Kept) -> Result<()
     Ok(())
 }
 
-// Adds the front of the line of a rule's answer.
-fn put_front(text: &mut Vec<u8>, rule: &Rule, word: &[u8]) -> Result<(), AllocError>
+// Adds a word, the id of a switch and an operation.
+fn put_way(
+    text: &mut Vec<u8>,
+    word: &[u8],
+    id: &str,
+    operation: Operation,
+) -> Result<(), AllocError>
     ensures { OnOk result
-        (text.new.items ≡ text.old.items ++ spec.front_text rule.now.line word.now) }
+        (text.new.items ≡ text.old.items ++ spec.way_text word.now id.now operation) }
+{
+    text.extend_from_slice(word)?;
+    text.extend_from_slice(id.as_bytes())?;
+    let operation: &[u8] = match operation {
+        Operation::Open => b" open",
+        Operation::Close => b" close",
+    };
+    text.extend_from_slice(operation)
+}
+
+// Adds the front of the line of a rule's answer: the rule's line, its switch and its operation.
+fn put_front(text: &mut Vec<u8>, bay: &Bay, rule: &Rule) -> Result<(), AllocError>
+    ensures { OnOk result
+        (text.new.items ≡ text.old.items ++ spec.front_text bay.now rule.now) }
 {
     text.extend_from_slice(b"rule ")?;
     put_number(text, rule.line as u64)?;
-    text.extend_from_slice(word)
+    let id = match bay.switches.as_slice().get(rule.switch) {
+        Some(found) => found.id.as_str(),
+        None => "",
+    };
+    put_way(text, b" ", id, rule.operation)
 }
 
-// Adds what an answer says behind the line of its rule.
+// Adds what an answer says of its rule.
 fn put_said(
     text: &mut Vec<u8>,
     bay: &Bay,
     names: &KeptNames<'_>,
-    rule: &Rule,
     answer: &Answer,
 ) -> Result<(), AllocError>
-    ensures { OnOk result (text.new.items ≡ text.old.items
-        ++ spec.said_text bay.now names.now rule.now.line answer.now) }
+    ensures { OnOk result
+        (text.new.items ≡ text.old.items ++ spec.said_text bay.now names.now answer.now) }
 {
     match answer {
         Answer::Holds { cases } => {
-            put_front(text, rule, b" holds cases=")?;
+            text.extend_from_slice(b" holds cases=")?;
             put_number(text, u64::from(*cases))
         }
         Answer::Broken { case } => {
-            put_front(text, rule, b" broken")?;
+            text.extend_from_slice(b" broken")?;
             put_case(text, bay, case)
         }
         Answer::Open { case, kept } => {
-            put_front(text, rule, b" open")?;
+            text.extend_from_slice(b" open")?;
             put_case(text, bay, case)?;
             put_kept(text, names, kept)
         }
         Answer::Since { timer, cases } => {
-            put_front(text, rule, b" holds cases=")?;
+            text.extend_from_slice(b" holds cases=")?;
             put_number(text, u64::from(*cases))?;
             text.extend_from_slice(b" by")?;
             put_named(text, names.timers.as_slice(), *timer, b"timer")
         }
-        Answer::TooMany => put_front(text, rule, b" many"),
-        Answer::Timed => put_front(text, rule, b" timed"),
+        Answer::TooMany => text.extend_from_slice(b" many"),
     }
 }
 
@@ -290,7 +311,8 @@ fn put_answer(
     ensures { OnOk result (text.new.items ≡ text.old.items
         ++ spec.answer_text bay.now names.now (rule.now, answer.now)) }
 {
-    put_said(text, bay, names, rule, answer)?;
+    put_front(text, bay, rule)?;
+    put_said(text, bay, names, answer)?;
     text.extend_from_slice(b"\n")
 }
 
@@ -374,25 +396,6 @@ fn put_cases(
         put_told_line(text, bay, names, told)?;
     }
     Ok(())
-}
-
-// Adds a word, the id of a switch and an operation.
-fn put_way(
-    text: &mut Vec<u8>,
-    word: &[u8],
-    id: &str,
-    operation: Operation,
-) -> Result<(), AllocError>
-    ensures { OnOk result
-        (text.new.items ≡ text.old.items ++ spec.way_text word.now id.now operation) }
-{
-    text.extend_from_slice(word)?;
-    text.extend_from_slice(id.as_bytes())?;
-    let operation: &[u8] = match operation {
-        Operation::Open => b" open",
-        Operation::Close => b" close",
-    };
-    text.extend_from_slice(operation)
 }
 
 // Adds the lines of a release of the switch with this id.
@@ -511,21 +514,22 @@ pub fn fault_words(fault: RuleFault) -> &'static [u8]
             b"a position, a value or a time that what is named can't have"
         }
         RuleFault::TooMany { .. } => b"too many rules, or too many parentheses within each other",
+        RuleFault::NoRule => b"a text without a rule",
         RuleFault::OutOfMemory => b"out of memory",
     }
 }
 
-// Whether an answer leaves its rule unbroken: it holds, or has a time and was not asked.
+// Whether a rule holds.
 fn is_passed(answer: &Answer) -> bool
     ensures { result ≡ spec.is_passed answer.now }
 {
     match answer {
-        Answer::Holds { .. } | Answer::Since { .. } | Answer::Timed => true,
+        Answer::Holds { .. } | Answer::Since { .. } => true,
         Answer::Broken { .. } | Answer::Open { .. } | Answer::TooMany => false,
     }
 }
 
-/// Whether each rule holds, or has a time and is not answered.
+/// Whether each rule holds.
 pub fn are_passed(answers: &[Answer]) -> bool
     ensures { result ≡ list_all spec.is_passed answers.now }
 {

@@ -1,0 +1,64 @@
+-- The names of what a program keeps from scan to scan.
+use Rattle.std.specs.Prelude.{ℕ, List, [], ◌∷◌, ◌++◌, Result, Ok, Err}
+use Rattle.std.specs.List.{flat_map}
+use Rattle.bay_report.specs.Load.{text_of}
+use Rattle.bay_report.specs.declared.load.Form.{Form}
+use Rattle.bay_report.specs.declared.load.Form.TheVariants.{Logic, Image}
+use Rattle.il_image.specs.declared.image.ImagePoint.{ImagePoint}
+use Rattle.il_text.specs.Listing.{Declared, PlainProgram}
+use Rattle.il_text.specs.declared.fault.TextFault.{TextFault}
+use Rattle.il_text.specs.declared.program.DeclaredType.{DeclaredType}
+use Rattle.il_text.specs.declared.program.DeclaredType.TheVariants.{Elementary, Timer}
+use Rattle.il_text.specs.declared.program.VariableScope.{VariableScope}
+use Rattle.il_text.specs.declared.program.VariableScope.TheVariants.{Local, External}
+
+-- the points of an image, and the names of its variables and of its timers
+pub record Known : Type 0 where
+  pub points : List ImagePoint
+  pub variables : List (List ℕ)
+  pub timers : List (List ℕ)
+
+-- the name, where it is that of a variable of the program
+abbrev pub variable_in : VariableScope → DeclaredType → List ℕ → List (List ℕ)
+variable_in Local (Elementary kind) name = name ∷ []
+variable_in Local (Timer kind) name = []
+variable_in External kind name = []
+
+-- the name, where it is that of a timer
+abbrev pub timer_in : VariableScope → DeclaredType → List ℕ → List (List ℕ)
+timer_in Local (Elementary kind) name = []
+timer_in Local (Timer kind) name = name ∷ []
+timer_in External kind name = []
+
+-- those of what is declared, in its order
+abbrev pub variable_names : List Declared → List (List ℕ)
+variable_names = flat_map (λ d. variable_in d.scope d.kind d.name)
+
+abbrev pub timer_names : List Declared → List (List ℕ)
+timer_names = flat_map (λ d. timer_in d.scope d.kind d.name)
+
+-- the names where points stand before what is declared
+abbrev pub known_of : List ImagePoint → List Declared → Known
+known_of points declared = record {
+  points = points;
+  variables = variable_names declared;
+  timers = timer_names declared;
+}
+
+-- what is declared comes behind these names
+abbrev pub with_declared : Known → Declared → Known
+with_declared names d = record {
+  points = names.points;
+  variables = names.variables ++ variable_in d.scope d.kind d.name;
+  timers = names.timers ++ timer_in d.scope d.kind d.name;
+}
+
+-- what a program declares, where there is one
+abbrev pub declarations_of : Result PlainProgram TextFault → List Declared
+declarations_of (Ok program) = program.declarations
+declarations_of (Err fault) = []
+
+-- what the octets of a program declare; an image has no names of variables and timers
+abbrev pub declared_in : Form → List ℕ → List Declared
+declared_in Logic program = declarations_of (text_of program)
+declared_in Image program = []
