@@ -1,1 +1,3 @@
+pub mod BayNameLemmas
+pub mod NameLemmas
 pub mod TextLemmas

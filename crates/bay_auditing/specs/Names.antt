@@ -1,9 +1,12 @@
 -- The names of what a program keeps from scan to scan.
-use Rattle.std.specs.Prelude.{ℕ, List, [], ◌∷◌, ◌++◌, Result, Ok, Err}
-use Rattle.std.specs.List.{flat_map}
-use Rattle.bay_report.specs.Load.{text_of}
+use Rattle.std.specs.Prelude.{◌≡◌, ℕ, true, List, [], ◌∷◌, ◌++◌, Result, Ok, Err}
+use Rattle.std.specs.List.{flat_map, list_all}
+use Rattle.bay_config.specs.Key.{is_name_character}
+use Rattle.bay_config.specs.declared.bay.Bay.{Bay}
+use Rattle.bay_report.specs.Load.{file_of, text_of}
 use Rattle.bay_report.specs.declared.load.Form.{Form}
 use Rattle.bay_report.specs.declared.load.Form.TheVariants.{Logic, Image}
+use Rattle.il_image.specs.Images.{Each, IsImage, Image as Code}
 use Rattle.il_image.specs.declared.image.ImagePoint.{ImagePoint}
 use Rattle.il_text.specs.Listing.{Declared, PlainProgram}
 use Rattle.il_text.specs.declared.fault.TextFault.{TextFault}
@@ -62,3 +65,30 @@ declarations_of (Err fault) = []
 abbrev pub declared_in : Form → List ℕ → List Declared
 declared_in Logic program = declarations_of (text_of program)
 declared_in Image program = []
+
+-- ---- names that are words
+
+-- letters, digits and `_` alone
+abbrev pub IsWord : List ℕ → Type 0
+IsWord name = list_all is_name_character name ≡ true
+
+-- each name is a word
+pub record AreWords (names : Known) : Type 0 where
+  pub points : Each (λ p. IsWord p.name) names.points
+  pub variables : Each IsWord names.variables
+  pub timers : Each IsWord names.timers
+
+-- So are the names of each program.
+abbrev pub NamesAreWords : Type 0
+NamesAreWords =
+    (image : Code) (form : Form) (program : List ℕ) → IsImage image
+    → AreWords (known_of image.points (declared_in form program))
+
+-- the ids of a bay's switches and the names of its points are words
+pub record HasWords (bay : Bay) : Type 0 where
+  pub switches : Each (λ s. IsWord s.id) bay.switches
+  pub points : Each (λ p. IsWord p.name) bay.points
+
+-- So are those of each bay as which a file reads.
+abbrev pub BaysHaveWords : Type 0
+BaysHaveWords = (file : List ℕ) (bay : Bay) → file_of file ≡ Ok bay → HasWords bay

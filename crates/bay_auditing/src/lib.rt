@@ -2,9 +2,10 @@
 // printed.
 //
 // `audit_files` is all of it. `kept` names what a program keeps from scan to scan, and `text` has
-// the lines of the answers.
+// the lines of the answers. `laws`: the names in them are words.
 #![tactic(auto)]
 
 pub mod audit_files;
 mod kept;
+pub mod laws;
 mod text;
