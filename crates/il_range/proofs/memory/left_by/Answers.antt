@@ -1,4 +1,4 @@
-use Rattle.std.proofs.Common.{◌≡◌, List, length, replicate}
+use Rattle.std.proofs.Common.{◌≡◌, length, replicate}
 use Rattle.il_scan.specs.Scans.{with_inputs}
 use Rattle.il_range.specs.declared.range.Range.TheVariants.{Any}
 use Rattle.il_range.proofs.StartLemmas.{tells-any}
