@@ -60,6 +60,14 @@ pub enum Service<'a> {
     },
 }
 
+/// The response to a confirmed request.
+#[derive(Clone, Copy)]
+pub struct Response<'a> {
+    /// The invoke id.
+    pub id: u32,
+    pub service: Service<'a>,
+}
+
 // Writes who made the device, its model and its revision (ISO 9506-2, Identify).
 #[tactic(auto, using(bay_ber::proofs::SheetLemmas::sheet_rules))]
 fn put_identity(writer: &mut Writer, vendor: &str, model: &str, revision: &str)
@@ -211,21 +219,20 @@ fn put_concluded(writer: &mut Writer)
     writer.append(&[0x8C, 0]);
 }
 
-/// Writes the response to a confirmed request with an invoke id in its one canonical spelling (ISO
-/// 9506-2). `TooLong` if it has more than `size` octets. A handle must be of its tree.
+/// Writes a response in its one canonical spelling (ISO 9506-2). `TooLong` if it has more than
+/// `size` octets. A handle must be of its tree.
 #[tactic(auto, using(bay_ber::proofs::SheetLemmas::message_put))]
 pub fn write_response(
     alloc: Global,
-    id: u32,
-    service: &Service<'_>,
+    response: &Response<'_>,
     size: u32,
 ) -> Result<Outgoing, EncodeFault>
-    requires { IsOfTree service.now }
-    ensures { Gives EncodeFault.OutOfMemory (λ octets. octets) result
-        (text_within size (confirmed_response id (service_text service.now))) }
+    requires { IsOfTree response.now.service }
+    ensures { Gives EncodeFault.OutOfMemory (λ octets. octets) result (text_within size
+        (confirmed_response response.now.id (service_text response.now.service))) }
 {
     let mut writer = Writer::new(alloc, size)?;
-    put_confirmed(&mut writer, id, service);
+    put_confirmed(&mut writer, response.id, &response.service);
     finish(writer)
 }
 

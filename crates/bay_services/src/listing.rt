@@ -17,7 +17,7 @@ use bay_ber::outgoing::Outgoing;
 use bay_mms::fault::EncodeFault;
 use bay_mms::page::write_page;
 use bay_mms::request::Scope;
-use bay_mms::response::{ErrorClass, Service, write_error, write_response};
+use bay_mms::response::{ErrorClass, Response, Service, write_error, write_response};
 use bay_tree::fault::NamesFault;
 
 // Classes of objects (ISO 9506-2, GetNameList, objectClass: namedVariable and domain).
@@ -41,8 +41,8 @@ impl Invocation<'_> {
         ensures { Gives EncodeFault.OutOfMemory (λ octets. octets) result
             (text_within self.now.client.size (page_text self.now.id names.now false)) }
     {
-        let service = Service::Names { names, more: false };
-        write_response(self.alloc, self.id, &service, self.client.size)
+        let (id, service) = (self.id, Service::Names { names, more: false });
+        write_response(self.alloc, &Response { id, service }, self.client.size)
     }
 
     // No names.

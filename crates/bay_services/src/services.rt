@@ -27,7 +27,8 @@ use bay_mms::data::Data;
 use bay_mms::fault::{EncodeFault, MmsFault};
 use bay_mms::request::{Call, ObjectName, Request, read_request};
 use bay_mms::response::{
-    ErrorClass, RejectReason, Service, write_conclude, write_error, write_reject, write_response,
+    ErrorClass, RejectReason, Response, Service, write_conclude, write_error, write_reject,
+    write_response,
 };
 use bay_mms::results::{ReadResponse, WriteResponse};
 use std::alloc::{AllocError, Global};
@@ -117,13 +118,14 @@ impl Invocation<'_> {
             (bay_of self.now)
             (identify_answer self.now.client self.now.id (bay_of self.now))) }
     {
-        let bay = self.bay;
+        let (id, bay) = (self.id, self.bay);
         let service = Service::Identify {
             vendor: bay.vendor.as_str(),
             model: bay.model.as_str(),
             revision: bay.revision.as_str(),
         };
-        self.responded(write_response(self.alloc, self.id, &service, self.client.size))
+        let response = Response { id, service };
+        self.responded(write_response(self.alloc, &response, self.client.size))
     }
 
     // The type of a variable.
@@ -135,9 +137,10 @@ impl Invocation<'_> {
     {
         match self.bay.row_named(name) {
             Some(handle) => {
-                let tree = &self.bay.tree;
+                let (id, tree) = (self.id, &self.bay.tree);
                 let service = Service::Attributes { tree, handle };
-                self.responded(write_response(self.alloc, self.id, &service, self.client.size))
+                let response = Response { id, service };
+                self.responded(write_response(self.alloc, &response, self.client.size))
             }
             None => failed(self.alloc, self.id, ErrorClass::NoSuchObject),
         }

@@ -33,8 +33,8 @@ pub returns-in-None : goal.returns-in-None
 returns-in-None c =
     let b = bay_of c.args.self.now in
     let r = read_all c.args.self.now.client b (map naming c.args.names.now) (nothing_read b) in
-    said_as c.failed.result _ b _ c.failed.ensures
+    rw c.duplicate.ensures (said_as c.failed.result _ b _ c.failed.ensures
     (read-over c.args.self.now.client c.args.self.now.id b r c.in_ok-pdu.field-0
     (c.in_ok-pdu.ensures.pdu c.args.self.now.client.size _
     (rw (c.requires, c.new-decisions.ensures.items) at c.read_response-response.ensures.response))
-    c.in-None.is)
+    c.in-None.is))

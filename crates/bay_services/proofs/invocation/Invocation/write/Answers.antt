@@ -24,7 +24,7 @@ returns-in-None c =
       c.new-4.ensures.items,
     ) at
     c.in_ok-write_all.ensures in
-    said_as c.failed.result _ b _ c.failed.ensures
+    rw c.duplicate.ensures (said_as c.failed.result _ b _ c.failed.ensures
     (ap (write_done c.args.self.now.client c.args.self.now.id b) (sym ok)
     ∙ write-over c.args.self.now.client c.args.self.now.id b made c.in_ok-pdu.field-0
-    (c.in_ok-pdu.ensures.pdu c.args.self.now.client.size _ c.finish.ensures) c.in-None.is)
+    (c.in_ok-pdu.ensures.pdu c.args.self.now.client.size _ c.finish.ensures) c.in-None.is))
