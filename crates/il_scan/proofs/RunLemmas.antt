@@ -1,20 +1,25 @@
 -- Runs of the machine of typed values.
 use Rattle.std.proofs.Common.{◌≡◌, ℕ, zero, suc, ◌+◌, ◌-◌, ◌<◌, ◌≤◌, ℤ, List, [], length, refl, sym, ap, subst, ◌∙◌, arith, Option, Some, None}
-use Rattle.std.specs.Prelude.{slice_get}
+use Rattle.std.proofs.lemmas.Option.{same_Some}
+use Rattle.std.specs.Prelude.{IsSome, slice_get}
+use Rattle.il_image.specs.declared.instr.Instr.{Instr}
+use Rattle.il_image.specs.declared.instr.Instr.TheVariants.{Drop}
 use Rattle.il_image.specs.declared.timer.TimerState.{TimerState}
 use Rattle.il_image.specs.declared.value.Value.{Value}
 use Rattle.il_image.specs.Images.{Image}
 use Rattle.il_image.specs.Machine.{Goes, Halted, Halts, State, Traps, StepResult, ending_of, run_from, turn}
 use Rattle.il_image.specs.Octets.{AreOctets}
+use Rattle.il_image.specs.Reading.{instr_at}
 use Rattle.il_image.specs.Tables.{IsHalt, IsSuccessor, Path, slot_types}
 use Rattle.il_verify.specs.Verdicts.{IsBudget, IsDepth, IsSafe}
 use Rattle.il_verify.proofs.TableLemmas.{leads-on}
 use Rattle.il_scan.specs.Scans.{IsWithin}
-use Rattle.il_scan.specs.Standing.{IsHeld, KeepsSlots, RunsTo, StandsAs, StandsAt, Turns, first_state, words_at}
+use Rattle.il_scan.specs.Standing.{IsAt, IsHeld, KeepsSlots, RunsTo, StandsAs, StandsAt, Turns, first_state, words_at}
 use Rattle.il_scan.specs.Words.{values_of, words_of}
-use Rattle.il_scan.specs.Working.{Words, words, words_after, leads}
+use Rattle.il_scan.specs.Working.{IsReady, Step, Steps, Words, words, words_after, leads}
 use Rattle.il_scan.proofs.StandLemmas.{held-by, held-typed, stand-again}
-use Rattle.il_scan.proofs.TurnLemmas.{cells-room, turned}
+use Rattle.il_scan.proofs.FetchLemmas.{place-within as octet-within}
+use Rattle.il_scan.proofs.TurnLemmas.{cells-room, place-within, ready-at, some-at, turned, turned-at}
 
 run-goes : (code : List ℕ) (now most : ℕ) (s after : State) (steps : ℕ)
     → turn code now s ≡ Goes after
@@ -245,3 +250,121 @@ run-ends image now slots timers place steps w c within safe held after t =
           ∙ ap (λ (v : List ℤ). slice_get v n) (sym held.stand.are);
       held = typed image now first place steps w c within after t;
     }
+
+-- ---- several steps
+
+-- what a place where words stand has
+module _ (code : List ℕ) (now place : ℕ) (w : Words) (octets : AreOctets code)
+    (at : IsAt code place w) where
+  -- an instruction
+  pub at-some : IsSome (instr_at code place)
+  at-some =
+      subst (λ (os : List ℕ). IsSome (instr_at os place)) at.2 (some-at at.0 now place w at.1 at.3)
+
+  pub at-within : place < length code
+  at-within = octet-within code place octets at-some
+
+  module _ (read : Instr × ℕ) (here : instr_at code place ≡ Some read) where
+    here-too : instr_at at.0.code place ≡ Some read
+    here-too = ap (λ (os : List ℕ). instr_at os place) at.2 ∙ here
+
+    octets-too : AreOctets at.0.code
+    octets-too = subst AreOctets (sym at.2) octets
+
+    pub at-ready : IsReady read.0 w
+    at-ready = ready-at at.0 now place w at.1 at.3 read here-too octets-too
+
+    -- what the instruction behind this one needs, which leads to it
+    pub at-on : (i : Instr) → read.0 ≡ i → leads i read.1 w.stack ≡ Some read.1
+        → IsAt code read.1 (words_after now read.0 w)
+    at-on i is e =
+        let on : leads read.0 read.1 w.stack ≡ Some read.1 =
+        ap (λ (j : Instr). leads j read.1 w.stack) is ∙ e in
+        let t = turned-at at.0 now place w at.1 at.3 read here-too octets-too (Some read.1)
+        (words_after now read.0 w) (sym on) refl in
+        (at.0, t.1.0, at.2, t.1.2)
+
+    pub drop-on : ((next : ℕ) × (instr_at code place ≡ Some (Drop, next)))
+        → IsAt code read.1 (words_after now read.0 w)
+    drop-on drops =
+        at-on Drop (ap (λ (r : Instr × ℕ). r.0) (same_Some read (Drop, drops.0)
+        (sym here ∙ drops.1))) refl
+
+-- two instructions are ready where the first leads to the second
+pub both-ready : (code : List ℕ) (now place : ℕ) (w : Words) (octets : AreOctets code)
+    → IsAt code place w → (first second : Instr × ℕ) → instr_at code place ≡ Some first
+    → IsAt code first.1 (words_after now first.0 w) → instr_at code first.1 ≡ Some second
+    → IsReady first.0 w × IsReady second.0 (words_after now first.0 w)
+both-ready code now place w octets at first second here on there = (
+  at-ready code now place w octets at first here,
+  at-ready code now first.1 (words_after now first.0 w) octets on second there,
+)
+
+-- What steps from a place on come to: a later place, so many steps from the start, or the end.
+abbrev pub Reaches : Image → ℕ → State → ℕ → ℕ → Option ℕ → Words → Type 0
+Reaches image now first from steps (Some to) after =
+    Comes image now first to steps after × (from < to)
+Reaches image now first from steps None after =
+    (place : ℕ) × (before : ℕ) × (w : Words) × (c : Comes image now first place before w)
+    × (place < length image.code) × (steps ≡ before + 1) × Turns image now c.state None after
+
+module _ (image : Image) (now : ℕ) (first : State) where
+  pub come-within : (place steps : ℕ) (w : Words) → Comes image now first place steps w
+      → place < length image.code
+  come-within place steps w c =
+      subst (λ (p : ℕ). p < length image.code) c.stands.there
+      (place-within image now c.state c.stands.standing)
+
+  come-turns : (place steps : ℕ) (w : Words) (c : Comes image now first place steps w)
+      (to : Option ℕ) (after : Words) → Step now image.code place w to after
+      → Turns image now c.state to after
+  come-turns place steps w c to after s =
+      turned-at image now place w c.state c.stands (s.instr, s.next) s.here c.octets to after
+      s.leads_to s.words_are
+
+  reach-further : (from mid steps : ℕ) (to : Option ℕ) (after : Words) → from < mid
+      → Reaches image now first mid steps to after → Reaches image now first from steps to after
+  reach-further from mid steps (Some to) after h r =
+      (r.0, let on : mid < to = r.1 in omega (arith, h, on))
+  reach-further from mid steps None after h r = r
+
+  step-reaches : (place steps : ℕ) (w : Words) → Comes image now first place steps w
+      → (to : Option ℕ) (after : Words) → Step now image.code place w to after
+      → Reaches image now first place (steps + 1) to after
+  step-reaches place steps w c (Some to) after s =
+      let within = come-within place steps w c in
+      let t = come-turns place steps w c (Some to) after s in (
+        comes-next image now first place steps w c within to after t,
+        forward image now first place steps w c within to after t,
+      )
+  step-reaches place steps w c None after s = (
+    place,
+    steps,
+    w,
+    c,
+    come-within place steps w c,
+    refl,
+    come-turns place steps w c None after s,
+  )
+
+  steps-reach : (n place steps : ℕ) (w : Words) → Comes image now first place steps w
+      → (to : Option ℕ) (after : Words) → Steps now image.code n place w to after
+      → Reaches image now first place (steps + n) to after
+  steps-reach zero place steps w c to after s = absurd s
+  steps-reach (suc zero) place steps w c to after s = step-reaches place steps w c to after s
+  steps-reach (suc (suc n)) place steps w c to after s =
+      let one = step-reaches place steps w c (Some s.0) s.1 s.2 in
+      let rest = steps-reach (suc n) s.0 (steps + 1) s.1 one.0 to after s.3 in
+      let sum : steps + 1 + suc n ≡ steps + suc (suc n) = omega arith in
+      subst (λ (k : ℕ). Reaches image now first place k to after) sum
+      (reach-further place s.0 (steps + 1 + suc n) to after one.1 rest)
+
+  -- the same, told of the code and of what was answered
+  pub reach : (code : List ℕ) → code ≡ image.code → (n place steps : ℕ) (w : Words)
+      → Comes image now first place steps w → (to : Option ℕ) (after : Words)
+      → Steps now code n place w to after → (answer : Option ℕ) → to ≡ answer
+      → Reaches image now first place (steps + n) answer after
+  reach code same n place steps w c to after s answer is =
+      subst (λ (o : Option ℕ). Reaches image now first place (steps + n) o after) is
+      (steps-reach n place steps w c to after
+      (subst (λ (os : List ℕ). Steps now os n place w to after) same s))

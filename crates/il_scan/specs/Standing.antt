@@ -58,6 +58,11 @@ pub record StandsAt (image : Image) (place : ℕ) (w : Words) (s : State) : Type
   pub there : s.place ≡ place
   pub are : words_at s ≡ w
 
+-- A state of an image with this code stands at the place, and the words stand for it.
+abbrev pub IsAt : List ℕ → ℕ → Words → Type 0
+IsAt code place w =
+    (image : Image) × (s : State) × (image.code ≡ code) × StandsAt image place w s
+
 -- The slots of points that may only be read are the same.
 abbrev pub KeepsSlots : Image → Words → Words → Type 0
 KeepsSlots image old new = (n : ℕ) → is_read_only (slots_of image) n ≡ true

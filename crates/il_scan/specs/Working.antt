@@ -1,6 +1,6 @@
 -- Inner: what each instruction does to words, with no test of what they are, and what it needs for
 -- that.
-use Rattle.std.specs.Prelude.{ℕ, ℤ, pos, ◌≡◌, ◌+◌, ◌<◌, ◌≤◌, Bool, not, List, ◌∷◌, length, drop, slice_index_or, slice_set, unsigned_abs, Option, Some, None, if◌then◌else◌}
+use Rattle.std.specs.Prelude.{ℕ, ℤ, zero, suc, pos, ◌≡◌, ◌+◌, ◌<◌, ◌≤◌, Bool, not, List, ◌∷◌, length, drop, slice_index_or, slice_set, unsigned_abs, Option, Some, None, if◌then◌else◌}
 use Rattle.std.specs.Ordering.{int_eq}
 use Rattle.il_image.specs.declared.instr.Instr.{Instr}
 use Rattle.il_image.specs.declared.instr.Instr.TheVariants.{Halt, Push, Drop, Slot, Not, Combine, Compute, Compare, Widen, Jump, Timer}
@@ -17,6 +17,7 @@ use Rattle.il_image.specs.Arithmetic.{DividesBy, comparison_holds, computation_o
 use Rattle.il_image.specs.Timers.{after_call, first_state}
 use Rattle.il_image.specs.Values.{number_of}
 use Rattle.il_image.specs.Machine.{most_cells}
+use Rattle.il_image.specs.Reading.{instr_at}
 use Rattle.il_scan.specs.Words.{slot_at}
 
 -- ---- what an instruction does to words
@@ -156,3 +157,22 @@ IsReady (Timer SetPreset n) m = (0 < length m.stack) × (n < length m.timers) ×
 IsReady (Timer Run n) m = n < length m.timers
 IsReady (Timer LoadOutput n) m = (length m.stack < most_cells) × (n < length m.timers)
 IsReady (Timer LoadElapsed n) m = (length m.stack < most_cells) × (n < length m.timers)
+
+-- ---- instructions of code
+
+-- what the instruction at a place does to words, and where it leads
+pub record Step (now : ℕ) (code : List ℕ) (place : ℕ) (w : Words) (to : Option ℕ) (after : Words)
+    : Type 0 where
+  pub instr : Instr
+  pub next : ℕ
+  pub here : instr_at code place ≡ Some (instr, next)
+  pub leads_to : to ≡ leads instr next w.stack
+  pub words_are : after ≡ words_after now instr w
+
+-- what so many instructions from a place on do, one after the other
+abbrev pub Steps : ℕ → List ℕ → ℕ → ℕ → Words → Option ℕ → Words → Type 0
+Steps now code zero place w to after = ⊥
+Steps now code (suc zero) place w to after = Step now code place w to after
+Steps now code (suc (suc n)) place w to after =
+    (mid : ℕ) × (between : Words) × Step now code place w (Some mid) between
+    × Steps now code (suc n) mid between to after

@@ -294,3 +294,59 @@ pub(crate) fn act(
     }
     Some(next)
 }
+
+/// Executes two instructions at this time, each with the place behind it, of which the first leads
+/// to the second. Returns the place of the next one, or `None` if there is none. A LOAD with a NOT,
+/// an AND or an OR behind it, and a DROP with a LOAD behind it, work on the last cell in place, so
+/// that nothing is pushed and popped again.
+#[inline(always)]
+pub(crate) fn act_both(
+    now: u64,
+    first: (Instr, usize),
+    second: (Instr, usize),
+    stack: &mut OperandStack,
+    slots: &mut [i64],
+    timers: &mut [TimerState],
+) -> Option<usize>
+    requires next { first.1 < 2 ^ 63 }
+    requires last { second.1 < 2 ^ 63 }
+    requires ready { IsReady first.0 (words stack.old slots.old timers.old)
+        × IsReady second.0 (words_after now first.0 (words stack.old slots.old timers.old)) }
+    ensures to { result ≡ spec.leads second.0 second.1
+        (words_after now first.0 (words stack.old slots.old timers.old)).stack }
+    ensures words { words stack.new slots.new timers.new ≡ words_after now second.0
+        (words_after now first.0 (words stack.old slots.old timers.old)) }
+{
+    match (first.0, second.0) {
+        (Instr::Slot(SlotUse::Load, number), Instr::Not) => {
+            stack.push(i64::from(slots[usize::from(number)] == 0));
+            Some(second.1)
+        }
+        (Instr::Slot(SlotUse::Load, number), Instr::Combine(Connective::And)) => {
+            let word = if stack.top() == 0 {
+                0
+            } else {
+                slots[usize::from(number)]
+            };
+            stack.replace_top(word);
+            Some(second.1)
+        }
+        (Instr::Slot(SlotUse::Load, number), Instr::Combine(Connective::Or)) => {
+            let word = if stack.top() == 0 {
+                slots[usize::from(number)]
+            } else {
+                1
+            };
+            stack.replace_top(word);
+            Some(second.1)
+        }
+        (Instr::Drop, Instr::Slot(SlotUse::Load, number)) => {
+            stack.replace_top(slots[usize::from(number)]);
+            Some(second.1)
+        }
+        _ => {
+            act(now, first.0, first.1, stack, slots, timers);
+            act(now, second.0, second.1, stack, slots, timers)
+        }
+    }
+}

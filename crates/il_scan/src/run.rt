@@ -1,19 +1,54 @@
 // A run of verified code, from its first instruction to a HALT.
-ghost use Rattle.std.specs.Prelude.{◌≡◌, ◌<◌, length};
-ghost use Rattle.il_image.specs.Images.{Image};
-ghost use Rattle.il_image.specs.Machine.{State};
-ghost use Rattle.il_scan.specs.Standing.{IsHeld, RunsTo, StandsAt, Turns};
-ghost use Rattle.il_scan.specs.Working.{words};
+ghost use Rattle.std.specs.Prelude.{ℕ, ◌≡◌, ◌≤◌, Some};
+ghost use Rattle.il_image.specs.declared.instr.Instr.TheVariants.{Drop};
+ghost use Rattle.il_image.specs.Reading.{instr_at};
+ghost use Rattle.il_scan.specs.Standing.{IsAt, IsHeld, RunsTo};
+ghost use Rattle.il_scan.specs.Working.{Steps, words};
 ghost use Rattle.il_verify.specs.Verdicts.{IsSafe};
 
-use crate::act::act;
+use crate::act::{act, act_both};
 use crate::fetch::fetch;
 use crate::stack::OperandStack;
 use il_image::image::Image;
+use il_image::instr::Instr;
+use il_image::opcode::SlotUse;
 use il_image::timer::TimerState;
 
-// Executes the instruction at a place, and returns the place of the next one, or `None` if there
-// is none.
+// Executes the DROP at a place and what often follows it: a LOAD, and a NOT behind it. Returns the
+// place of the next instruction, and how many were executed.
+#[inline(always)]
+fn turn_drop(
+    code: &[u8],
+    now: u64,
+    place: usize,
+    stack: &mut OperandStack,
+    slots: &mut [i64],
+    timers: &mut [TimerState],
+) -> (Option<usize>, u32)
+    requires there { IsAt code.now place (words stack.old slots.old timers.old) }
+    requires drops { (next : ℕ) × (instr_at code.now place ≡ Some (Drop, next)) }
+    ensures steps { Steps now code.now result.1 place (words stack.old slots.old timers.old)
+        result.0 (words stack.new slots.new timers.new) }
+    ensures few { result.1 ≤ 3 }
+{
+    let first = fetch(code, place);
+    if code[first.1] != 0x07 {
+        return (act(now, first.0, first.1, stack, slots, timers), 1);
+    }
+    let second = fetch(code, first.1);
+    match second.0 {
+        Instr::Slot(SlotUse::Load, _) if code[second.1] == 0x0B => {
+            let third = fetch(code, second.1);
+            act_both(now, first, second, stack, slots, timers);
+            (act(now, third.0, third.1, stack, slots, timers), 3)
+        }
+        _ => (act_both(now, first, second, stack, slots, timers), 2),
+    }
+}
+
+// Executes the instruction at a place, and a NOT, an AND or an OR behind a LOAD. Returns the place
+// of the next one, or `None` if there is none, and how many were executed. Each pair is a call of
+// its own, so that both instructions are known where their opcodes are.
 #[inline(always)]
 fn turn(
     code: &[u8],
@@ -22,16 +57,32 @@ fn turn(
     stack: &mut OperandStack,
     slots: &mut [i64],
     timers: &mut [TimerState],
-) -> Option<usize>
-    requires { (image : Image) × (s : State) × (image.code ≡ code.now)
-        × StandsAt image place (words stack.old slots.old timers.old) s }
-    ensures within { place < length code.now }
-    ensures turns { (image : Image) (s : State) → image.code ≡ code.now
-        → StandsAt image place (words stack.old slots.old timers.old) s
-        → Turns image now s result (words stack.new slots.new timers.new) }
+) -> (Option<usize>, u32)
+    requires there { IsAt code.now place (words stack.old slots.old timers.old) }
+    ensures steps { Steps now code.now result.1 place (words stack.old slots.old timers.old)
+        result.0 (words stack.new slots.new timers.new) }
+    ensures few { result.1 ≤ 3 }
 {
-    let (instr, next) = fetch(code, place);
-    act(now, instr, next, stack, slots, timers)
+    let first = fetch(code, place);
+    match first.0 {
+        Instr::Slot(SlotUse::Load, _) => match code[first.1] {
+            0x0B => (
+                act_both(now, first, fetch(code, first.1), stack, slots, timers),
+                2,
+            ),
+            0x0C => (
+                act_both(now, first, fetch(code, first.1), stack, slots, timers),
+                2,
+            ),
+            0x0D => (
+                act_both(now, first, fetch(code, first.1), stack, slots, timers),
+                2,
+            ),
+            _ => (act(now, first.0, first.1, stack, slots, timers), 1),
+        },
+        Instr::Drop => turn_drop(code, now, place, stack, slots, timers),
+        _ => (act(now, first.0, first.1, stack, slots, timers), 1),
+    }
 }
 
 /// Runs the code on the slots and the timers at this time, and counts the instructions executed,
@@ -45,9 +96,12 @@ pub(crate) fn run(image: &Image, now: u64, slots: &mut [i64], timers: &mut [Time
     let mut stack = OperandStack::new();
     let mut place = 0;
     let mut steps = 0;
-    while let Some(next) = turn(code, now, place, &mut stack, slots, timers) {
-        place = next;
-        steps += 1;
+    loop {
+        let (to, count) = turn(code, now, place, &mut stack, slots, timers);
+        steps += count;
+        match to {
+            Some(next) => place = next,
+            None => return steps,
+        }
     }
-    steps + 1
 }

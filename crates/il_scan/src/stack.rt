@@ -73,7 +73,8 @@ impl OperandStack {
         requires { 0 < length self.old }
         ensures { self.new ≡ word ∷ drop 1 self.old }
     {
-        self.pop();
-        self.push(word);
+        let words = self.words.as_mut_slice();
+        let last = words.len() - 1;
+        words[last] = word;
     }
 }

@@ -1,8 +1,8 @@
-use Rattle.std.proofs.Common.{◌<◌, List, ℕ, ℤ, length, subst, sym, arith}
+use Rattle.std.proofs.Common.{◌<◌, List, ℕ, ℤ, length, ap, subst, sym, arith}
 use Rattle.il_image.specs.Octets.{AreOctets}
-use Rattle.il_scan.specs.Standing.{first_state}
+use Rattle.il_scan.specs.Standing.{RunsTo, first_state}
 use Rattle.il_scan.specs.Working.{words}
-use Rattle.il_scan.proofs.RunLemmas.{Comes, comes-next, forward, run-ends, starts}
+use Rattle.il_scan.proofs.RunLemmas.{Comes, come-within, reach, run-ends, starts}
 use Rattle.il_scan.proofs.run.run.Goals as goal
 
 pub loop-next-init : goal.loop-next-init
@@ -14,39 +14,51 @@ loop-next-init c =
     (starts c.args.image.now c.args.now c.args.slots.now c.args.timers.now octets c.requires.safe
     c.requires.held)
 
-pub turn-requires : goal.turn-requires
-turn-requires c =
+pub turn-to-requires : goal.turn-to-requires
+turn-to-requires c =
     let i = c.loop-next.invariant in
-    (c.args.image.now, i.state, sym c.code-code.ensures.value, i.stands)
+    record { there = (c.args.image.now, i.state, sym c.code-code.ensures.value, i.stands) }
 
 pub loop-next-smaller : goal.loop-next-smaller
 loop-next-smaller c =
-    let i = c.loop-next.invariant in
-    let same = c.code-code.ensures.value in
-    let first = first_state c.args.image.now c.args.slots.now c.args.timers.now in
-    let within = subst (λ (code : List ℕ). c.loop-next.place < length code) same
-    c.turn.ensures.within in
-    let on : c.loop-next.place < c.in-Some.next =
-    forward c.args.image.now c.args.now first c.loop-next.place c.loop-next.steps _ i within
-    c.in-Some.next _ (c.in-Some.ensures.turns c.args.image.now i.state (sym same) i.stands) in
-    omega (arith, c.turn.ensures.within)
+    let image = c.args.image.now in
+    let first = first_state image c.args.slots.now c.args.timers.now in
+    let w = words c.loop-next.stack c.loop-next.slots c.loop-next.timers in
+    let after = words c.turn-to.new.stack c.turn-to.new.slots c.turn-to.new.timers in
+    let r = reach image c.args.now first _ c.code-code.ensures.value
+    c.turn-to.result.1 c.loop-next.place c.loop-next.steps w c.loop-next.invariant
+    c.turn-to.result.0 after c.turn-to.ensures.steps _ c.in-Some.is in
+    let on : c.loop-next.place < c.in-Some.next = r.1 in
+    let same = ap (λ (os : List ℕ). length os) c.code-code.ensures.value in
+    omega (
+      arith,
+      on,
+      same,
+      come-within image c.args.now first c.loop-next.place c.loop-next.steps w
+          c.loop-next.invariant,
+    )
 
 pub loop-next-preserved : goal.loop-next-preserved
 loop-next-preserved c =
-    let i = c.loop-next.invariant in
-    let same = c.code-code.ensures.value in
-    let first = first_state c.args.image.now c.args.slots.now c.args.timers.now in
-    let within = subst (λ (code : List ℕ). c.loop-next.place < length code) same
-    c.turn.ensures.within in
-    comes-next c.args.image.now c.args.now first c.loop-next.place c.loop-next.steps _ i within
-    c.in-Some.next _ (c.in-Some.ensures.turns c.args.image.now i.state (sym same) i.stands)
+    let image = c.args.image.now in
+    let first = first_state image c.args.slots.now c.args.timers.now in
+    let w = words c.loop-next.stack c.loop-next.slots c.loop-next.timers in
+    let after = words c.turn-to.new.stack c.turn-to.new.slots c.turn-to.new.timers in
+    let r = reach image c.args.now first _ c.code-code.ensures.value
+    c.turn-to.result.1 c.loop-next.place c.loop-next.steps w c.loop-next.invariant
+    c.turn-to.result.0 after c.turn-to.ensures.steps _ c.in-Some.is in
+    r.0
 
-pub returns : goal.returns
-returns c =
-    let i = c.loop-next.invariant in
-    let same = c.code-code.ensures.value in
-    let within = subst (λ (code : List ℕ). c.loop-next.place < length code) same
-    c.turn.ensures.within in
-    run-ends c.args.image.now c.args.now c.args.slots.now c.args.timers.now c.loop-next.place
-    c.loop-next.steps _ i within c.requires.safe c.requires.held _
-    (c.in_default.ensures.turns c.args.image.now i.state (sym same) i.stands)
+pub returns-in-None : goal.returns-in-None
+returns-in-None c =
+    let image = c.args.image.now in
+    let first = first_state image c.args.slots.now c.args.timers.now in
+    let w = words c.loop-next.stack c.loop-next.slots c.loop-next.timers in
+    let after = words c.turn-to.new.stack c.turn-to.new.slots c.turn-to.new.timers in
+    let r = reach image c.args.now first _ c.code-code.ensures.value
+    c.turn-to.result.1 c.loop-next.place c.loop-next.steps w c.loop-next.invariant
+    c.turn-to.result.0 after c.turn-to.ensures.steps _ c.in-None.is in
+    subst (RunsTo image c.args.now c.args.slots.now c.args.timers.now after.slots after.timers)
+    (sym r.5)
+    (run-ends image c.args.now c.args.slots.now c.args.timers.now r.0 r.1 r.2 r.3 r.4
+    c.requires.safe c.requires.held after r.6)

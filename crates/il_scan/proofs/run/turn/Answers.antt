@@ -1,35 +1,88 @@
-use Rattle.std.proofs.Common.{subst, sym, ap, ◌∙◌}
-use Rattle.std.specs.Prelude.{IsSome, List, ℕ}
+use Rattle.std.proofs.Common.{refl}
 use Rattle.il_image.specs.Octets.{AreOctets}
-use Rattle.il_image.specs.Reading.{instr_at}
-use Rattle.il_scan.specs.Working.{words}
-use Rattle.il_scan.proofs.TurnLemmas.{ready-at, some-at, turned-at}
+use Rattle.il_scan.specs.Working.{words, words_after}
+use Rattle.il_scan.proofs.RunLemmas.{at-on, at-ready, at-some, at-within, both-ready}
 use Rattle.il_scan.proofs.run.turn.Goals as goal
 
-pub fetch-instr-requires : goal.fetch-instr-requires
-fetch-instr-requires c =
-    let r = c.requires in
-    subst (λ (code : List ℕ). IsSome (instr_at code c.args.place)) r.2
-    (some-at r.0 c.args.now c.args.place
-    (words c.args.stack.now c.args.slots.now c.args.timers.now) r.1 r.3)
+pub fetch-first-requires : goal.fetch-first-requires
+fetch-first-requires c =
+    let octets : AreOctets c.args.code.now = λ k. (c.type_inv.code k).fits in
+    let w = words c.args.stack.now c.args.slots.now c.args.timers.now in
+    at-some c.args.code.now c.args.now c.args.place w octets c.requires.there
+
+pub bounds-code-first : goal.bounds-code-first
+bounds-code-first c =
+    let octets : AreOctets c.args.code.now = λ k. (c.type_inv.code k).fits in
+    let w = words c.args.stack.now c.args.slots.now c.args.timers.now in
+    at-within c.args.code.now c.args.now c.fetch-first.result.1 (words_after c.args.now
+    c.fetch-first.result.0 w) octets (at-on c.args.code.now c.args.now c.args.place w octets
+    c.requires.there c.fetch-first.result c.fetch-first.ensures.value _ c.in-Slot-Load-default.is
+    refl)
+
+pub fetch-requires : goal.fetch-requires
+fetch-requires c =
+    let octets : AreOctets c.args.code.now = λ k. (c.type_inv.code k).fits in
+    let w = words c.args.stack.now c.args.slots.now c.args.timers.now in
+    at-some c.args.code.now c.args.now c.fetch-first.result.1 (words_after c.args.now
+    c.fetch-first.result.0 w) octets (at-on c.args.code.now c.args.now c.args.place w octets
+    c.requires.there c.fetch-first.result c.fetch-first.ensures.value _ c.in-Slot-Load-default.is
+    refl)
+
+pub act_both-requires-clause-ready : goal.act_both-requires-clause-ready
+act_both-requires-clause-ready c =
+    let octets : AreOctets c.args.code.now = λ k. (c.type_inv.code k).fits in
+    let w = words c.args.stack.now c.args.slots.now c.args.timers.now in
+    both-ready c.args.code.now c.args.now c.args.place w octets c.requires.there
+    c.fetch-first.result c.fetch.result c.fetch-first.ensures.value (at-on c.args.code.now
+    c.args.now c.args.place w octets c.requires.there c.fetch-first.result
+    c.fetch-first.ensures.value _ c.in-Slot-Load-default.is refl) c.fetch.ensures.value
+
+pub fetch-requires-in-12 : goal.fetch-requires-in-12
+fetch-requires-in-12 c =
+    let octets : AreOctets c.args.code.now = λ k. (c.type_inv.code k).fits in
+    let w = words c.args.stack.now c.args.slots.now c.args.timers.now in
+    at-some c.args.code.now c.args.now c.fetch-first.result.1 (words_after c.args.now
+    c.fetch-first.result.0 w) octets (at-on c.args.code.now c.args.now c.args.place w octets
+    c.requires.there c.fetch-first.result c.fetch-first.ensures.value _ c.in-Slot-Load-default.is
+    refl)
+
+pub act_both-requires-in-12-clause-ready : goal.act_both-requires-in-12-clause-ready
+act_both-requires-in-12-clause-ready c =
+    let octets : AreOctets c.args.code.now = λ k. (c.type_inv.code k).fits in
+    let w = words c.args.stack.now c.args.slots.now c.args.timers.now in
+    both-ready c.args.code.now c.args.now c.args.place w octets c.requires.there
+    c.fetch-first.result c.fetch-in-12.result c.fetch-first.ensures.value (at-on c.args.code.now
+    c.args.now c.args.place w octets c.requires.there c.fetch-first.result
+    c.fetch-first.ensures.value _ c.in-Slot-Load-default.is refl) c.fetch-in-12.ensures.value
+
+pub fetch-requires-in-13 : goal.fetch-requires-in-13
+fetch-requires-in-13 c =
+    let octets : AreOctets c.args.code.now = λ k. (c.type_inv.code k).fits in
+    let w = words c.args.stack.now c.args.slots.now c.args.timers.now in
+    at-some c.args.code.now c.args.now c.fetch-first.result.1 (words_after c.args.now
+    c.fetch-first.result.0 w) octets (at-on c.args.code.now c.args.now c.args.place w octets
+    c.requires.there c.fetch-first.result c.fetch-first.ensures.value _ c.in-Slot-Load-default.is
+    refl)
+
+pub act_both-requires-in-13-clause-ready : goal.act_both-requires-in-13-clause-ready
+act_both-requires-in-13-clause-ready c =
+    let octets : AreOctets c.args.code.now = λ k. (c.type_inv.code k).fits in
+    let w = words c.args.stack.now c.args.slots.now c.args.timers.now in
+    both-ready c.args.code.now c.args.now c.args.place w octets c.requires.there
+    c.fetch-first.result c.fetch-in-13.result c.fetch-first.ensures.value (at-on c.args.code.now
+    c.args.now c.args.place w octets c.requires.there c.fetch-first.result
+    c.fetch-first.ensures.value _ c.in-Slot-Load-default.is refl) c.fetch-in-13.ensures.value
 
 pub act-requires-clause-ready : goal.act-requires-clause-ready
 act-requires-clause-ready c =
-    let r = c.requires in
-    let here =
-    ap (λ (code : List ℕ). instr_at code c.args.place) r.2 ∙ c.fetch-instr.ensures.value in
-    let octets = subst AreOctets (sym r.2) (λ k. (c.type_inv.code k).fits) in
-    ready-at r.0 c.args.now c.args.place
-    (words c.args.stack.now c.args.slots.now c.args.timers.now) r.1 r.3 c.fetch-instr.result here
-    octets
+    let octets : AreOctets c.args.code.now = λ k. (c.type_inv.code k).fits in
+    let w = words c.args.stack.now c.args.slots.now c.args.timers.now in
+    at-ready c.args.code.now c.args.now c.args.place w octets c.requires.there c.fetch-first.result
+    c.fetch-first.ensures.value
 
-pub returns-clause-turns : goal.returns-clause-turns
-returns-clause-turns c = λ image s same stands.
-    let here =
-    ap (λ (code : List ℕ). instr_at code c.args.place) same ∙ c.fetch-instr.ensures.value in
-    let octets = subst AreOctets (sym same) (λ k. (c.type_inv.code k).fits) in
-    turned-at image c.args.now c.args.place
-    (words c.args.stack.now c.args.slots.now c.args.timers.now) s stands c.fetch-instr.result
-    here octets
-    c.act.result (words c.act.new.stack c.act.new.slots c.act.new.timers) c.act.ensures.to
-    c.act.ensures.words
+pub act-requires-in_default-clause-ready : goal.act-requires-in_default-clause-ready
+act-requires-in_default-clause-ready c =
+    let octets : AreOctets c.args.code.now = λ k. (c.type_inv.code k).fits in
+    let w = words c.args.stack.now c.args.slots.now c.args.timers.now in
+    at-ready c.args.code.now c.args.now c.args.place w octets c.requires.there c.fetch-first.result
+    c.fetch-first.ensures.value
