@@ -3,9 +3,9 @@
 --
 -- `Calls`: one read, one write, one flush or one line of a log with what it gave; None stands for a
 -- failure. `Sent`: what reached a writer of the bytes it was given, what a buffer in front of it
--- still holds, and what is logged. `Watched`: what is known of a reader (how often it was read,
--- whether a read has failed) and of a writer (whether a write or a flush has failed, whether it was
--- flushed since its last write, whether it logs).
+-- still holds, and what is logged. `Watched`: what is known of a reader (whether a read has failed)
+-- and of a writer (whether a write or a flush has failed, whether it was flushed since its last
+-- write, whether it logs).
 -- `Input`: what reads gave up to the end or a limit, and which ways to stop reading are a failed
 -- read.
 

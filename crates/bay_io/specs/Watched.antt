@@ -1,10 +1,9 @@
 -- What is known of a reader and of a writer that are watched.
 use Rattle.std.specs.Prelude.{ℕ, Bool, true, ◌&&◌, ◌==◌, nat_lt, List, length, Result, Ok, Err}
 
--- a reader, how often it was read, and whether a read has failed
+-- a reader, and whether a read has failed
 pub record Reading (R : Type 0) : Type 0 where
   pub inner : R
-  pub reads : ℕ
   pub has_failed : Bool
 
 -- a sink, whether a write or a flush has failed, whether it was flushed since its last write, and

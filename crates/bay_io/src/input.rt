@@ -49,7 +49,6 @@ pub fn read_all<R: OctetSource>(
     ensures memory { result ≡ Err ReadFault.OutOfMemory
         → IfSome (R.remaining reader.old.inner) (λ xs. length xs ≤ limit) }
     ensures failed { reader.new.has_failed ≡ failed_of result }
-    ensures reads { reader.new.reads ≤ reader.old.reads + limit + 1 }
     // What the source was asked, and that the result is all that it gave.
     ensures asked { ReadsAll R.does (λ v. v.items) limit reader.old.inner reader.old.has_failed
         reader.new.inner reader.new.has_failed result }

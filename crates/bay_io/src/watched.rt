@@ -80,13 +80,6 @@ impl<W> Watched<W> {
     {
         self.has_failed
     }
-
-    /// Returns whether the sink was flushed since its last write.
-    pub fn is_flushed(&self) -> bool
-        ensures { result ≡ self.now.is_flushed }
-    {
-        self.is_flushed
-    }
 }
 
 // Returns whether a write of a text failed or accepted none of it.

@@ -106,13 +106,6 @@ impl<W> WatchedWriter<W> {
         self.sink.has_failed()
     }
 
-    /// Returns whether the sink was flushed since its last write.
-    pub fn is_flushed(&self) -> bool
-        ensures { result ≡ self.now.is_flushed }
-    {
-        self.sink.is_flushed()
-    }
-
     /// Returns the sink. What is in the buffer is lost.
     pub fn into_inner(self) -> W
         ensures { result ≡ self.inner }

@@ -1,10 +1,14 @@
 // A descriptor of the system as a sink.
+ghost use Rattle.std.specs.Prelude.{◌≡◌, false, true};
+ghost use Rattle.bay_output.specs.Descriptor.{taken_by};
+
 use bay_io::calls::{LinePart, Sink};
 use mio::unix::SourceFd;
 use mio::{Events, Interest, Poll, Token};
 use std::alloc::Global;
 use std::io;
 use std::io::{ErrorKind, Write};
+use std::marker::Model;
 use std::net::Net;
 use std::os::fd::{AsRawFd, RawFd};
 use std::time::Duration;
@@ -40,6 +44,14 @@ pub struct Descriptor<'a, R, W> {
     writer: W,
     waits: bool,
     gate: Gate,
+}
+
+impl<R, W> Model for Descriptor<'_, R, W> {
+    ghost use Rattle.bay_output.specs.Descriptor.{DescriptorData};
+
+    ghost Value = { DescriptorData W };
+
+    ghost view = { λ d. record { writer = d.writer; waits = d.waits } };
 }
 
 impl Readiness {
@@ -79,7 +91,9 @@ impl Gate {
 
 impl<'a, R, W> Descriptor<'a, R, W> {
     /// A descriptor whose writes wait until it takes octets.
-    pub fn new(rt: &'a R, writer: W) -> Self {
+    pub fn new(rt: &'a R, writer: W) -> Self
+        ensures { result ≡ record { writer = writer; waits = true } }
+    {
         Descriptor {
             rt,
             writer,
@@ -89,20 +103,26 @@ impl<'a, R, W> Descriptor<'a, R, W> {
     }
 
     /// From now on no write waits: a descriptor that takes nothing at once takes 0 octets.
-    pub fn stop_waiting(&mut self) {
+    pub fn stop_waiting(&mut self)
+        ensures { self.new ≡ record self.old { waits = false } }
+    {
         self.waits = false;
     }
 }
 
 impl<R: Net + AllocGlobal, W: AsRawFd> Descriptor<'_, R, W> {
     /// Waits until the descriptor is ready or the time is up.
-    pub fn wait(&mut self, most: Duration) -> io::Result<()> {
+    pub fn wait(&mut self, most: Duration) -> io::Result<()>
+        ensures { self.new ≡ self.old }
+    {
         self.is_ready(most)?;
         Ok(())
     }
 
     // Waits until the descriptor is ready or the time is up. Returns whether it is ready.
-    fn is_ready(&mut self, most: Duration) -> io::Result<bool> {
+    fn is_ready(&mut self, most: Duration) -> io::Result<bool>
+        ensures { self.new ≡ self.old }
+    {
         let descriptor = self.writer.as_raw_fd();
         if matches!(&self.gate, Gate::Unknown) {
             self.gate = Gate::of(self.rt, descriptor)?;
@@ -120,6 +140,8 @@ fn would_wait(error: &io::Error) -> bool {
 }
 
 impl<R: Net + AllocGlobal, W: Write + AsRawFd> Sink for Descriptor<'_, R, W> {
+    ghost contents = { taken_by W.contents };
+
     fn write_octets(&mut self, octets: &[u8]) -> io::Result<usize> {
         if self.waits {
             return self.writer.write(octets);

@@ -1,5 +1,5 @@
 // Lines that wait to be logged.
-ghost use Rattle.std.specs.Prelude.{◌≡◌, ◌≤◌, ◌++◌, [], length, if◌then◌else◌};
+ghost use Rattle.std.specs.Prelude.{◌≡◌, ◌≤◌, ◌++◌, [], is_ok, length, if◌then◌else◌};
 ghost use Rattle.bay_io.specs.Calls.{part_text, parts_text};
 ghost use Rattle.bay_io.specs.Sent.{has_room};
 ghost use Rattle.bay_output.specs.Log.{Keeps, notice, with_line};
@@ -97,7 +97,7 @@ impl Log {
     /// failed.
     pub fn send<S: Sink>(&mut self, sink: &mut S) -> io::Result<()>
         ensures sends { Empties S.contents S.does self.old.waiting sink.old self.new.waiting
-            sink.new result }
+            sink.new (is_ok result) }
         ensures lost { self.new.lost ≡ self.old.lost }
     {
         let Offered { taken, failed } = offer_all(sink, self.waiting.as_slice());

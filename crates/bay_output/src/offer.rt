@@ -1,5 +1,5 @@
 // Octets that are offered to a sink as long as it takes some.
-ghost use Rattle.std.specs.Prelude.{◌≤◌, drop, length, take};
+ghost use Rattle.std.specs.Prelude.{◌≤◌, drop, is_none, length, take};
 ghost use Rattle.std.specs.Io.KnownBytes.{Appends};
 ghost use Rattle.bay_output.specs.Offers.{IsLeft};
 
@@ -20,7 +20,8 @@ pub fn offer_all<S: Sink>(sink: &mut S, octets: &[u8]) -> Offered
     ensures within { result.taken ≤ length octets.now }
     ensures taken { Appends (S.contents sink.old) (S.contents sink.new)
         (take result.taken octets.now) }
-    ensures left { IsLeft S.does (drop result.taken octets.now) sink.new result.failed }
+    ensures left { IsLeft S.does (drop result.taken octets.now) sink.new
+        (is_none result.failed) }
 {
     let mut taken = 0;
     while taken < octets.len() {

@@ -1,4 +1,5 @@
 // Octets that wait for a sink, up to a limit.
+ghost use Rattle.std.specs.Prelude.{is_ok};
 ghost use Rattle.bay_output.specs.Offers.{Empties};
 
 use crate::offer::{Offered, offer_all};
@@ -14,7 +15,8 @@ pub type Queue = BoundedBuffer<ROOM>;
 
 /// Writes what waits, in its order, as far as the sink takes it. An error says that a write failed.
 pub fn send_waiting<S: Sink>(queue: &mut Queue, sink: &mut S) -> io::Result<()>
-    ensures { Empties S.contents S.does queue.old sink.old queue.new sink.new result }
+    ensures { Empties S.contents S.does queue.old sink.old queue.new sink.new
+        (is_ok result) }
 {
     let Offered { taken, failed } = offer_all(sink, queue.as_slice());
     queue.drop_front(taken);

@@ -113,7 +113,7 @@ pub record Replays {R W : Type 0} (does : R → ReadCall → R → Type 0)
   pub end : Reading R
   pub last : Writing W
   pub replays : ReplaysReads does contents asks
-      (record { inner = reader; reads = 0; has_failed = false }) end
+      (record { inner = reader; has_failed = false }) end
       (record {
         inner = writer;
         has_failed = false;

@@ -128,7 +128,6 @@ pub fn replay_watched<R: OctetSource, W: Sink>(
     ensures printed { PrintsLogs W.contents W.does
         (IsReplay (R.remaining reader.old.inner) reader.new.has_failed) writer.old writer.new
         result }
-    ensures reads { reader.new.reads ≤ reader.old.reads + scenario_limit + 1 }
     // The scenario is what the reader gave in these reads.
     ensures given { ReplaysReads R.does W.contents W.does reader.old reader.new writer.old
         writer.new result }

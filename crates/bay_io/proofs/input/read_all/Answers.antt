@@ -31,7 +31,6 @@ loop-turn-preserved g c =
       asked =
           HasAsked-step c.loop-turn.invariant.asked _ _ _ _ _ _ e.call e.failed e.bytes.0
           (is_ok c.keep-kept.result) _ (omega arith) c.keep-kept.ensures;
-      counted = omega arith;
       quiet = rw c.loop-turn.invariant.quiet at e.failed;
       sized = omega arith;
     }
@@ -44,7 +43,6 @@ loop-turn-init g c = record {
   within = omega arith;
   at_least = omega arith;
   asked = rw c.new-all.ensures.items (HasAsked-start _ _ _);
-  counted = omega arith;
   quiet = search rules;
   sized = refl;
 }

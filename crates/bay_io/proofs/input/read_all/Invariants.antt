@@ -1,4 +1,4 @@
-use Rattle.std.proofs.Common.{◌≡◌, ◌≤◌, ◌+◌, false, is_ok, length}
+use Rattle.std.proofs.Common.{◌≡◌, ◌≤◌, false, is_ok, length}
 use Rattle.bay_io.proofs.ReadLemmas.{HasAsked}
 use Rattle.bay_io.proofs.input.read_all.Given as goal
 
@@ -9,7 +9,6 @@ invariant-loop-turn g l = record {
   asked : HasAsked g.R.OctetSource.does l.initial.reader.inner l.initial.reader.has_failed
       l.reader.inner l.reader.has_failed (g.R.OctetSource.remaining l.initial.reader.inner)
       (g.R.OctetSource.remaining l.reader.inner) l.turn l.count (is_ok l.kept) l.all.items;
-  counted : l.reader.reads ≤ l.initial.reader.reads + l.turn;
   quiet : l.reader.has_failed ≡ false;
   sized : length l.piece ≡ 65536;
 }
