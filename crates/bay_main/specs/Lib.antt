@@ -3,6 +3,7 @@
 -- or the words are refused, and nothing is read, printed or touched; or there is no memory to read
 -- them. An image is written by way of a new file beside it.
 --
+-- `Program`: what the program's output is, that what waits of it is written, and the exit status.
 -- `Check`: what is printed for a load alone, and its status. `Ending`: a command's exit status, and
 -- what it writes to standard error. Serving, replaying and files are said by bay_serving,
 -- bay_replay and bay_files.
@@ -20,3 +21,4 @@ pub use Rattle.bay_words.specs.Jobs
 pub mod Check
 pub mod Commands
 pub mod Ending
+pub mod Program

@@ -1,20 +1,25 @@
 // The program's way in and out: its words, the files of its system, standard input, standard
 // output, standard error and the exit status.
-ghost use Rattle.std.specs.Prelude.{◌≡◌, ◌⊎◌};
+ghost use Rattle.std.specs.Prelude.{◌≡◌, map, IfOk};
 ghost use Rattle.std.specs.Process.{exit_status};
+ghost use Rattle.bay_output.specs.Descriptor.{taken_by};
+ghost use Rattle.bay_serve.specs.Calls.{Called};
 ghost use Rattle.bay_main.specs.Ending.{status_of};
+ghost use Rattle.bay_main.specs.Program.{Concludes, Drained, Runs, fresh_output, serves};
 
 use crate::commands::obey;
 use crate::ending::Ended;
-use bay_files::files::SystemFiles;
-use bay_io::calls::{LinePart, Sink};
+use bay_files::files::{FileSystem, SystemFiles};
+use bay_io::calls::{LinePart, OctetSource, Sink};
 use bay_io::reader::WatchedReader;
 use bay_io::writer::WatchedWriter;
+use bay_net::tcp::TcpLink;
 use bay_output::descriptor::Descriptor;
 use bay_output::output::Output;
 use bay_output::queue::Queue;
 use bay_report::output::{NO_MEMORY, Status, write_text};
-use bay_serving::host::SystemHost;
+use bay_serve::link::Link;
+use bay_serving::host::{Host, SystemHost};
 use std::alloc::{AllocError, Global};
 use std::io::{ErrorKind, Write};
 use std::net::{Net, TcpListener, TcpStream};
@@ -57,7 +62,9 @@ fn words_of<R: Runtime<A = Global>>(rt: &R) -> Result<Vec<String>, Unheard> {
 }
 
 // Whether the words begin with `serve`.
-fn is_serving(words: &[&str]) -> bool {
+fn is_serving(words: &[&str]) -> bool
+    ensures { result ≡ serves (map (λ w. w.now) words.now) }
+{
     matches!(words.first(), Some(word) if *word == "serve")
 }
 
@@ -68,7 +75,9 @@ fn output_of<'a, R: AllocGlobal, O: Drop, E: Drop>(
     out: O,
     err: E,
     is_serving: bool,
-) -> Result<SystemOutput<'a, R, O, E>, AllocError> {
+) -> Result<SystemOutput<'a, R, O, E>, AllocError>
+    ensures { IfOk result (λ output. output ≡ fresh_output is_serving out err) }
+{
     let mut out = Descriptor::new(rt, out);
     let mut err = Descriptor::new(rt, err);
     err.stop_waiting();
@@ -80,33 +89,61 @@ fn output_of<'a, R: AllocGlobal, O: Drop, E: Drop>(
     Ok(Output::new(out, err, Some(queue)))
 }
 
-// Does what the words ask for, and concludes.
-fn obey_words<
-    R: Runtime<A = Global> + Net<Listener = TcpListener, Stream = TcpStream>,
+// Does what the words ask for, writes what then waits of the output, and concludes.
+fn obey_with<
+    F: FileSystem,
+    L: Link + Drop,
+    H: Host<L>,
+    S: OctetSource,
+    R: Runtime<A = Global> + Net,
     O: Write + AsRawFd + Drop,
     E: Write + AsRawFd + Drop,
->(rt: &R, out: O, err: E, words: &[String]) -> Result<ExitCode, Unheard> {
-    let texts: Vec<&str> = words.iter().map(|word| word.as_str()).collect(rt.alloc())?;
-    let output = output_of(rt, out, err, is_serving(texts.as_slice()))?;
-    let mut reader = WatchedReader::new(rt.reader());
-    let mut writer = WatchedWriter::new(output);
-    let mut files = SystemFiles::new(rt);
-    let mut host = SystemHost::new(rt);
-    let ended = obey(
-        rt.alloc(),
-        texts.as_slice(),
-        &mut files,
-        &mut host,
-        &mut reader,
-        &mut writer,
-    );
+>(
+    rt: &R,
+    words: &[&str],
+    files: &mut F,
+    host: &mut H,
+    reader: &mut WatchedReader<S>,
+    mut writer: WatchedWriter<SystemOutput<'_, R, O, E>>,
+) -> ExitCode
+    ensures { Runs F.reads F.guards F.writes F.same (Called L.does L.failures) H.does S.remaining
+        O.contents E.contents (map (λ w. w.now) words.now)
+        (record { files = files.old; host = host.old; reader = reader.old; writer = writer.entry })
+        (exit_status result) }
+{
+    let ended = obey(rt.alloc(), words, files, host, reader, &mut writer);
     let mut output = writer.into_inner();
     let ended = drained(&mut output, ended);
     if matches!(&ended, Ended::WriteFailed) {
         output.log_line(&[LinePart::Text(ended.complaint().as_bytes())]);
-        return Ok(ExitCode::from(ended.status()));
+        return ExitCode::from(ended.status());
     }
-    Ok(conclude(rt, &ended))
+    conclude(rt, &ended)
+}
+
+// Does what the words ask for, over the files, the sockets and the input of the program.
+fn obey_words<
+    'a,
+    R: Runtime<A = Global> + Net<Listener = TcpListener, Stream = TcpStream>,
+    O: Write + AsRawFd + Drop,
+    E: Write + AsRawFd + Drop,
+>(rt: &'a R, out: O, err: E, words: &[&str]) -> Result<ExitCode, AllocError>
+    ensures { IfOk result (λ code. Concludes
+        ⟦<SystemFiles<'a, R> as FileSystem>⟧.reads
+        ⟦<SystemFiles<'a, R> as FileSystem>⟧.guards
+        ⟦<SystemFiles<'a, R> as FileSystem>⟧.writes
+        ⟦<SystemFiles<'a, R> as FileSystem>⟧.same
+        (Called ⟦<TcpLink<'a, R> as Link>⟧.does ⟦<TcpLink<'a, R> as Link>⟧.failures)
+        ⟦<SystemHost<'a, R> as Host<TcpLink<'a, R>>>⟧.does
+        ⟦<R::Reader as OctetSource>⟧.remaining
+        O.contents E.contents (map (λ w. w.now) words.now) out err (exit_status code)) }
+{
+    let output = output_of(rt, out, err, is_serving(words))?;
+    let mut files = SystemFiles::new(rt);
+    let mut host = SystemHost::new(rt);
+    let mut reader = WatchedReader::new(rt.reader());
+    let writer = WatchedWriter::new(output);
+    Ok(obey_with(rt, words, &mut files, &mut host, &mut reader, writer))
 }
 
 // Does what the program's words ask for, and concludes.
@@ -116,7 +153,8 @@ fn obey_program<
     E: Write + AsRawFd + Drop,
 >(rt: &R, out: O, err: E) -> Result<ExitCode, Unheard> {
     let words = words_of(rt)?;
-    obey_words(rt, out, err, words.as_slice())
+    let texts: Vec<&str> = words.iter().map(|word| word.as_str()).collect(rt.alloc())?;
+    Ok(obey_words(rt, out, err, texts.as_slice())?)
 }
 
 // Returns how the program ends if reading its words failed.
@@ -142,7 +180,8 @@ fn drained<R: Net + AllocGlobal, O: Write + AsRawFd, E: Write + AsRawFd>(
     output: &mut SystemOutput<'_, R, O, E>,
     ended: Ended,
 ) -> Ended
-    ensures { (result ≡ ended) ⊎ (result ≡ Ended.WriteFailed) }
+    ensures { Drained (taken_by O.contents) (taken_by E.contents) output.old ended output.new
+        result }
 {
     match ended {
         Ended::WriteFailed => Ended::WriteFailed,

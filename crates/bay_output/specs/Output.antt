@@ -61,25 +61,27 @@ pub record SendsLog {S : Type 0} (contents : S → Option (List ℕ)) (does : S 
   pub sends : Empties contents does before.waiting old after.waiting new done
   pub lost : after.lost ≡ before.lost
 
-module _ {O E : Type 0} (contents : O → Option (List ℕ)) (does : O → WriteCall → O → Type 0)
-    (log_contents : E → Option (List ℕ)) (log_does : E → WriteCall → E → Type 0) where
-  -- Octets are written or wait; a flush writes what waits, of the log too; and a line waits whole
-  -- or is lost and counted, and then what waits of the log is written.
-  abbrev pub Does : OutputData O E → WriteCall → OutputData O E → Type 0
-  Does old (Write octets taken) new =
-      Writes contents does old.queue old.out octets new.queue new.out taken
-      × (new.err ≡ old.err) × (new.log ≡ old.log)
-  Does old (Flush done) new =
-      Flushes contents does old.queue old.out new.queue new.out done
-      × SendsLog log_contents log_does old.log old.err new.log new.err
-  Does old (Log line) new =
-      (new.out ≡ old.out) × (new.queue ≡ old.queue)
-      × SendsLog log_contents log_does (with_line line old.log) old.err new.log new.err
+-- Octets are written or wait; a flush writes what waits, of the log too; and a line waits whole or is
+-- lost and counted, and then what waits of the log is written.
+abbrev pub Does : {O E : Type 0} → (O → Option (List ℕ)) → (O → WriteCall → O → Type 0)
+    → (E → Option (List ℕ)) → (E → WriteCall → E → Type 0) → OutputData O E → WriteCall
+    → OutputData O E → Type 0
+Does contents does log_contents log_does old (Write octets taken) new =
+    Writes contents does old.queue old.out octets new.queue new.out taken
+    × (new.err ≡ old.err) × (new.log ≡ old.log)
+Does contents does log_contents log_does old (Flush done) new =
+    Flushes contents does old.queue old.out new.queue new.out done
+    × SendsLog log_contents log_does old.log old.err new.log new.err
+Does contents does log_contents log_does old (Log line) new =
+    (new.out ≡ old.out) × (new.queue ≡ old.queue)
+    × SendsLog log_contents log_does (with_line line old.log) old.err new.log new.err
 
-  -- The output is drained: the front of what waits is written, or all of it, which alone is done;
-  -- and of the log what is read, with how many lines were lost.
-  pub record Drains (old new : OutputData O E) (done : Bool) : Type 0 where
-    pub sends : Sends (contents old.out) (contents new.out) (unwrap_or old.queue [])
-        (unwrap_or new.queue [])
-    pub log : SendsLog log_contents log_does (with_line [] old.log) old.err new.log new.err
-    pub all : done ≡ (length (unwrap_or new.queue []) == 0)
+-- The output is drained: the front of what waits is written, or all of it, which alone is done; and
+-- of the log what is read, with how many lines were lost.
+pub record Drains {O E : Type 0} (contents : O → Option (List ℕ)) (log_contents : E → Option (List ℕ))
+    (log_does : E → WriteCall → E → Type 0) (old new : OutputData O E) (done : Bool)
+    : Type 0 where
+  pub sends : Sends (contents old.out) (contents new.out) (unwrap_or old.queue [])
+      (unwrap_or new.queue [])
+  pub log : SendsLog log_contents log_does (with_line [] old.log) old.err new.log new.err
+  pub all : done ≡ (length (unwrap_or new.queue []) == 0)

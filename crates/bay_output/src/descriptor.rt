@@ -46,7 +46,7 @@ pub struct Descriptor<'a, R, W> {
     gate: Gate,
 }
 
-impl<R, W> Model for Descriptor<'_, R, W> {
+impl<'a, R, W> Model for Descriptor<'a, R, W> {
     ghost use Rattle.bay_output.specs.Descriptor.{DescriptorData};
 
     ghost Value = { DescriptorData W };
