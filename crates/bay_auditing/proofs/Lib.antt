@@ -1,3 +1,4 @@
 pub mod BayNameLemmas
 pub mod NameLemmas
 pub mod TextLemmas
+pub mod VerdictLemmas

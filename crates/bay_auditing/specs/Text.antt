@@ -140,19 +140,24 @@ abbrev pub id_of : Option Switch → List ℕ
 id_of None = []
 id_of (Some switch) = switch.id
 
+abbrev pub rule_way : Bay → Rule → List ℕ
+rule_way bay rule =
+    way_text (codes " ") (id_of (slice_get bay.switches rule.switch)) rule.operation
+
 -- the line of a rule, its switch and its operation
 abbrev pub front_text : Bay → Rule → List ℕ
-front_text bay rule =
-    codes "rule " ++ (decimal rule.line
-    ++ way_text (codes " ") (id_of (slice_get bay.switches rule.switch)) rule.operation)
+front_text bay rule = codes "rule " ++ (decimal rule.line ++ rule_way bay rule)
+
+abbrev pub held_text : ℕ → List ℕ
+held_text cases = codes " holds cases=" ++ decimal cases
 
 abbrev pub said_text : Bay → Known → Answer → List ℕ
-said_text bay names (answer.Holds cases) = codes " holds cases=" ++ decimal cases
+said_text bay names (answer.Holds cases) = held_text cases
 said_text bay names (answer.Broken case) = codes " broken" ++ case_text bay case
 said_text bay names (answer.Open case kept) =
     codes " open" ++ (case_text bay case ++ kept_text names kept)
 said_text bay names (answer.Since n cases) =
-    codes " holds cases=" ++ (decimal cases ++ (codes " by" ++ timer_text names n))
+    held_text cases ++ (codes " by" ++ timer_text names n)
 said_text bay names answer.TooMany = codes " many"
 
 abbrev pub answer_text : Bay → Known → Rule × Answer → List ℕ

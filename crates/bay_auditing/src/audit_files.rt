@@ -45,8 +45,9 @@ fn answers_said(
     program: &[u8],
     rules: &[Rule],
 ) -> Result<AuditOutput, AllocError>
-    ensures answers { IfOk result (λ said. Answers bay.now (known_of verified.now.points
-        (declared_in form program.now)) verified.now rules.now said.text.items (code_of said.status)) }
+    ensures answers { IfOk result (λ said. Answers bay.now
+        (known_of verified.now.points (declared_in form program.now)) verified.now rules.now
+        said.text.items (code_of said.status)) }
     ensures taken { IfOk result (λ said. said.refused ≡ None) }
 {
     let names = names_of(alloc, verified.image().points(), form, program)?;
@@ -108,7 +109,8 @@ fn device_said(
 ) -> Result<AuditOutput, AllocError>
     requires { is_ok (file_of both.now.bay.items) ≡ true }
     ensures { IfOk result (λ said. SaysFor (file_of both.now.bay.items)
-        (declared_in form both.now.program.items) rules.now device.now.machine.image (log_in said.refused) said.text.items (code_of said.status)) }
+        (declared_in form both.now.program.items) rules.now device.now.machine.image
+        (log_in said.refused) said.text.items (code_of said.status)) }
 {
     let bay = bay_again(alloc, both.bay.as_slice())?;
     match read_rules(alloc, &bay, rules) {

@@ -218,6 +218,14 @@ fn put_slot(text: &mut Vec<u8>, names: &KeptNames<'_>, slot: usize) -> Result<()
     )
 }
 
+// Adds the name of a timer.
+fn put_timer(text: &mut Vec<u8>, names: &KeptNames<'_>, timer: usize) -> Result<(), AllocError>
+    ensures { OnOk result
+        (text.new.items ≡ text.old.items ++ spec.timer_text names.now timer) }
+{
+    put_named(text, names.timers.as_slice(), timer, b"timer")
+}
+
 // Adds what a release hangs on: ` by` and the names of points, variables and timers.
 fn put_kept(text: &mut Vec<u8>, names: &KeptNames<'_>, kept: &Kept) -> Result<(), AllocError>
     ensures { OnOk result
@@ -228,7 +236,7 @@ fn put_kept(text: &mut Vec<u8>, names: &KeptNames<'_>, kept: &Kept) -> Result<()
         put_slot(text, names, *slot)?;
     }
     for timer in kept.timers.as_slice() {
-        put_named(text, names.timers.as_slice(), *timer, b"timer")?;
+        put_timer(text, names, *timer)?;
     }
     Ok(())
 }
@@ -252,6 +260,16 @@ fn put_way(
     text.extend_from_slice(operation)
 }
 
+// Adds the switch and the operation of a rule.
+fn put_rule_way(text: &mut Vec<u8>, bay: &Bay, rule: &Rule) -> Result<(), AllocError>
+    ensures { OnOk result (text.new.items ≡ text.old.items ++ spec.rule_way bay.now rule.now) }
+{
+    match bay.switches.as_slice().get(rule.switch) {
+        Some(found) => put_way(text, b" ", found.id.as_str(), rule.operation),
+        None => put_way(text, b" ", "", rule.operation),
+    }
+}
+
 // Adds the front of the line of a rule's answer: the rule's line, its switch and its operation.
 fn put_front(text: &mut Vec<u8>, bay: &Bay, rule: &Rule) -> Result<(), AllocError>
     ensures { OnOk result
@@ -259,11 +277,15 @@ fn put_front(text: &mut Vec<u8>, bay: &Bay, rule: &Rule) -> Result<(), AllocErro
 {
     text.extend_from_slice(b"rule ")?;
     put_number(text, rule.line as u64)?;
-    let id = match bay.switches.as_slice().get(rule.switch) {
-        Some(found) => found.id.as_str(),
-        None => "",
-    };
-    put_way(text, b" ", id, rule.operation)
+    put_rule_way(text, bay, rule)
+}
+
+// Adds that a rule holds, by so many cases.
+fn put_held(text: &mut Vec<u8>, cases: u32) -> Result<(), AllocError>
+    ensures { OnOk result (text.new.items ≡ text.old.items ++ spec.held_text cases) }
+{
+    text.extend_from_slice(b" holds cases=")?;
+    put_number(text, u64::from(cases))
 }
 
 // Adds what an answer says of its rule.
@@ -277,10 +299,7 @@ fn put_said(
         (text.new.items ≡ text.old.items ++ spec.said_text bay.now names.now answer.now) }
 {
     match answer {
-        Answer::Holds { cases } => {
-            text.extend_from_slice(b" holds cases=")?;
-            put_number(text, u64::from(*cases))
-        }
+        Answer::Holds { cases } => put_held(text, *cases),
         Answer::Broken { case } => {
             text.extend_from_slice(b" broken")?;
             put_case(text, bay, case)
@@ -291,10 +310,9 @@ fn put_said(
             put_kept(text, names, kept)
         }
         Answer::Since { timer, cases } => {
-            text.extend_from_slice(b" holds cases=")?;
-            put_number(text, u64::from(*cases))?;
+            put_held(text, *cases)?;
             text.extend_from_slice(b" by")?;
-            put_named(text, names.timers.as_slice(), *timer, b"timer")
+            put_timer(text, names, *timer)
         }
         Answer::TooMany => text.extend_from_slice(b" many"),
     }
