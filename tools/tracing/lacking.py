@@ -3,8 +3,6 @@ from .promises import Borne, Promise, borne_by
 
 OWN_WORDS = 'its clause says it in the words of its subject: '
 NO_LAW = {
-    'bay_auditing audit_files': OWN_WORDS + 'which files are read, and the text of the answers, of '
-                                'which bay_audit says that they are right',
     'bay_audit audit': OWN_WORDS + 'each scan from each process, in each state; the laws of '
                        'bay_audit_laws say what that is of a device',
     'bay_base same_name': OWN_WORDS + 'a table of words, and letters that differ in case',
