@@ -297,12 +297,38 @@ low-more k field (test.AtMost j which most) value low =
     more-if true low most = grind (arith, ints)
     more-if false low most = omega (arith, ints)
 
-low-least : (k : ℕ) (field : MeterField) (case : List TestAnswer) (least low : ℤ) → least ≤ℤ low
+low-grows : (k : ℕ) (field : MeterField) (case : List TestAnswer) (least low : ℤ) → least ≤ℤ low
     → least ≤ℤ fold (low_after k field) low case
-low-least k field [] least low h = h
-low-least k field (l ∷ case) least low h =
+low-grows k field [] least low h = h
+low-grows k field (l ∷ case) least low h =
     let more : low ≤ℤ low_after k field low l = low-more k field l.test l.value low in
-    low-least k field case least (low_after k field low l) (omega (arith, ints, h, more))
+    low-grows k field case least (low_after k field low l) (omega (arith, ints, h, more))
+
+-- what is above the least number at the end is above that at the start
+pub low-least : (k : ℕ) (field : MeterField) (case : List TestAnswer) (low z : ℤ)
+    → fold (low_after k field) low case ≤ℤ z → low ≤ℤ z
+low-least k field case low z h =
+    let more = low-grows k field case low low (same-le low) in omega (arith, ints, h, more)
+
+-- no literal makes the greatest number greater
+high-less : (k : ℕ) (field : MeterField) (t : Test) (value : Bool) (high : ℤ)
+    → high_by k field high value t ≤ℤ high
+high-less k field (test.Position j which) value high = same-le high
+high-less k field (test.Input j) value high = same-le high
+high-less k field (test.AtMost j which most) value high =
+    less-if (is_of_field k field j which && value) high most
+  where
+    less-if : (b : Bool) (high most : ℤ) → cond b (lowered high most) high ≤ℤ high
+    less-if true high most = grind (arith, ints)
+    less-if false high most = omega (arith, ints)
+
+pub high-most : (k : ℕ) (field : MeterField) (case : List TestAnswer) (high z : ℤ)
+    → z ≤ℤ fold (high_after k field) high case → z ≤ℤ high
+high-most k field [] high z h = h
+high-most k field (l ∷ case) high z h =
+    let less : high_after k field high l ≤ℤ high = high-less k field l.test l.value high in
+    let rest = high-most k field case (high_after k field high l) z h in
+    omega (arith, ints, less, rest)
 
 within : (low : ℤ) → negsuc 2147483647 ≤ℤ low
     → (negsuc 2147483647 ≤ℤ lowered (pos 2147483647) low)
@@ -311,8 +337,8 @@ within low h = (grind (arith, ints), grind (arith, ints))
 
 pub example-is : (case : List TestAnswer) → IsProcess (example_of case)
 example-is case = record {
-  least = λ k field. (within (low_of case k field) (low-least k field case (negsuc 2147483647)
+  least = λ k field. (within (low_of case k field) (low-grows k field case (negsuc 2147483647)
       (negsuc 2147483647) (same-le (negsuc 2147483647)))).0;
-  greatest = λ k field. (within (low_of case k field) (low-least k field case (negsuc 2147483647)
+  greatest = λ k field. (within (low_of case k field) (low-grows k field case (negsuc 2147483647)
       (negsuc 2147483647) (same-le (negsuc 2147483647)))).1;
 }

@@ -1,6 +1,8 @@
 pub mod CaseLemmas
+pub mod EarlyLemmas
 pub mod ListLemmas
 pub mod OutlookLemmas
 pub mod ReleaseLemmas
 pub mod RuleLemmas
 pub mod SearchLemmas
+pub mod ToldLemmas

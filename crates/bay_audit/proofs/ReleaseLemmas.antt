@@ -1,12 +1,14 @@
 -- The cases of a release.
-use Rattle.std.proofs.Common.{◌≡◌, ℕ, ◌+◌, true, false, cond, List, [], ◌∷◌, ◌++◌, length, map, Result, Ok, sym, ap, subst, ◌∙◌, add-one, append_assoc, arith}
+use Rattle.std.proofs.Common.{◌≡◌, ℕ, ◌+◌, true, cond, List, [], ◌∷◌, ◌++◌, length, map, Result, Ok, sym, ap, subst, ◌∙◌, add-one, append_assoc, arith}
+use Rattle.std.specs.List.{All}
 use Rattle.std.proofs.lemmas.List.{map-append}
+use Rattle.std.proofs.lemmas.List.Elements.{All-push}
 use Rattle.std.proofs.lemmas.List.Sums.{sum_by-append}
 use Rattle.bay_config.specs.declared.bay.Bay.{Bay}
 use Rattle.bay_rules.specs.Process.{Process}
 use Rattle.bay_audit.specs.Cases.{is_in, lost_case}
-use Rattle.bay_audit.specs.Process.{IsLost}
-use Rattle.bay_audit.specs.Rules.{AreReleases, AreTold, IsDecision, IsRelease, IsToldFor, IsToldOf, IsTurn, IsVerdict, BoundProgram, case_count, demand, told_count, way_of, ways}
+use Rattle.bay_audit.specs.Process.{IsLost, IsProcess}
+use Rattle.bay_audit.specs.Rules.{AreReleases, AreTold, IsDecision, IsRelease, IsToldFor, IsToldOf, HasProcess, IsTurn, IsVerdict, BoundProgram, case_count, demand, parts_of, told_count, way_of, ways}
 use Rattle.bay_audit.specs.declared.answer.Decision.{Decision}
 use Rattle.bay_audit.specs.declared.answer.Decision.TheVariants.{Obeyed, Missed}
 use Rattle.bay_audit.specs.declared.answer.Release.{Release}
@@ -19,7 +21,7 @@ use Rattle.bay_audit.specs.declared.case.TestAnswer.{TestAnswer}
 use Rattle.bay_audit.specs.declared.case.Test.{Test}
 use Rattle.bay_audit.specs.declared.demand.Demand.{Demand}
 use Rattle.bay_audit.proofs.CaseLemmas.{lost-in}
-use Rattle.bay_audit.proofs.SearchLemmas.{count-last, count-two, one_if, part, parts-count}
+use Rattle.bay_audit.proofs.SearchLemmas.{count-last, one_if, parts-more}
 use Rattle.bay_nodes.specs.declared.switch.Operation.{Operation}
 use Rattle.bay_nodes.specs.declared.switch.Operation.TheVariants as operations
 
@@ -80,17 +82,20 @@ one-told cases left c p one =
     let e = count-last left c.case p in
     omega (arith, told, e, one)
 
--- both parts of a case are left in its place
+-- the parts of a case are left in its place
 pub one-split : (cases : List ToldCase) (left : List (List TestAnswer)) (case : List TestAnswer)
-    (test : Test) (p : Process)
+    (test : Test) (p : Process) → IsProcess p
     → told_count cases p + case_count (left ++ case ∷ []) p ≡ 1
-    → told_count cases p
-    + case_count (left ++ part case test false ∷ part case test true ∷ []) p ≡ 1
-one-split cases left case test p one =
+    → told_count cases p + case_count (left ++ parts_of case test) p ≡ 1
+one-split cases left case test p is one =
     let e = count-last left case p in
-    let two = count-two left (part case test false) (part case test true) p in
-    let s = parts-count case test p in
-    omega (arith, e, two, s, one)
+    let two = parts-more left case test p is in
+    omega (arith, e, two, one)
+
+-- one told case more has a process
+pub told-full : (cases : List ToldCase) (c : ToldCase) → All (λ d. HasProcess d.case) cases
+    → HasProcess c.case → All (λ d. HasProcess d.case) (cases ++ c ∷ [])
+told-full cases c all one = All-push (λ (d : ToldCase). HasProcess d.case) cases c all one
 
 -- ---- several releases
 

@@ -11,7 +11,7 @@ use Rattle.il_image.specs.declared.timer.TimerPhase.TheVariants.{Idle, Held, Sin
 use Rattle.il_image.specs.declared.timer.TimerState.{TimerState}
 use Rattle.il_image.specs.declared.value.Value.{Value}
 use Rattle.il_image.specs.declared.value.Value.TheVariants.{Truth, Short, Long, Wide, Span}
-use Rattle.il_range.specs.Foretold.{AreYoung, ForetellsTimed, IsKept, Leaves, began, began_at}
+use Rattle.il_range.specs.Foretold.{AreYoung, Foretells, IsMemory, IsReached, Leaves, began, began_at}
 use Rattle.il_range.specs.Ranges.{AreIn, IsIn, IsYoung}
 use Rattle.il_range.specs.declared.range.Range.{Range}
 use Rattle.il_range.specs.declared.range.Range.TheVariants.{Any, No, Yes, Either, Between}
@@ -21,7 +21,7 @@ use Rattle.il_scan.specs.Scans as scans
 use Rattle.bay_audit.specs.Cases.{is_in, range_of}
 use Rattle.bay_audit.specs.Conditions.{asked_of, includes, opposite, outlook_of}
 use Rattle.bay_audit.specs.Process.{IsProcess, process_value}
-use Rattle.bay_audit.specs.Rules.{Comes, IsMissed, IsDecision, BoundProgram, decide, goal_range, idle_range, is_asked, is_kept, is_missed, is_obeyed, range_at, range_there, reaches, releasing_point}
+use Rattle.bay_audit.specs.Rules.{Comes, Foresees, IsMissed, IsDecision, BoundProgram, decide, goal_range, idle_range, is_asked, is_kept, is_missed, is_obeyed, range_at, range_there, reaches, releasing_point}
 use Rattle.bay_audit.specs.declared.demand.Demand.{Demand}
 use Rattle.bay_audit.specs.declared.demand.Goal.{Goal}
 use Rattle.bay_audit.specs.declared.demand.Goal.TheVariants as goals
@@ -201,20 +201,29 @@ asked-included d p is case inside =
 
 -- ---- a pass
 
+-- What is foretold of all that the ranges of a program's memory hold is so of what it reaches.
+pub foresees-by : (g : BoundProgram) (memory : List Range) (limits : List (Option ℕ))
+    (given : List Range) (last : List (Option ℕ)) (result : List Range) → IsMemory g.image memory
+    → Foretells g.image memory limits given last result → Foresees g limits given last result
+foresees-by g memory limits given last result is foretells machine inputs now slots timers image
+    reached young inside leaves =
+    foretells machine inputs now slots timers image reached (is machine image reached) young inside
+    leaves
+
 module _ (g : BoundProgram) (d : Demand) (case : List TestAnswer) (ranges : List Range)
     (limits : List (Option ℕ))
-    (foretells : ForetellsTimed g.image d.limits (map (range_of case) g.reads) limits ranges)
+    (foresees : Foresees g d.limits (map (range_of case) g.reads) limits ranges)
     (asked : Outlook) (r : Range) (is-asked : asked ≡ asked_of case d.when d.unless)
     (is-range : r ≡ goal_range g.image.points g.writes ranges limits d.goal) where
   module _ (p : Process) (is : IsProcess p) (inside : is_in case p ≡ true) (machine : scans.Held)
       (now : ℕ) (slots : List Value) (timers : List TimerState) (image : machine.image ≡ g.image)
-      (kept : IsKept machine) (young : AreYoung now machine.timers d.limits)
+      (kept : IsReached machine) (young : AreYoung now machine.timers d.limits)
       (leaves : Leaves machine (map (process_value p) g.reads) now slots timers)
     where
       told : Told r (reaches g d.goal slots timers)
       told =
           let end =
-          foretells machine (map (process_value p) g.reads) now slots timers image kept young
+          foresees machine (map (process_value p) g.reads) now slots timers image kept young
           (ranges-have p is case inside g.reads) leaves in
           subst (λ (x : Range). Told x (reaches g d.goal slots timers)) (sym is-range)
           (goal-told g d.goal now slots timers ranges limits end.0 end.1)

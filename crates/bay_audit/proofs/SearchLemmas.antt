@@ -1,18 +1,21 @@
 -- The cases that are left.
-use Rattle.std.proofs.Common.{◌≡◌, ℕ, ◌+◌, Bool, true, false, ◌&&◌, cond, List, [], ◌∷◌, ◌++◌, refl, sym, ap, subst, arith}
+use Rattle.std.proofs.Common.{◌≡◌, ℕ, ◌+◌, Bool, true, false, ◌&&◌, cond, Some, List, [], ◌∷◌, ◌++◌, refl, sym, ap, arith}
 use Rattle.std.specs.Bool.{beq}
+use Rattle.std.specs.List.{All}
+use Rattle.std.proofs.lemmas.List.Elements.{All-append, All-cons, All-nil, All-pop}
 use Rattle.std.proofs.lemmas.List.Folds.{list_all-append}
 use Rattle.std.proofs.lemmas.List.Sums.{sum_by-append}
 use Rattle.bay_rules.specs.Process.{Process}
 use Rattle.bay_rules.specs.declared.rule.Rule.{Rule}
 use Rattle.bay_audit.specs.declared.demand.Demand.{Demand}
-use Rattle.bay_audit.specs.Cases.{answer_of, is_in, meets}
+use Rattle.bay_audit.specs.Cases.{answer_of, example_of, is_in, meets}
 use Rattle.bay_audit.specs.Process.{IsProcess}
-use Rattle.bay_audit.specs.Rules.{AreRight, Comes, HasProcess, IsAnswer, IsBrokenIn, IsLeft, IsMet, IsMissed, IsRight, BoundProgram, case_count}
+use Rattle.bay_audit.specs.Rules.{AreRight, Comes, HasProcess, IsLeft, IsMet, IsRight, BoundProgram, case_count, if_any, part, parts_of}
 use Rattle.bay_audit.specs.declared.answer.Answer.{Answer}
-use Rattle.bay_audit.specs.declared.answer.Answer.TheVariants.{Holds, Broken, Open, TooMany, Since, Timed}
 use Rattle.bay_audit.specs.declared.case.TestAnswer.{TestAnswer}
 use Rattle.bay_audit.specs.declared.case.Test.{Test}
+use Rattle.bay_audit.proofs.CaseLemmas.{example-is}
+use Rattle.bay_audit.proofs.ToldLemmas.{examples-there}
 
 -- 1 where a case has the process
 abbrev pub one_if : Bool → ℕ
@@ -23,15 +26,6 @@ pub count-last : (cases : List (List TestAnswer)) (case : List TestAnswer) (p : 
 count-last cases case p =
     let e : case_count (cases ++ case ∷ []) p ≡ case_count cases p + (0 + one_if (is_in case p)) =
     sum_by-append (λ (c : List TestAnswer). cond (is_in c p) 1 0) cases (case ∷ []) in
-    omega (arith, e)
-
-pub count-two : (cases : List (List TestAnswer)) (a b : List TestAnswer) (p : Process)
-    → case_count (cases ++ a ∷ b ∷ []) p
-    ≡ case_count cases p + (one_if (is_in a p) + one_if (is_in b p))
-count-two cases a b p =
-    let e : case_count (cases ++ a ∷ b ∷ []) p
-    ≡ case_count cases p + (0 + one_if (is_in a p) + one_if (is_in b p)) =
-    sum_by-append (λ (c : List TestAnswer). cond (is_in c p) 1 0) cases (a ∷ b ∷ []) in
     omega (arith, e)
 
 -- a process of a case is in one of its two parts
@@ -46,11 +40,7 @@ parts-sum true false = refl
 parts-sum false true = refl
 parts-sum false false = refl
 
--- the part of a case in which a test has this answer
-abbrev pub part : List TestAnswer → Test → Bool → List TestAnswer
-part case test value = case ++ record { test = test; value = value } ∷ []
-
-pub parts-count : (case : List TestAnswer) (test : Test) (p : Process)
+parts-count : (case : List TestAnswer) (test : Test) (p : Process)
     → one_if (is_in (part case test false) p) + one_if (is_in (part case test true) p)
     ≡ one_if (is_in case p)
 parts-count case test p =
@@ -64,6 +54,55 @@ parts-count case test p =
     let b = ap one_if yes in
     let s = parts-sum (is_in case p) (answer_of p test) in
     omega (arith, a, b, s)
+
+-- a case that has no process counts for none
+if-count : (case : List TestAnswer) (p : Process) → IsProcess p
+    → case_count (if_any case) p ≡ one_if (is_in case p)
+if-count case p is = go (is_in case (example_of case)) refl (is_in case p) refl
+  where
+    go : (b : Bool) → is_in case (example_of case) ≡ b → (c : Bool) → is_in case p ≡ c
+        → case_count (cond b (case ∷ []) []) p ≡ one_if (is_in case p)
+    go true e c f = let one = count-last [] case p in omega (arith, one)
+    go false e true f = absurd (let h = examples-there case p is f in cc)
+    go false e false f = sym (ap one_if f)
+
+pub parts-more : (cases : List (List TestAnswer)) (case : List TestAnswer) (test : Test)
+    (p : Process) → IsProcess p
+    → case_count (cases ++ parts_of case test) p ≡ case_count cases p + one_if (is_in case p)
+parts-more cases case test p is =
+    let a = sum_by-append (λ (c : List TestAnswer). one_if (is_in c p)) cases (parts_of case test) in
+    let b = sum_by-append (λ (c : List TestAnswer). one_if (is_in c p))
+    (if_any (part case test false)) (if_any (part case test true)) in
+    let no = if-count (part case test false) p is in
+    let yes = if-count (part case test true) p is in
+    let s = parts-count case test p in
+    omega (arith, a, b, no, yes, s)
+
+-- a case that is kept has a process
+if-full : (case : List TestAnswer) → All HasProcess (if_any case)
+if-full case = go (is_in case (example_of case)) refl
+  where
+    go : (b : Bool) → is_in case (example_of case) ≡ b
+        → All HasProcess (cond b (case ∷ []) [])
+    go true e =
+        All-cons HasProcess case [] (example_of case, example-is case, e) (All-nil HasProcess)
+    go false e = All-nil HasProcess
+
+pub first-full : All HasProcess ([] ∷ [])
+first-full =
+    All-cons HasProcess [] [] (example_of [], example-is [], refl) (All-nil HasProcess)
+
+pub full-more : (cases : List (List TestAnswer)) (case : List TestAnswer) (test : Test)
+    → All HasProcess cases → All HasProcess (cases ++ parts_of case test)
+full-more cases case test all =
+    All-append HasProcess cases (parts_of case test) all
+    (All-append HasProcess (if_any (part case test false)) (if_any (part case test true))
+    (if-full (part case test false)) (if-full (part case test true)))
+
+pub full-last : (cases : List (List TestAnswer)) (case : List TestAnswer)
+    → All HasProcess (cases ++ case ∷ []) → All HasProcess cases × HasProcess case
+full-last cases case all =
+    All-pop HasProcess (cases ++ case ∷ []) cases (Some case) refl all
 
 module _ (g : BoundProgram) (d : Demand) where
   -- at first all processes are left
@@ -87,32 +126,20 @@ module _ (g : BoundProgram) (d : Demand) where
   left-without cases case left obeyed p is none =
       left-if (is_in case p) cases case p is refl left obeyed none
 
-  -- both parts of a case are left in its place
+  -- the parts of a case are left in its place
   pub left-parts : (cases : List (List TestAnswer)) (case : List TestAnswer) (test : Test)
       → IsLeft g d (cases ++ case ∷ [])
-      → IsLeft g d (cases ++ part case test false ∷ part case test true ∷ [])
+      → IsLeft g d (cases ++ parts_of case test)
   left-parts cases case test left p is none =
       left p is
       (let e = count-last cases case p in
-      let two = count-two cases (part case test false) (part case test true) p in
-      let s = parts-count case test p in
-      omega (arith, e, two, s, none))
+      let two = parts-more cases case test p is in
+      omega (arith, e, two, none))
 
   -- where none is left the rule holds
   pub left-none : (cases : List (List TestAnswer)) → cases ≡ [] → IsLeft g d cases
       → IsMet g d
   left-none cases none left p is = left p is (ap (λ cs. case_count cs p) none)
-
--- the answer where a demand is missed in a case
-pub broken-right : (g : BoundProgram) (d : Demand) (case : List TestAnswer) (a : Answer)
-    → IsMissed g d case → IsBrokenIn case a → IsAnswer g d a
-broken-right g d case (Broken told) is one =
-    (subst (IsMissed g d) (sym one.0) is, subst HasProcess (sym one.0) one.1)
-broken-right g d case (Open told kept) is one = tt
-broken-right g d case (Holds cases) is one = absurd one
-broken-right g d case TooMany is one = absurd one
-broken-right g d case (Since n cases) is one = absurd one
-broken-right g d case Timed is one = absurd one
 
 -- one rule more, and its answer
 pub right-more : (g : BoundProgram) (rules : List Rule) (answers : List Answer) (r : Rule) (a : Answer)

@@ -1,5 +1,5 @@
 -- A case of what the process reports: some tests of it have these answers.
-use Rattle.std.specs.Prelude.{ℕ, zero, suc, ℤ, ◌+ℤ◌, negsuc, pos, int_le, int_lt, Bool, true, false, not, ◌&&◌, ◌||◌, ◌==◌, List, [], ◌∷◌, ◌++◌, fold, if◌then◌else◌}
+use Rattle.std.specs.Prelude.{◌≡◌, ◌≤ℤ◌, ℕ, zero, suc, ℤ, ◌+ℤ◌, negsuc, pos, int_le, int_lt, Bool, true, false, not, ◌&&◌, ◌||◌, ◌==◌, List, [], ◌∷◌, ◌++◌, fold, if◌then◌else◌}
 use Rattle.std.specs.Bool.{beq}
 use Rattle.std.specs.List.{list_all}
 use Rattle.bay_base.specs.declared.point.MeterField.{MeterField}
@@ -119,6 +119,13 @@ low_of case k field = fold (low_after k field) (negsuc 2147483647) case
 
 abbrev pub high_of : List TestAnswer → ℕ → MeterField → ℤ
 high_of case k field = fold (high_after k field) (pos 2147483647) case
+
+-- Each point of the process is as the case leaves it.
+pub record IsWithin (case : List TestAnswer) (p : Process) : Type 0 where
+  pub positions : (k : ℕ) → may_be case k (p.position k) ≡ true
+  pub inputs : (k : ℕ) → input_may case k (p.input k) ≡ true
+  pub least : (k : ℕ) (field : MeterField) → low_of case k field ≤ℤ p.measure k field
+  pub greatest : (k : ℕ) (field : MeterField) → p.measure k field ≤ℤ high_of case k field
 
 -- ---- a process of a case
 

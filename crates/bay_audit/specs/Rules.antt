@@ -1,12 +1,12 @@
--- Which rules hold of a program: in every state, whatever the process reports.
-use Rattle.std.specs.Prelude.{ℕ, zero, suc, ◌+◌, ◌++◌, ◌≡◌, Bool, true, false, not, ◌&&◌, ◌||◌, List, [], ◌∷◌, map, position, replicate, MatchOption, Option, None, Some, is_none, slice_get, Result, Ok, Err, if◌then◌else◌}
+-- Which rules hold of a program: in every state that it can reach, whatever the process reports.
+use Rattle.std.specs.Prelude.{ℕ, zero, suc, ◌+◌, ◌++◌, ◌≡◌, Bool, true, false, not, ◌&&◌, ◌||◌, ◌<◌, ◌⊎◌, All, List, [], ◌∷◌, map, position, replicate, MatchOption, Option, None, Some, is_none, slice_get, Result, Ok, Err, if◌then◌else◌}
 use Rattle.std.specs.List.{count_by}
 use Rattle.bay_config.specs.declared.bay.Bay.{Bay}
 use Rattle.bay_base.specs.declared.point.Source.{Source}
 use Rattle.bay_base.specs.declared.point.SwitchPoint.{SwitchPoint}
 use Rattle.bay_base.specs.declared.point.SwitchPoint.TheVariants.{EnableOpen, EnableClose}
 use Rattle.bay_process.specs.Sources.{sources_of}
-use Rattle.bay_process.specs.Values.{is_point, output_of}
+use Rattle.bay_process.specs.Values.{is_point, output_at, output_of}
 use Rattle.bay_rules.specs.Process.{Process, holds}
 use Rattle.bay_rules.specs.declared.rule.ConditionItem.{ConditionItem}
 use Rattle.bay_rules.specs.declared.rule.ConditionItem.TheVariants as items
@@ -20,14 +20,16 @@ use Rattle.il_image.specs.declared.image.ImagePoint.{ImagePoint}
 use Rattle.il_image.specs.declared.timer.TimerState.{TimerState}
 use Rattle.il_image.specs.declared.value.Value.{Value}
 use Rattle.il_image.specs.Images.{Image}
-use Rattle.il_range.specs.Foretold.{AreYoung, IsKept, Leaves, began_at}
+use Rattle.il_range.specs.Foretold.{AreYoung, IsReached, Leaves, began_at}
+use Rattle.il_range.specs.Ranges.{AreIn}
 use Rattle.il_range.specs.declared.range.Range.{Range}
 use Rattle.il_range.specs.declared.range.Range.TheVariants as range
-use Rattle.il_scan.specs.Scans.{Held, outputs_of}
-use Rattle.bay_audit.specs.Cases.{is_in}
+use Rattle.il_scan.specs.Scans.{Held, held_first, outputs_of}
+use Rattle.il_scan.specs.Places.{is_true}
+use Rattle.bay_audit.specs.Cases.{example_of, is_in}
 use Rattle.bay_audit.specs.Process.{IsLost, IsProcess, process_value}
 use Rattle.bay_audit.specs.declared.answer.Answer.{Answer}
-use Rattle.bay_audit.specs.declared.answer.Answer.TheVariants.{Holds, Broken, Open, TooMany, Since, Timed}
+use Rattle.bay_audit.specs.declared.answer.Answer.TheVariants.{Holds, Broken, Open, TooMany, Since}
 use Rattle.bay_audit.specs.declared.case.TestAnswer.{TestAnswer}
 use Rattle.bay_audit.specs.declared.case.Test.{Test}
 use Rattle.bay_audit.specs.declared.answer.Release.{Release}
@@ -92,12 +94,12 @@ is_asked d p = holds d.when p && not (holds d.unless p)
 abbrev pub obeys : BoundProgram → Demand → Process → List Value → List TimerState → Bool
 obeys g d p slots timers = is_obeyed d.kind (is_asked d p) (reaches g d.goal slots timers)
 
--- Each scan that is meant, from what the process reports, at each moment and whatever the program
--- keeps of the scans before it, ends with the demand met, or not.
+-- Each scan that is meant, from what the process reports, at each moment and in each state that the
+-- program can reach, ends with the demand met, or not.
 abbrev pub Comes : Bool → BoundProgram → Demand → Process → Type 0
 Comes b g d p =
     (machine : Held) (now : ℕ) (slots : List Value) (timers : List TimerState)
-    → machine.image ≡ g.image → IsKept machine → AreYoung now machine.timers d.limits
+    → machine.image ≡ g.image → IsReached machine → AreYoung now machine.timers d.limits
     → Leaves machine (map (process_value p) g.reads) now slots timers
     → obeys g d p slots timers ≡ b
 
@@ -163,21 +165,22 @@ idle condition n = record {
   limits = [];
 }
 
+-- the switch is released while the condition holds
+abbrev pub after : Rule → List ConditionItem → Demand
+after rule condition = record {
+  kind = Always;
+  goal = goals.Release rule.switch rule.operation;
+  when = rule.when;
+  unless = condition ++ items.Not ∷ [];
+  limits = [];
+}
+
 -- A timer bears the rule that a switch is not released until a condition has held for a time: its
 -- delay runs only while the condition holds, and a release waits for it.
 pub record IsByTimer (g : BoundProgram) (rule : Rule) (timing : Timing) (n : ℕ) : Type 0 where
   pub late_so : IsMet g (late rule timing.time n)
   pub there_so : IsMet g (there rule timing.condition)
   pub idle_so : IsMet g (idle timing.condition n)
-
--- An answer to such a rule is right.
-abbrev pub IsUntil : BoundProgram → Rule → Timing → Answer → Type 0
-IsUntil g rule timing (Since n cases) = (rule.kind ≡ Never) × IsByTimer g rule timing n
-IsUntil g rule timing Timed = Unit {0}
-IsUntil g rule timing (Holds cases) = ⊥
-IsUntil g rule timing (Broken case) = ⊥
-IsUntil g rule timing (Open case kept) = ⊥
-IsUntil g rule timing TooMany = ⊥
 
 -- ---- answers
 
@@ -189,10 +192,62 @@ HasProcess case = (p : Process) × IsProcess p × (is_in case p ≡ true)
 abbrev pub IsAnswer : BoundProgram → Demand → Answer → Type 0
 IsAnswer g d (Holds cases) = IsMet g d
 IsAnswer g d (Broken case) = IsMissed g d case × HasProcess case
-IsAnswer g d (Open case kept) = Unit {0}
+IsAnswer g d (Open case kept) = HasProcess case
 IsAnswer g d TooMany = Unit {0}
 IsAnswer g d (Since n cases) = ⊥
-IsAnswer g d Timed = ⊥
+
+-- A scan from these inputs takes the machine to its next state.
+abbrev pub Passes : List Value → Held → ℕ → Held → Type 0
+Passes inputs machine now next =
+    (next.image ≡ machine.image) × Leaves machine inputs now next.slots next.timers
+
+-- One scan from these inputs or two, the first of them at moment 0 and the second less than the
+-- time after it, give TRUE to what stands at this place among the writable points.
+pub record IsEarlyBy (inputs : List Value) (first : Held) (place : Option ℕ) (time : ℕ) : Type 0
+  where
+    pub before : Held
+    pub starts : (before ≡ first) ⊎ Passes inputs first 0 before
+    pub now : ℕ
+    pub soon : now < time
+    pub after : Held
+    pub passes : Passes inputs before now after
+    pub released : is_true (output_at place (outputs_of after.image.points after.slots)) ≡ true
+
+-- the place of a release among the writable points
+abbrev pub place_of : BoundProgram → Rule → Option ℕ
+place_of g rule = position (is_point rule.switch (releasing_point rule.operation)) g.writes
+
+-- While a process of the case stays as it is, and the rule is asked, such a run from the program's
+-- first values releases the switch.
+pub record IsEarlyIn (g : BoundProgram) (rule : Rule) (time : ℕ) (case : List TestAnswer) : Type 0
+  where
+    pub process : Process
+    pub is : IsProcess process
+    pub inside : is_in case process ≡ true
+    pub asked : holds rule.when process ≡ true
+    pub early : IsEarlyBy (map (process_value process) g.reads) (held_first g.image)
+        (place_of g rule) time
+
+-- An answer to a rule that forbids until a condition has held for a time is right: the switch is
+-- never released while the rule is asked, or a timer bears it; it is broken where it is released
+-- without the condition, in each state, or by such a run.
+abbrev pub IsForbidden : BoundProgram → Rule → Timing → Answer → Type 0
+IsForbidden g rule timing (Holds cases) = IsMet g (plain_demand rule)
+IsForbidden g rule timing (Since n cases) = IsByTimer g rule timing n
+IsForbidden g rule timing (Broken case) =
+    (IsMissed g (there rule timing.condition) case × HasProcess case)
+    ⊎ IsEarlyIn g rule timing.time case
+IsForbidden g rule timing (Open case kept) = HasProcess case
+IsForbidden g rule timing TooMany = Unit {0}
+
+-- The same of a rule of this kind. One that demands after a condition has held for a time holds
+-- where the switch is released whenever the condition holds, and is broken where it never is.
+abbrev pub IsTimely : RuleKind → BoundProgram → Rule → Timing → Answer → Type 0
+IsTimely Never g rule timing answer = IsForbidden g rule timing answer
+IsTimely Always g rule timing answer = IsAnswer g (after rule timing.condition) answer
+
+abbrev pub IsUntil : BoundProgram → Rule → Timing → Answer → Type 0
+IsUntil g rule timing answer = IsTimely rule.kind g rule timing answer
 
 -- An answer to a rule is right.
 abbrev pub IsRight : BoundProgram → Rule → Answer → Type 0
@@ -214,7 +269,7 @@ AreRight g (r ∷ rules) [] = ⊥
 abbrev pub Gives : Bool → BoundProgram → ℕ → Operation → Process → Type 0
 Gives b g k operation p =
     (machine : Held) (now : ℕ) (slots : List Value) (timers : List TimerState)
-    → machine.image ≡ g.image → IsKept machine
+    → machine.image ≡ g.image → IsReached machine
     → Leaves machine (map (process_value p) g.reads) now slots timers
     → releases g k operation slots ≡ b
 
@@ -242,11 +297,13 @@ told_count cases p = count_by (λ c. is_in c.case p) cases
 abbrev pub case_count : List (List TestAnswer) → Process → ℕ
 case_count cases p = count_by (λ case. is_in case p) cases
 
--- The cases of a release are right, and each process is in just one of them, or in one of those
--- that are left. What is told of it while the process is lost is right too.
+-- The cases of a release are right and have a process each, and each process is in just one of them,
+-- or in one of those that are left. What is told of it while the process is lost is right too.
 pub record IsRelease (bay : Bay) (g : BoundProgram) (r : Release) : Type 0 where
   pub told : AreTold g r.switch r.operation r.cases.items
-  pub one : (p : Process) → told_count r.cases.items p + case_count r.left.items p ≡ 1
+  pub full : All (λ c. HasProcess c.case) r.cases.items
+  pub one : (p : Process) → IsProcess p
+      → told_count r.cases.items p + case_count r.left.items p ≡ 1
   pub lost : IsToldFor (IsLost bay) g r.switch r.operation r.lost
 
 -- Each is so.
@@ -273,6 +330,16 @@ demand k operation = record {
 }
 
 -- ---- how they are found
+
+-- Whatever state the program reached, a scan whose inputs are in the ranges and whose timers' delays
+-- have run for less than the limits leaves slots in the others, and timers with the last limits.
+abbrev pub Foresees : BoundProgram → List (Option ℕ) → List Range → List (Option ℕ) → List Range
+    → Type 0
+Foresees g limits given last result =
+    (machine : Held) (inputs : List Value) (now : ℕ) (slots : List Value)
+    (timers : List TimerState) → machine.image ≡ g.image → IsReached machine
+    → AreYoung now machine.timers limits → AreIn inputs given
+    → Leaves machine inputs now slots timers → AreIn slots result × AreYoung now timers last
 
 -- a verdict on a demand in a case
 abbrev pub IsVerdict : BoundProgram → Demand → List TestAnswer → Verdict → Type 0
@@ -340,6 +407,18 @@ goal_range points writes ranges limits (goals.Release k operation) =
     release_range points writes ranges k operation
 goal_range points writes ranges limits (goals.Idle n) = idle_range (slice_get limits n)
 
+-- a case if it has a process
+abbrev pub if_any : List TestAnswer → List (List TestAnswer)
+if_any case = if is_in case (example_of case) then case ∷ [] else []
+
+-- the part of a case in which a test has this answer
+abbrev pub part : List TestAnswer → Test → Bool → List TestAnswer
+part case test value = case ++ record { test = test; value = value } ∷ []
+
+-- the parts of a case that have a process
+abbrev pub parts_of : List TestAnswer → Test → List (List TestAnswer)
+parts_of case test = if_any (part case test false) ++ if_any (part case test true)
+
 -- A demand is met by each process that none of these cases has.
 abbrev pub IsLeft : BoundProgram → Demand → List (List TestAnswer) → Type 0
 IsLeft g d cases = (p : Process) → IsProcess p → case_count cases p ≡ 0 → Comes true g d p
@@ -350,12 +429,3 @@ IsTurn verdict.Obeyed r = r ≡ Ok Released
 IsTurn verdict.Broken r = r ≡ Ok Refused
 IsTurn (verdict.Open kept) r = r ≡ Ok (Hangs kept)
 IsTurn (verdict.Split test) r = r ≡ Err test
-
--- the answer where a demand is missed in a case
-abbrev pub IsBrokenIn : List TestAnswer → Answer → Type 0
-IsBrokenIn case (Broken told) = (told ≡ case) × HasProcess case
-IsBrokenIn case (Open told kept) = Unit {0}
-IsBrokenIn case (Holds cases) = ⊥
-IsBrokenIn case TooMany = ⊥
-IsBrokenIn case (Since n cases) = ⊥
-IsBrokenIn case Timed = ⊥

@@ -7,27 +7,27 @@ use bay_nodes::switch::Operation;
 pub enum Answer {
     /// The rule holds, by so many cases.
     Holds { cases: u32 },
-    /// Each process of the case breaks it, in each state of the program.
+    /// Each process of the case breaks it, in each state that the program can reach; or a rule with
+    /// a time is broken by one of the case, in one scan or two from the program's first values.
     Broken { case: Case },
-    /// In this case it hangs on this, which no test of the process tells.
+    /// In this case it hangs on what no test of the process tells: on what the program keeps, or on
+    /// a calculation that is not followed. A hint names what it may hang on.
     Open { case: Case, kept: Kept },
     /// It takes more passes than are allowed.
     TooMany,
     /// It has a time and holds, by so many cases: the timer at this place of the image runs only
     /// while the rule's condition does, and is over before the switch is released.
     Since { timer: usize, cases: u32 },
-    /// It has a time, and is not answered.
-    Timed,
 }
 
 /// What is told of a release in a case.
 #[derive(Drop)]
 pub enum CaseRelease {
-    /// For each process of the case the program releases it, in each state.
+    /// For each process of the case the program releases it, in each state that it can reach.
     Released,
-    /// For each process of the case it does not, in each state.
+    /// For each process of the case it does not, in each state that it can reach.
     Refused,
-    /// It hangs on this, which no test of the process tells.
+    /// It hangs on what no test of the process tells.
     Hangs(Kept),
 }
 
@@ -62,7 +62,8 @@ pub struct Audit {
     pub releases: Vec<Release>,
 }
 
-/// What a release hangs on that the program keeps from scan to scan.
+/// What a release may hang on that the program keeps from scan to scan. It is a hint: no clause says
+/// that it is all, or no more.
 #[derive(Drop)]
 pub struct Kept {
     /// The slots of writable points and of variables, by their places in the image.
@@ -74,9 +75,9 @@ pub struct Kept {
 /// What a pass tells of a demand in a case.
 #[derive(Drop)]
 pub enum Verdict {
-    /// Each process of the case obeys it, in each state.
+    /// Each process of the case obeys it, in each state that the program can reach.
     Obeyed,
-    /// Each process of the case breaks it, in each state.
+    /// Each process of the case breaks it, in each state that the program can reach.
     Broken,
     /// It hangs on this test.
     Split(Test),

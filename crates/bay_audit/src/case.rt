@@ -1,9 +1,13 @@
 // A case of what the process reports, and what it leaves open.
-ghost use Rattle.std.specs.Prelude.{◌≡◌, IfOk, ◌++◌, ◌∷◌, []};
+ghost use Rattle.std.specs.Prelude.{◌≡◌, IfOk, IfSome, ◌++◌, ◌∷◌, [], Some};
 ghost use Rattle.bay_audit.specs.Cases as spec;
+ghost use Rattle.bay_audit.specs.Process.{process_value};
+ghost use Rattle.bay_process.specs.Values as spec_values;
+ghost use Rattle.bay_tree.specs.declared.leaf.Leaf.TheVariants as leaves;
 
 use bay_config::bay::{MeterField, Source, SwitchPoint};
 use bay_tree::leaf::Dbpos;
+use il_image::value::Value;
 use il_range::range::Range;
 use std::alloc::{AllocError, Global};
 use std::marker::Model;
@@ -185,6 +189,30 @@ fn position_range(point: SwitchPoint, intermediate: bool, off: bool, on: bool, b
     }
 }
 
+// Returns the number of a position (IEC 61850-8-1, Dbpos): 0 intermediate, 1 off, 2 on, 3 bad.
+fn number_of_position(position: Dbpos) -> i16
+    ensures { result ≡ spec_values.number_of_position (Some (leaves.Dbpos position)) }
+{
+    match position {
+        Dbpos::Intermediate => 0,
+        Dbpos::Off => 1,
+        Dbpos::On => 2,
+        Dbpos::Bad => 3,
+    }
+}
+
+// Returns the value of a point of a switch at a position.
+fn position_value(point: SwitchPoint, position: Dbpos) -> Value
+    ensures { result ≡ spec_values.position_value point (Some (leaves.Dbpos position)) }
+{
+    match point {
+        SwitchPoint::Position => Value::Short(number_of_position(position)),
+        SwitchPoint::Open => Value::Truth(position == Dbpos::Off),
+        SwitchPoint::Closed => Value::Truth(position == Dbpos::On),
+        SwitchPoint::EnableOpen | SwitchPoint::EnableClose => Value::Truth(false),
+    }
+}
+
 /// A case: tests of what the process reports, each with its answer. A process is one of the case if
 /// it gives these answers.
 #[derive(Drop)]
@@ -209,6 +237,15 @@ impl Case {
         Case {
             literals: Vec::new(alloc),
         }
+    }
+
+    /// Makes the case of all processes alone.
+    pub fn all(alloc: Global) -> Result<Vec<Case>, AllocError>
+        ensures { IfOk result (λ cases. cases.items ≡ [] ∷ []) }
+    {
+        let mut cases = Vec::new(alloc);
+        cases.push(Case::new(alloc))?;
+        Ok(cases)
     }
 
     /// Makes the case of a process that is lost: each of so many switches has position 3, and each
@@ -281,22 +318,52 @@ impl Case {
         high
     }
 
+    // The first position that a switch may have.
+    fn example_position(&self, switch: usize) -> Dbpos
+        ensures { result ≡ (spec.example_of self.now).position switch }
+    {
+        first_position(
+            self.may_be(switch, Dbpos::Intermediate),
+            self.may_be(switch, Dbpos::Off),
+            self.may_be(switch, Dbpos::On),
+        )
+    }
+
+    // The first number that a field of a meter may have.
+    fn example_measure(&self, meter: usize, field: MeterField) -> i64
+        ensures { result ≡ (spec.example_of self.now).measure meter field }
+    {
+        lowered(i64::from(i32::MAX), self.low_of(meter, field))
+    }
+
+    /// Returns the value of what a point stands for, where each point has the first value that it
+    /// may have. It is there.
+    pub fn example_value(&self, source: Source) -> Option<Value>
+        ensures { IfSome result (λ v. v ≡ process_value (spec.example_of self.now) source) }
+    {
+        match source {
+            Source::Switch { switch, point } => {
+                Some(position_value(point, self.example_position(switch)))
+            }
+            Source::Input { input } => Some(Value::Truth(self.input_may(input, true))),
+            Source::Meter { meter, field } => {
+                match i32::try_from(self.example_measure(meter, field)) {
+                    Ok(number) => Some(Value::Long(number)),
+                    Err(_) => None,
+                }
+            }
+        }
+    }
+
     // The answer of a test where each point has the first value that it may have.
     fn answer_of(&self, test: Test) -> bool
         ensures { result ≡ spec.answer_of (spec.example_of self.now) test }
     {
         match test {
-            Test::Position { switch, position } => {
-                position
-                    == first_position(
-                        self.may_be(switch, Dbpos::Intermediate),
-                        self.may_be(switch, Dbpos::Off),
-                        self.may_be(switch, Dbpos::On),
-                    )
-            }
+            Test::Position { switch, position } => position == self.example_position(switch),
             Test::Input { input } => self.input_may(input, true),
             Test::AtMost { meter, field, most } => {
-                lowered(i64::from(i32::MAX), self.low_of(meter, field)) <= i64::from(most)
+                self.example_measure(meter, field) <= i64::from(most)
             }
         }
     }

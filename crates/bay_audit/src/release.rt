@@ -1,7 +1,7 @@
 // When each switch is released, and in which direction.
 ghost use Rattle.std.specs.Prelude.{◌≡◌, IfOk, length, map};
 ghost use Rattle.bay_audit.specs.Process.{IsLost};
-ghost use Rattle.bay_audit.specs.Rules.{AreReleases, IsRelease, IsToldFor, IsTurn, program, way_of, ways};
+ghost use Rattle.bay_audit.specs.Rules.{AreReleases, IsRelease, IsToldFor, IsTurn, way_of, ways};
 ghost use Rattle.bay_audit.specs.Rules as spec;
 
 use crate::answer::{CaseRelease, Decision, Release, ToldCase, Verdict};
@@ -9,13 +9,13 @@ use crate::audit::split;
 use crate::case::{Case, Test};
 use crate::demand::{Demand, Goal};
 use crate::outlook::Outlook;
+use crate::program::Program;
 use crate::split::hangs_on;
-use crate::verdict::{Wires, pass, verdict};
+use crate::verdict::{pass, verdict};
 use bay_base::listing::Listing;
 use bay_config::bay::Bay;
 use bay_nodes::switch::Operation;
 use bay_rules::rule::{ConditionItem, RuleKind};
-use il_verify::verify::Verified;
 use std::alloc::{AllocError, Global};
 
 // Returns the demand that a switch is always released in a direction.
@@ -48,13 +48,11 @@ fn told_by(verdict: Verdict) -> Result<CaseRelease, Test>
 fn lost_release(
     alloc: Global,
     bay: &Bay,
-    verified: &Verified,
-    wires: &Wires,
+    program: &Program<'_>,
     switch: usize,
     operation: Operation,
 ) -> Result<CaseRelease, AllocError>
-    ensures { IfOk result (IsToldFor (IsLost bay.now) (program verified.now wires.now.reads.items
-        wires.now.writes.items) switch operation) }
+    ensures { IfOk result (IsToldFor (IsLost bay.now) program.now switch operation) }
 {
     let demand = demand(alloc, switch, operation)?;
     let case = Case::lost(
@@ -66,12 +64,12 @@ fn lost_release(
         yes: true,
         no: false,
     };
-    let (decision, forecast) = pass(alloc, verified, wires, &demand, &case, asked)?;
+    let (decision, forecast) = pass(alloc, program, &demand, &case, asked)?;
     match decision {
         Decision::Obeyed => Ok(CaseRelease::Released),
         Decision::Missed => Ok(CaseRelease::Refused),
         Decision::Unknown => {
-            let kept = hangs_on(alloc, verified, wires, demand.goal, &forecast)?;
+            let kept = hangs_on(alloc, program, demand.goal, &forecast)?;
             Ok(CaseRelease::Hangs(kept))
         }
     }
@@ -81,25 +79,22 @@ fn lost_release(
 fn release(
     alloc: Global,
     bay: &Bay,
-    verified: &Verified,
-    wires: &Wires,
+    program: &Program<'_>,
     switch: usize,
     operation: Operation,
     most: u32,
 ) -> Result<Release, AllocError>
-    ensures right { IfOk result (IsRelease bay.now (program verified.now wires.now.reads.items
-        wires.now.writes.items)) }
+    ensures right { IfOk result (IsRelease bay.now program.now) }
     ensures way { IfOk result (λ r. way_of r ≡ record { 0 = switch; 1 = operation }) }
 {
     let demand = demand(alloc, switch, operation)?;
-    let mut left = Vec::new(alloc);
-    left.push(Case::new(alloc))?;
+    let mut left = Case::all(alloc)?;
     let mut cases = Vec::new(alloc);
     for _ in 0..most {
         let Some(case) = left.pop() else {
             break;
         };
-        match told_by(verdict(alloc, verified, wires, &demand, &case)?) {
+        match told_by(verdict(alloc, program, &demand, &case)?) {
             Ok(told) => cases.push(ToldCase { case, told })?,
             Err(test) => split(alloc, &mut left, &case, test)?,
         }
@@ -109,7 +104,7 @@ fn release(
         operation,
         cases,
         left,
-        lost: lost_release(alloc, bay, verified, wires, switch, operation)?,
+        lost: lost_release(alloc, bay, program, switch, operation)?,
     })
 }
 
@@ -117,19 +112,18 @@ fn release(
 pub fn releases(
     alloc: Global,
     bay: &Bay,
-    verified: &Verified,
-    wires: &Wires,
+    program: &Program<'_>,
     most: u32,
 ) -> Result<Vec<Release>, AllocError>
-    ensures right { IfOk result (λ releases. AreReleases bay.now (program verified.now
-        wires.now.reads.items wires.now.writes.items) releases.items) }
+    ensures right { IfOk result
+        (λ releases. AreReleases bay.now program.now releases.items) }
     ensures all { IfOk result (λ releases. map way_of releases.items
         ≡ ways (length bay.now.switches)) }
 {
     let mut releases = Vec::new(alloc);
     for switch in 0..bay.switches.as_slice().len() {
-        releases.push(release(alloc, bay, verified, wires, switch, Operation::Open, most)?)?;
-        releases.push(release(alloc, bay, verified, wires, switch, Operation::Close, most)?)?;
+        releases.push(release(alloc, bay, program, switch, Operation::Open, most)?)?;
+        releases.push(release(alloc, bay, program, switch, Operation::Close, most)?)?;
     }
     Ok(releases)
 }

@@ -6,7 +6,8 @@ ghost use Rattle.bay_audit.specs.Rules.{IsUndecided};
 use crate::answer::{Kept, Verdict};
 use crate::case::{Case, Test};
 use crate::demand::{Demand, Goal};
-use crate::verdict::{Wires, release_place};
+use crate::program::Program;
+use crate::verdict::release_place;
 use bay_config::bay::{MeterField, Source, SwitchPoint};
 use bay_rules::rule::{ConditionItem, Relation};
 use bay_tree::leaf::Dbpos;
@@ -15,7 +16,6 @@ use il_image::instr::Instr;
 use il_image::read::instr_at;
 use il_image::value::Value;
 use il_range::scan::Forecast;
-use il_verify::verify::Verified;
 use std::alloc::{AllocError, Global};
 
 const POSITIONS: [Dbpos; 4] = [Dbpos::Off, Dbpos::On, Dbpos::Intermediate, Dbpos::Bad];
@@ -159,19 +159,18 @@ fn slot_of(points: &[ImagePoint], place: usize) -> Option<usize> {
 
 // The first test of what a goal hangs on, by its slot, that its case leaves open.
 fn program_split(
-    verified: &Verified,
-    reads: &[Source],
+    program: &Program<'_>,
     case: &Case,
     forecast: &Forecast,
     goal: usize,
 ) -> Option<Test> {
-    let image = verified.image();
+    let image = program.image();
     let slots = image
         .points()
         .iter()
         .enumerate()
         .filter(|(_, point)| !point.writable);
-    for ((slot, _), source) in slots.zip(reads.iter()) {
+    for ((slot, _), source) in slots.zip(program.reads().iter()) {
         if forecast.sources.on_slot(goal, slot) {
             let test = source_test(image.code(), case, *source);
             if test.is_some() {
@@ -183,24 +182,23 @@ fn program_split(
 }
 
 // The slot of a goal: that of a release, or the one that a timer counts as.
-fn goal_slot(verified: &Verified, writes: &[Source], goal: Goal, forecast: &Forecast) -> usize {
+fn goal_slot(program: &Program<'_>, goal: Goal, forecast: &Forecast) -> usize {
     match goal {
-        Goal::Release { switch, operation } => release_place(writes, switch, operation)
-            .and_then(|place| slot_of(verified.image().points(), place))
+        Goal::Release { switch, operation } => release_place(program.writes(), switch, operation)
+            .and_then(|place| slot_of(program.image().points(), place))
             .unwrap_or(0),
         Goal::Idle { timer } => forecast.ranges.len().saturating_add(timer),
     }
 }
 
-/// Returns the slots and the timers that a goal hangs on.
+/// Returns the slots and the timers that a goal may hang on.
 pub fn hangs_on(
     alloc: Global,
-    verified: &Verified,
-    wires: &Wires,
+    program: &Program<'_>,
     goal: Goal,
     forecast: &Forecast,
 ) -> Result<Kept, AllocError> {
-    let goal = goal_slot(verified, wires.writes.as_slice(), goal, forecast);
+    let goal = goal_slot(program, goal, forecast);
     let mut slots = Vec::new(alloc);
     for slot in 0..forecast.ranges.len() {
         if forecast.sources.on_slot(goal, slot) {
@@ -208,7 +206,7 @@ pub fn hangs_on(
         }
     }
     let mut timers = Vec::new(alloc);
-    for timer in 0..verified.image().timers().len() {
+    for timer in 0..program.image().timers().len() {
         if forecast.sources.on_timer(goal, timer) {
             timers.push(timer)?;
         }
@@ -216,12 +214,11 @@ pub fn hangs_on(
     Ok(Kept { slots, timers })
 }
 
-/// Returns how to go on where a pass does not tell: the next test, or what the goal hangs on
+/// Returns how to go on where a pass does not tell: the next test, or what the goal may hang on
 /// alone.
 pub fn undecided(
     alloc: Global,
-    verified: &Verified,
-    wires: &Wires,
+    program: &Program<'_>,
     demand: &Demand,
     case: &Case,
     forecast: &Forecast,
@@ -235,10 +232,10 @@ pub fn undecided(
     if let Some(test) = asked {
         return Ok(Verdict::Split(test));
     }
-    let slot = goal_slot(verified, wires.writes.as_slice(), demand.goal, forecast);
-    if let Some(test) = program_split(verified, wires.reads.as_slice(), case, forecast, slot) {
+    let slot = goal_slot(program, demand.goal, forecast);
+    if let Some(test) = program_split(program, case, forecast, slot) {
         return Ok(Verdict::Split(test));
     }
-    let kept = hangs_on(alloc, verified, wires, demand.goal, forecast)?;
+    let kept = hangs_on(alloc, program, demand.goal, forecast)?;
     Ok(Verdict::Open(kept))
 }

@@ -1,15 +1,16 @@
-// Rules that forbid a release until a condition has held for a time.
-ghost use Rattle.std.specs.Prelude.{◌≡◌, ◌++◌, ◌∷◌, [], Some, None, replicate, IfOk, IfSome, IsSome, OnOk};
-ghost use Rattle.bay_audit.specs.Rules.{IsByTimer, IsMet, IsUntil, program};
+// Rules with a time: a switch is not released until a condition has held for a time, or it is
+// after that.
+ghost use Rattle.std.specs.Prelude.{◌≡◌, IfOk, IfSome, IsSome};
+ghost use Rattle.bay_audit.specs.Rules.{IsForbidden, IsMet, IsUntil};
 ghost use Rattle.bay_audit.specs.Rules as spec;
 
 use crate::answer::Answer;
-use crate::audit::answer;
+use crate::audit::{answer, plain_demand};
 use crate::demand::{Demand, Goal};
-use crate::verdict::Wires;
+use crate::early::early_case;
+use crate::program::Program;
 use bay_base::listing::Listing;
 use bay_rules::rule::{ConditionItem, Rule, RuleKind, Timing};
-use il_verify::verify::Verified;
 use std::alloc::{AllocError, Global};
 
 // Returns a copy of a condition.
@@ -80,70 +81,153 @@ fn idle(alloc: Global, condition: &[ConditionItem], timer: usize) -> Result<Dema
     })
 }
 
+// That the switch is released while the condition holds.
+fn after(alloc: Global, rule: &Rule, condition: &[ConditionItem]) -> Result<Demand, AllocError>
+    ensures { IfOk result (λ demand. demand ≡ spec.after rule.now condition.now) }
+{
+    let when = copy_of(alloc, rule.when.as_slice())?;
+    let mut unless = Vec::from_slice(alloc, condition)?;
+    unless.push(ConditionItem::Not)?;
+    Ok(Demand {
+        kind: RuleKind::Always,
+        goal: Goal::Release {
+            switch: rule.switch,
+            operation: rule.operation,
+        },
+        when,
+        unless: Listing::new(unless),
+        limits: Listing::new(Vec::new(alloc)),
+    })
+}
+
 // By how many cases a demand is met, if it is.
 fn met(
     alloc: Global,
-    verified: &Verified,
-    wires: &Wires,
+    program: &Program<'_>,
     demand: &Demand,
-    most: u32,
+    passes: &mut u32,
 ) -> Result<Option<u32>, AllocError>
-    ensures { IfOk result (λ cases. IsSome cases → IsMet (program verified.now
-        wires.now.reads.items wires.now.writes.items) demand.now) }
+    ensures { IfOk result (λ cases. IsSome cases → IsMet program.now demand.now) }
 {
-    match answer(alloc, verified, wires, demand, most)? {
+    match answer(alloc, program, demand, passes)? {
         Answer::Holds { cases } => Ok(Some(cases)),
         _ => Ok(None),
     }
 }
 
-// By how many cases a rule holds by a timer, if it does.
+// By how many cases a timer's delay runs only while a condition holds, and a release waits for it,
+// if that is so.
 fn by_timer(
     alloc: Global,
-    verified: &Verified,
-    wires: &Wires,
+    program: &Program<'_>,
     rule: &Rule,
     timing: &Timing,
     timer: usize,
-    most: u32,
+    passes: &mut u32,
 ) -> Result<Option<u32>, AllocError>
-    ensures { IfOk result (λ cases. IsSome cases → IsByTimer (program verified.now
-        wires.now.reads.items wires.now.writes.items) rule.now timing.now timer) }
+    ensures { IfOk result (λ cases. IsSome cases
+        → IsMet program.now (spec.late rule.now timing.now.time timer)
+        × IsMet program.now (spec.idle timing.now.condition timer)) }
 {
     let demand = late(alloc, rule, timing.time, timer)?;
-    let Some(a) = met(alloc, verified, wires, &demand, most)? else {
+    let Some(late) = met(alloc, program, &demand, passes)? else {
         return Ok(None);
     };
     let demand = idle(alloc, timing.condition.as_slice(), timer)?;
-    let Some(b) = met(alloc, verified, wires, &demand, most)? else {
+    let Some(idle) = met(alloc, program, &demand, passes)? else {
         return Ok(None);
     };
-    let demand = there(alloc, rule, timing.condition.as_slice())?;
-    let Some(c) = met(alloc, verified, wires, &demand, most)? else {
-        return Ok(None);
-    };
-    Ok(Some(a.saturating_add(b).saturating_add(c)))
+    Ok(Some(late.saturating_add(idle)))
 }
 
-/// Answers a rule with a time: it holds if one of the program's timers bears it.
-pub(crate) fn until(
+// The answer by a timer that bears a rule, where the switch is not released without the condition.
+fn borne(
     alloc: Global,
-    verified: &Verified,
-    wires: &Wires,
+    program: &Program<'_>,
     rule: &Rule,
     timing: &Timing,
-    most: u32,
-) -> Result<Answer, AllocError>
-    ensures { IfOk result (IsUntil (program verified.now wires.now.reads.items
-        wires.now.writes.items) rule.now timing.now) }
+    cases: u32,
+    passes: &mut u32,
+) -> Result<Option<Answer>, AllocError>
+    requires { IsMet program.now (spec.there rule.now timing.now.condition) }
+    ensures { IfOk result
+        (λ found. IfSome found (IsForbidden program.now rule.now timing.now)) }
 {
-    if rule.kind == RuleKind::Always {
-        return Ok(Answer::Timed);
-    }
-    for timer in 0..verified.image().timers().len() {
-        if let Some(cases) = by_timer(alloc, verified, wires, rule, timing, timer, most)? {
-            return Ok(Answer::Since { timer, cases });
+    for timer in 0..program.image().timers().len() {
+        if let Some(more) = by_timer(alloc, program, rule, timing, timer, passes)? {
+            return Ok(Some(Answer::Since {
+                timer,
+                cases: cases.saturating_add(more),
+            }));
         }
     }
-    Ok(Answer::Timed)
+    Ok(None)
+}
+
+// The answer by what the switch's release hangs on: it is never released while the rule is asked,
+// or is so too early in a case, or that is not told.
+fn tried(
+    alloc: Global,
+    program: &Program<'_>,
+    rule: &Rule,
+    timing: &Timing,
+    passes: &mut u32,
+) -> Result<Answer, AllocError>
+    ensures { IfOk result (IsForbidden program.now rule.now timing.now) }
+{
+    let demand = plain_demand(alloc, rule)?;
+    let found = answer(alloc, program, &demand, passes)?;
+    if let Answer::Holds { cases } = found {
+        return Ok(Answer::Holds { cases });
+    }
+    if let Some(case) = early_case(alloc, program, rule, timing.time, passes)? {
+        return Ok(Answer::Broken { case });
+    }
+    match found {
+        Answer::Open { case, kept } if *passes > 0 => Ok(Answer::Open { case, kept }),
+        _ => Ok(Answer::TooMany),
+    }
+}
+
+// Answers a rule that forbids until a condition has held for a time: it holds if one of the
+// program's timers bears it.
+fn forbidden(
+    alloc: Global,
+    program: &Program<'_>,
+    rule: &Rule,
+    timing: &Timing,
+    passes: &mut u32,
+) -> Result<Answer, AllocError>
+    ensures { IfOk result (IsForbidden program.now rule.now timing.now) }
+{
+    let demand = there(alloc, rule, timing.condition.as_slice())?;
+    match answer(alloc, program, &demand, passes)? {
+        Answer::Holds { cases } => {
+            if let Some(found) = borne(alloc, program, rule, timing, cases, passes)? {
+                return Ok(found);
+            }
+        }
+        Answer::Broken { case } => return Ok(Answer::Broken { case }),
+        _ => {}
+    }
+    tried(alloc, program, rule, timing, passes)
+}
+
+/// Answers a rule with a time, in so many passes.
+pub(crate) fn until(
+    alloc: Global,
+    program: &Program<'_>,
+    rule: &Rule,
+    timing: &Timing,
+    passes: &mut u32,
+) -> Result<Answer, AllocError>
+    ensures { IfOk result (IsUntil program.now rule.now timing.now) }
+{
+    match rule.kind {
+        RuleKind::Never => forbidden(alloc, program, rule, timing, passes),
+        RuleKind::Always => {
+            let demand = after(alloc, rule, timing.condition.as_slice())?;
+            answer(alloc, program, &demand, passes)
+        }
+    }
 }

@@ -4,13 +4,14 @@ ghost use Rattle.bay_process.specs.Values as spec_values;
 ghost use Rattle.il_scan.specs.Scans.{outputs_of};
 ghost use Rattle.bay_audit.specs.Cases as spec_cases;
 ghost use Rattle.bay_audit.specs.Conditions as spec_outlook;
-ghost use Rattle.bay_audit.specs.Rules.{IsDecision, IsVerdict, goal_range, program};
+ghost use Rattle.bay_audit.specs.Rules.{IsDecision, IsVerdict, goal_range};
 ghost use Rattle.bay_audit.specs.Rules as spec;
 
 use crate::answer::{Decision, Verdict};
 use crate::case::Case;
 use crate::demand::{Demand, Goal};
 use crate::outlook::{Outlook, asked_of};
+use crate::program::Program;
 use crate::split::undecided;
 use bay_config::bay::{Source, SwitchPoint};
 use bay_nodes::switch::Operation;
@@ -18,17 +19,8 @@ use bay_process::bind::output_place;
 use bay_rules::rule::RuleKind;
 use il_image::image::ImagePoint;
 use il_range::range::Range;
-use il_range::scan::{Forecast, scan_timed};
-use il_verify::verify::Verified;
+use il_range::scan::Forecast;
 use std::alloc::{AllocError, Global};
-
-/// What the points of a program stand for: those that it only reads, in the order of its points,
-/// and those that it may write.
-#[derive(Drop)]
-pub struct Wires {
-    pub reads: Vec<Source>,
-    pub writes: Vec<Source>,
-}
 
 // Returns what is known of the points that the program only reads.
 fn given(alloc: Global, case: &Case, reads: &[Source]) -> Result<Vec<Range>, AllocError>
@@ -122,18 +114,18 @@ fn decide(kind: RuleKind, when: Outlook, release: Range) -> Decision
 // Returns the range of a release.
 fn release_range(
     alloc: Global,
-    verified: &Verified,
-    writes: &[Source],
+    program: &Program<'_>,
     switch: usize,
     operation: Operation,
     ranges: &[Range],
 ) -> Result<Range, AllocError>
-    requires { length verified.now.points ≤ length ranges.now }
-    ensures { IfOk result (λ r. r
-        ≡ spec.release_range verified.now.points writes.now ranges.now switch operation) }
+    requires { length program.now.image.points ≤ length ranges.now }
+    ensures { IfOk result (λ r. r ≡ spec.release_range program.now.image.points program.now.writes
+        ranges.now switch operation) }
 {
-    let outputs = outputs_of(alloc, verified.image().points(), ranges)?;
-    Ok(range_at(outputs.as_slice(), release_place(writes, switch, operation)))
+    let outputs = outputs_of(alloc, program.image().points(), ranges)?;
+    let place = release_place(program.writes(), switch, operation);
+    Ok(range_at(outputs.as_slice(), place))
 }
 
 // Returns whether no delay of a timer runs, by the limits of all: TRUE where that is known.
@@ -149,21 +141,19 @@ fn idle_range(limits: &[Option<u32>], timer: usize) -> Range
 // Returns what is known of whether a scan comes to a goal.
 fn range_of_goal(
     alloc: Global,
-    verified: &Verified,
-    writes: &[Source],
+    program: &Program<'_>,
     goal: Goal,
     forecast: &Forecast,
 ) -> Result<Range, AllocError>
-    requires { length verified.now.points ≤ length forecast.now.ranges.items }
-    ensures { IfOk result (λ r. r ≡ goal_range verified.now.points writes.now
+    requires { length program.now.image.points ≤ length forecast.now.ranges.items }
+    ensures { IfOk result (λ r. r ≡ goal_range program.now.image.points program.now.writes
         forecast.now.ranges.items forecast.now.limits.items goal) }
 {
     match goal {
         Goal::Release { switch, operation } => {
             release_range(
                 alloc,
-                verified,
-                writes,
+                program,
                 switch,
                 operation,
                 forecast.ranges.as_slice(),
@@ -177,38 +167,29 @@ fn range_of_goal(
 /// what it foretells.
 pub(crate) fn pass(
     alloc: Global,
-    verified: &Verified,
-    wires: &Wires,
+    program: &Program<'_>,
     demand: &Demand,
     case: &Case,
     asked: Outlook,
 ) -> Result<(Decision, Forecast), AllocError>
     requires { asked ≡ spec_outlook.asked_of case.now demand.now.when demand.now.unless }
-    ensures { IfOk result (λ found. IsDecision (program verified.now wires.now.reads.items
-        wires.now.writes.items) demand.now case.now found.0) }
+    ensures { IfOk result
+        (λ found. IsDecision program.now demand.now case.now found.0) }
 {
-    let given = given(alloc, case, wires.reads.as_slice())?;
-    let forecast = scan_timed(alloc, verified, demand.limits.as_slice(), given.as_slice())?;
-    let range = range_of_goal(
-        alloc,
-        verified,
-        wires.writes.as_slice(),
-        demand.goal,
-        &forecast,
-    )?;
+    let given = given(alloc, case, program.reads())?;
+    let forecast = program.scan(alloc, demand.limits.as_slice(), given.as_slice())?;
+    let range = range_of_goal(alloc, program, demand.goal, &forecast)?;
     Ok((decide(demand.kind, asked, range), forecast))
 }
 
 /// Returns what one pass tells of a demand in a case.
 pub fn verdict(
     alloc: Global,
-    verified: &Verified,
-    wires: &Wires,
+    program: &Program<'_>,
     demand: &Demand,
     case: &Case,
 ) -> Result<Verdict, AllocError>
-    ensures { IfOk result (IsVerdict (program verified.now wires.now.reads.items
-        wires.now.writes.items) demand.now case.now) }
+    ensures { IfOk result (IsVerdict program.now demand.now case.now) }
 {
     let asked = asked_of(
         alloc,
@@ -219,10 +200,10 @@ pub fn verdict(
     if !asked.yes {
         return Ok(Verdict::Obeyed);
     }
-    let (decision, forecast) = pass(alloc, verified, wires, demand, case, asked)?;
+    let (decision, forecast) = pass(alloc, program, demand, case, asked)?;
     match decision {
         Decision::Obeyed => Ok(Verdict::Obeyed),
         Decision::Missed => Ok(Verdict::Broken),
-        Decision::Unknown => undecided(alloc, verified, wires, demand, case, &forecast),
+        Decision::Unknown => undecided(alloc, program, demand, case, &forecast),
     }
 }

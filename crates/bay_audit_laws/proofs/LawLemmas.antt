@@ -27,8 +27,7 @@ use Rattle.bay_tree.specs.declared.leaf.Leaf.TheVariants as leaf
 use Rattle.bay_tree.specs.declared.row.Row.{Row}
 use Rattle.il_image.specs.Images.{Image}
 use Rattle.il_image.specs.declared.value.Value.{Value}
-use Rattle.il_range.specs.Foretold.{IsKept, Leaves}
-use Rattle.il_range.proofs.StartLemmas.{kept-along, kept-at-first}
+use Rattle.il_range.specs.Foretold.{IsReached, First, Next, Leaves}
 use Rattle.il_scan.specs.Scans.{Held, outputs_of}
 use Rattle.bay_device.specs.Commands.{AreCommanded, IsReleasedAt}
 use Rattle.bay_device.specs.Device.{State, after_scan, device_at, inputs_of, is_recent}
@@ -162,14 +161,14 @@ halts-of now s new (Err fault) h = absurd h
 
 -- ---- what is kept along the events
 
--- A device has a bay and a program on it, keeps what machines keep, and has rows for the
+-- A device has a bay and a program on it, is one that scans reach, and has rows for the
 -- interlocking values; where its last scan is not stale they obey the rule.
 pub record Obeying (bay : Bay) (image : Image) (rule : Rule) (s : State) : Type 0 where
   pub switches : s.switches ≡ bay.switches
   pub reads : s.reads ≡ (program_of bay image).reads
   pub writes : s.writes ≡ (program_of bay image).writes
   pub image_is : s.machine.image ≡ image
-  pub kept : IsKept s.machine
+  pub reached : IsReached s.machine
   pub both : AllBoth s.rows (length bay.switches)
   pub meters : s.meters ≡ bay.meters
   pub fits : AllFit (length bay.meters) s.rows
@@ -229,7 +228,7 @@ module _ (bay : Bay) (image : Image) (rule : Rule) (is_bay : IsBay bay)
       reads = q.reads ∙ o.reads;
       writes = q.writes ∙ o.writes;
       image_is = ap (λ (h : Held). h.image) q.machine ∙ o.image_is;
-      kept = subst IsKept (sym q.machine) o.kept;
+      reached = subst IsReached (sym q.machine) o.reached;
       both = both-kept s t (length bay.switches) q.keeps o.both;
       meters = q.meters ∙ o.meters;
       fits = q.fits (length bay.meters) o.fits;
@@ -295,7 +294,7 @@ module _ (bay : Bay) (image : Image) (rule : Rule) (is_bay : IsBay bay)
           ap₂ (is_obeyed rule.kind) (scanned-holds rule.when ∙ sym (and-true _)) scanned-releases
           ∙ holds_so (process_of s) (process-so s o) s.machine now scanned.machine.slots
           scanned.machine.timers
-          o.image_is o.kept tt read
+          o.image_is o.reached tt read
 
       obeying-scanned : Obeying bay image rule scanned
       obeying-scanned = record {
@@ -303,8 +302,8 @@ module _ (bay : Bay) (image : Image) (rule : Rule) (is_bay : IsBay bay)
         reads = o.reads;
         writes = o.writes;
         image_is = o.image_is;
-        kept = kept-along s.machine (inputs_of s) now scanned.machine.slots scanned.machine.timers
-            o.kept leaves;
+        reached = Next s.machine (inputs_of s) now scanned.machine.slots scanned.machine.timers
+            o.reached leaves;
         both = λ k lt. told-both scanned.rows k (told_by s.writes outputs k) (scanned-told k lt);
         meters = o.meters;
         fits = λ k field lt. subst Fits
@@ -446,7 +445,7 @@ module _ (bay : Bay) (image : Image) (rule : Rule) (is_bay : IsBay bay)
       reads = refl;
       writes = refl;
       image_is = refl;
-      kept = kept-at-first image;
+      reached = First image;
       both = λ k lt. first-both bay is_bay k lt;
       meters = refl;
       fits = first-fits bay is_bay;

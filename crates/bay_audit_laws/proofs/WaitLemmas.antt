@@ -157,7 +157,7 @@ module _ (bay : Bay) (image : Image) (rule : Rule) (timing : Timing) (n : ℕ) (
         let none_runs : is_none (began_at n scanned.machine.timers) ≡ true =
         always-so (not held) (is_none (began_at n scanned.machine.timers))
         (bears.idle_so (process_of s) (process-so bay image no_rule is_bay there no-rule-holds s o)
-        s.machine now scanned.machine.slots scanned.machine.timers o.image_is o.kept tt
+        s.machine now scanned.machine.slots scanned.machine.timers o.image_is o.reached tt
         (read bay image no_rule is_bay there no-rule-holds now s o steps halts)) (ap not none) in
         none-some (began_at n scanned.machine.timers) start none_runs is
 
@@ -194,7 +194,7 @@ module _ (bay : Bay) (image : Image) (rule : Rule) (timing : Timing) (n : ℕ) (
             never-so (holds rule.when (process_of s)) (not held) g_releases
             (bears.there_so (process_of s)
             (process-so bay image no_rule is_bay there no-rule-holds s o) s.machine now
-            scanned.machine.slots scanned.machine.timers o.image_is o.kept tt
+            scanned.machine.slots scanned.machine.timers o.image_is o.reached tt
             (read bay image no_rule is_bay there no-rule-holds now s o steps halts)) asked
             (ap not e) in
             cc)
@@ -207,7 +207,7 @@ module _ (bay : Bay) (image : Image) (rule : Rule) (timing : Timing) (n : ℕ) (
         never-so (holds rule.when (process_of s)) true g_releases
         (bears.late_so (process_of s)
         (process-so bay image no_rule is_bay there no-rule-holds s o) s.machine now
-        scanned.machine.slots scanned.machine.timers o.image_is o.kept young
+        scanned.machine.slots scanned.machine.timers o.image_is o.reached young
         (read bay image no_rule is_bay there no-rule-holds now s o steps halts)) asked refl in
         absurd (cc)
 

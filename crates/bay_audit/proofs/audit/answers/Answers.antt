@@ -1,15 +1,14 @@
 use Rattle.std.proofs.Common.{◌≡◌, ◌+◌, ◌++◌, ◌∷◌, [], List, take, sym, ap, ◌∙◌, subst}
 use Rattle.std.proofs.lemmas.List.{take_more}
 use Rattle.bay_rules.specs.declared.rule.Rule.{Rule}
-use Rattle.bay_audit.specs.Rules.{AreRight, program}
+use Rattle.bay_audit.specs.Rules.{AreRight}
 use Rattle.bay_audit.specs.declared.answer.Answer.{Answer}
 use Rattle.bay_audit.proofs.audit.answers.Goals as goal
 use Rattle.bay_audit.proofs.SearchLemmas.{right-more}
 
 pub loop-rule-preserved : goal.loop-rule-preserved
 loop-rule-preserved c =
-    let g = program c.args.verified.now c.args.wires.now.reads.items c.args.wires.now.writes.items
-    in
+    let g = c.args.program.now in
     let i = c.loop-rule.rule-index in
     let rules : take (i + 1) c.args.rules.now ≡ take i c.args.rules.now ++ c.rule-item.result ∷ [] =
     take_more c.args.rules.now i c.rule-item.result c.loop-rule-test.true

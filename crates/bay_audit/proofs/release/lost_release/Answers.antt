@@ -1,13 +1,12 @@
 use Rattle.std.proofs.Common.{length, ap, ap₂, ◌∙◌}
 use Rattle.bay_audit.specs.Cases.{lost_case}
-use Rattle.bay_audit.specs.Rules.{program}
 use Rattle.bay_audit.proofs.ReleaseLemmas.{lost-refused, lost-released}
 use Rattle.bay_audit.proofs.release.lost_release.Goals as goal
 
 pub returns-in-Obeyed : goal.returns-in-Obeyed
 returns-in-Obeyed c =
     lost-released
-    (program c.args.verified.now c.args.wires.now.reads.items c.args.wires.now.writes.items)
+    c.args.program.now
     c.args.switch c.args.operation c.args.bay.now c.in_ok-demand.demand c.in_ok-case.case
     c.in_ok-decision.decision c.in_ok-demand.ensures
     (c.in_ok-case.ensures ∙ ap₂ lost_case (ap length c.as_slice.ensures) (ap length c.as_slice-2.ensures))
@@ -16,7 +15,7 @@ returns-in-Obeyed c =
 pub returns-in-Missed : goal.returns-in-Missed
 returns-in-Missed c =
     lost-refused
-    (program c.args.verified.now c.args.wires.now.reads.items c.args.wires.now.writes.items)
+    c.args.program.now
     c.args.switch c.args.operation c.args.bay.now c.in_ok-demand.demand c.in_ok-case.case
     c.in_ok-decision.decision c.in_ok-demand.ensures
     (c.in_ok-case.ensures ∙ ap₂ lost_case (ap length c.as_slice.ensures) (ap length c.as_slice-2.ensures))

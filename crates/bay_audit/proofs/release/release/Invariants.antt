@@ -1,11 +1,16 @@
 use Rattle.std.proofs.Common.{◌≡◌, ◌+◌}
+use Rattle.std.specs.List.{All}
 use Rattle.bay_rules.specs.Process.{Process}
-use Rattle.bay_audit.specs.Rules.{AreTold, case_count, program, told_count}
+use Rattle.bay_audit.specs.Process.{IsProcess}
+use Rattle.bay_audit.specs.Rules.{AreTold, HasProcess, case_count, told_count}
 use Rattle.bay_audit.proofs.release.release.Given as goal
 
 abbrev pub invariant-loop : goal.invariant-loop
 invariant-loop l = record {
-  told : AreTold (program l.verified l.wires.reads.items l.wires.writes.items) l.switch l.operation
+  told : AreTold l.program l.switch l.operation
       l.cases.items;
-  one : (p : Process) → told_count l.cases.items p + case_count l.left.items p ≡ 1;
+  full : All (λ c. HasProcess c.case) l.cases.items;
+  left : All HasProcess l.left.items;
+  one : (p : Process) → IsProcess p
+      → told_count l.cases.items p + case_count l.left.items p ≡ 1;
 }

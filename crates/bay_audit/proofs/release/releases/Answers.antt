@@ -1,13 +1,12 @@
 use Rattle.std.proofs.Common.{◌≡◌, ◌++◌, ◌∷◌, [], List, map, sym, ap, ◌∙◌, subst}
-use Rattle.bay_audit.specs.Rules.{AreReleases, program, way_of}
+use Rattle.bay_audit.specs.Rules.{AreReleases, way_of}
 use Rattle.bay_audit.specs.declared.answer.Release.{Release}
 use Rattle.bay_audit.proofs.ReleaseLemmas.{releases-more, ways-more}
 use Rattle.bay_audit.proofs.release.releases.Goals as goal
 
 pub loop-switch-preserved : goal.loop-switch-preserved
 loop-switch-preserved c =
-    let g = program c.args.verified.now c.args.wires.now.reads.items c.args.wires.now.writes.items
-    in
+    let g = c.args.program.now in
     let before = c.loop-switch.releases.items in
     let a = c.in_ok-release.field-0 in
     let b = c.in_ok-release-2.field-0 in

@@ -1,7 +1,6 @@
 use Rattle.std.proofs.Common.{sym, ◌∙◌, ap, ap₂}
 use Rattle.std.proofs.lemmas.Bool.{not-true}
 use Rattle.bay_audit.specs.Conditions.{asked_of}
-use Rattle.bay_audit.specs.Rules.{program}
 use Rattle.bay_audit.specs.declared.outlook.Outlook.{Outlook}
 use Rattle.bay_audit.proofs.verdict.verdict.Goals as goal
 use Rattle.bay_audit.proofs.RuleLemmas.{idle-in}
@@ -9,7 +8,7 @@ use Rattle.bay_audit.proofs.RuleLemmas.{idle-in}
 pub returns-then-not-asked : goal.returns-then-not-asked
 returns-then-not-asked c =
     idle-in
-    (program c.args.verified.now c.args.wires.now.reads.items c.args.wires.now.writes.items)
+    c.args.program.now
     c.args.demand.now c.args.case.now
     (ap (λ (o : Outlook). o.yes)
     (sym (c.in_ok-asked.ensures

@@ -1,0 +1,140 @@
+// A program on a bay, and what its scans can reach.
+ghost use Rattle.std.specs.Prelude.{◌≡◌, ◌+◌, IfOk, IfSome, length};
+ghost use Rattle.il_scan.specs.Scans.{held_first};
+ghost use Rattle.bay_audit.specs.Rules.{Foresees, program_of};
+
+use bay_base::listing::Listing;
+use bay_base::text::Text;
+use bay_config::bay::{Bay, Point, Source};
+use bay_process::bind::sources_of;
+use il_image::image::{Image, ImagePoint};
+use il_range::memory::memory_ranges;
+use il_range::range::Range;
+use il_range::scan::{Forecast, scan_ranges};
+use il_scan::machine::Machine;
+use il_verify::fault::VerifyFault;
+use il_verify::verify::{Verified, verify};
+use std::alloc::{AllocError, Global};
+use std::marker::Model;
+
+/// A program on a bay: its image, and what its points stand for that it only reads, and those that
+/// it may write.
+#[derive(Drop)]
+pub struct Program<'a> {
+    points: &'a [Point],
+    verified: &'a Verified,
+    reads: Vec<Source>,
+    writes: Vec<Source>,
+    // The ranges of the slots in all that scans reach from the program's first values.
+    memory: Vec<Range>,
+}
+
+impl<'a> Model for Program<'a> {
+    ghost use Rattle.bay_audit.specs.Rules.{BoundProgram, program};
+    ghost use Rattle.il_range.specs.Foretold.{IsMemory};
+
+    ghost Value = { BoundProgram };
+
+    ghost view = { λ p. program p.verified.now p.reads.items p.writes.items };
+
+    ghost invariant = { λ p. IsMemory p.verified.now p.memory.items };
+}
+
+// Copies the points of an image.
+fn points_of(alloc: Global, points: &[ImagePoint]) -> Result<Listing<ImagePoint>, AllocError>
+    ensures { IfOk result (λ copy. copy ≡ points.now) }
+{
+    let mut copy = Vec::new(alloc);
+    for point in points {
+        copy.push(ImagePoint {
+            name: Text::from_str(alloc, point.name.as_str())?,
+            elementary: point.elementary,
+            writable: point.writable,
+        })?;
+    }
+    Ok(Listing::new(copy))
+}
+
+// Copies an image.
+fn copy_of(alloc: Global, image: &Image) -> Result<Image, AllocError>
+    ensures { IfOk result (λ copy. copy ≡ image.now) }
+{
+    let points = points_of(alloc, image.points())?;
+    let variables = Listing::new(Vec::from_slice(alloc, image.variables())?);
+    let timers = Listing::new(Vec::from_slice(alloc, image.timers())?);
+    let code = Listing::new(Vec::from_slice(alloc, image.code())?);
+    Ok(Image::new(points, variables, timers, code))
+}
+
+impl<'a> Program<'a> {
+    /// Binds a program to a bay.
+    pub fn new(
+        alloc: Global,
+        bay: &'a Bay,
+        verified: &'a Verified,
+    ) -> Result<Program<'a>, AllocError>
+        ensures { IfOk result (λ program. program ≡ program_of bay.now verified.now) }
+    {
+        let points = verified.image().points();
+        Ok(Program {
+            points: bay.points.as_slice(),
+            verified,
+            reads: sources_of(alloc, false, bay.points.as_slice(), points)?,
+            writes: sources_of(alloc, true, bay.points.as_slice(), points)?,
+            memory: memory_ranges(alloc, verified)?,
+        })
+    }
+
+    /// Returns the program's image.
+    pub fn image(&self) -> &Image
+        ensures { result.now ≡ self.now.image }
+    {
+        self.verified.image()
+    }
+
+    /// Returns what the points stand for that the program only reads.
+    pub fn reads(&self) -> &[Source]
+        ensures { result.now ≡ self.now.reads }
+    {
+        self.reads.as_slice()
+    }
+
+    /// Returns what the points stand for that the program may write.
+    pub fn writes(&self) -> &[Source]
+        ensures { result.now ≡ self.now.writes }
+    {
+        self.writes.as_slice()
+    }
+
+    /// Foretells a scan from each state that the program can reach, whose inputs are in these
+    /// ranges, and whose timers' delays have run for less than the limits.
+    pub fn scan(
+        &self,
+        alloc: Global,
+        limits: &[Option<u32>],
+        given: &[Range],
+    ) -> Result<Forecast, AllocError>
+        ensures size { IfOk result
+            (λ f. length f.ranges.items ≡ length self.now.image.points
+            + length self.now.image.variables) }
+        ensures foretells { IfOk result (λ f. Foresees self.now limits.now given.now f.limits.items
+            f.ranges.items) }
+    {
+        let memory = self.memory.as_slice();
+        let found = scan_ranges(alloc, self.verified, memory, limits, given)?;
+        Ok(found)
+    }
+
+    /// Returns a machine with the program before its first scan.
+    pub fn machine(&self, alloc: Global) -> Result<Option<Machine>, AllocError>
+        ensures { IfOk result (λ made. IfSome made (λ m. m ≡ held_first self.now.image)) }
+    {
+        match verify(alloc, copy_of(alloc, self.image())?, self.points) {
+            Ok(verified) => Ok(Some(Machine::new(alloc, verified)?)),
+            Err(refused) => match refused.fault {
+                VerifyFault::OutOfMemory => Err(AllocError),
+                _ => Ok(None),
+            },
+        }
+    }
+}
