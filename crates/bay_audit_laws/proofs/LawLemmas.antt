@@ -381,7 +381,8 @@ module _ (bay : Bay) (image : Image) (rule : Rule) (is_bay : IsBay bay)
     not-while true h = absurd cc
     not-while false h = refl
 
-    allowed : (now : ℕ) (s : State) (command : Command) → Obeying bay image rule s
+    -- a command that is released is one that the rule allows
+    pub allowed : (now : ℕ) (s : State) (command : Command) → Obeying bay image rule s
         → IsReleasedAt now s command → IsAllowed rule s command
     allowed now s command o released never at on =
         let parts =
@@ -394,7 +395,7 @@ module _ (bay : Bay) (image : Image) (rule : Rule) (is_bay : IsBay bay)
         (sym (ap₂ (λ kind r. is_obeyed kind (holds rule.when (process_of s)) r) never way_open)
         ∙ rows)
 
-    commands-obey : (now : ℕ) (event : Event) (s : State) (answer : Result Step StepFault)
+    pub commands-obey : (now : ℕ) (event : Event) (s : State) (answer : Result Step StepFault)
         (new : State) → Obeying bay image rule s → IfOk answer (AreCommanded now s)
         → CommandsObeyAt rule now event s answer new
     commands-obey now event s (Ok step) new o commanded =

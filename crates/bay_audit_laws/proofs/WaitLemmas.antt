@@ -102,7 +102,7 @@ module _ (bay : Bay) (image : Image) (rule : Rule) (timing : Timing) (n : ℕ) (
     (there : rule.switch < length bay.switches)
     (bears : IsByTimer (program_of bay image) rule timing n) where
   -- a rule that is never asked holds
-  abbrev no_rule : Rule
+  abbrev pub no_rule : Rule
   no_rule = record {
     line = 0;
     kind = Never;
@@ -112,15 +112,15 @@ module _ (bay : Bay) (image : Image) (rule : Rule) (timing : Timing) (n : ℕ) (
     timed = None;
   }
 
-  no-rule-holds : IsRule (program_of bay image) no_rule
+  pub no-rule-holds : IsRule (program_of bay image) no_rule
   no-rule-holds p is machine now slots timers same kept young leaves = refl
 
-  abbrev Stands : State → Type 0
+  abbrev pub Stands : State → Type 0
   Stands s = Obeying bay image no_rule s
 
   -- A delay that runs began at a scan since which the condition has held; where the last scan is
   -- not stale and releases the switch, the condition has held for the time.
-  record Waiting (scans : List (ℕ × Bool)) (s : State) : Type 0 where
+  pub record Waiting (scans : List (ℕ × Bool)) (s : State) : Type 0 where
     runs : (start : ℕ) → began_at n s.machine.timers ≡ Some start → RunsFrom start scans
     waits : (m : ℕ) → s.last_scan ≡ Some m → s.is_stale ≡ false
         → holds rule.when (process_of s) ≡ true
@@ -253,9 +253,9 @@ module _ (bay : Bay) (image : Image) (rule : Rule) (timing : Timing) (n : ℕ) (
   -- ---- a step
 
   -- what an event leaves
-  record Led (scans : List (ℕ × Bool)) (now : ℕ) (event : Event) (s : State)
+  pub record Led (scans : List (ℕ × Bool)) (now : ℕ) (event : Event) (s : State)
       (answer : Result Step StepFault) (new : State) : Type 0 where
-    goes_on : Waiting (scans_after timing.condition now event s answer scans) new
+    pub goes_on : Waiting (scans_after timing.condition now event s answer scans) new
     scan_waits : ScanWaitsAt rule timing scans now event s answer new
 
   -- the scans stay where none is done
@@ -322,7 +322,7 @@ module _ (bay : Bay) (image : Image) (rule : Rule) (timing : Timing) (n : ℕ) (
             released;
       })
 
-  led-step-wait : (scans : List (ℕ × Bool)) (now : ℕ) (event : Event) (s : State)
+  pub led-step-wait : (scans : List (ℕ × Bool)) (now : ℕ) (event : Event) (s : State)
       (answer : Result Step StepFault) (new : State) → Stands s → Waiting scans s
       → Turned now event s answer new → Led scans now event s answer new
   led-step-wait scans now event s answer new o w t = elim t [
@@ -341,7 +341,7 @@ module _ (bay : Bay) (image : Image) (rule : Rule) (timing : Timing) (n : ℕ) (
   some-and P (Some x) m is h = subst P (let same : m ≡ x = cc in same) h
   some-and P None m is h = absurd cc
 
-  has-waited : (scans : List (ℕ × Bool)) (now : ℕ) (s : State) (command : Command)
+  pub has-waited : (scans : List (ℕ × Bool)) (now : ℕ) (s : State) (command : Command)
       → Waiting scans s → IsReleasedAt now s command → HasWaited rule timing scans s command
   has-waited scans now s command w released at on asked =
       let parts =
@@ -353,7 +353,7 @@ module _ (bay : Bay) (image : Image) (rule : Rule) (timing : Timing) (n : ℕ) (
       (not-true bay image no_rule is_bay there no-rule-holds s.is_stale parts.1) asked
       (ap₂ (is_released s) (sym at) (sym on) ∙ released.enabled))
 
-  commands-wait : (scans : List (ℕ × Bool)) (now : ℕ) (event : Event) (s : State)
+  pub commands-wait : (scans : List (ℕ × Bool)) (now : ℕ) (event : Event) (s : State)
       (answer : Result Step StepFault) (new : State) → Waiting scans s
       → IfOk answer (AreCommanded now s) → CommandsWaitAt rule timing scans now event s answer new
   commands-wait scans now event s (Ok step) new w commanded =
@@ -403,13 +403,13 @@ module _ (bay : Bay) (image : Image) (rule : Rule) (timing : Timing) (n : ℕ) (
 
   -- ---- load
 
-  waiting-first : Waiting [] (initial_device bay image)
+  pub waiting-first : Waiting [] (initial_device bay image)
   waiting-first = record {
     runs = λ start is. absurd (first-began image.timers n start is);
     waits = λ m last fresh asked released. absurd cc;
   }
 
-  stands-first : Stands (initial_device bay image)
+  pub stands-first : Stands (initial_device bay image)
   stands-first = obeying-first bay image no_rule is_bay there no-rule-holds
 
 pub scans-wait : ScansWait

@@ -1,0 +1,10 @@
+pub mod AuditLemmas
+pub mod ObeyLemmas
+pub mod OptionLemmas
+pub mod ReplayLemmas
+pub mod RestLemmas
+pub mod RuleLemmas
+pub mod ServeLemmas
+pub mod SoundLemmas
+pub mod TypeLemmas
+pub mod WaitLemmas

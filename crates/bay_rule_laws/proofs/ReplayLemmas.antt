@@ -1,0 +1,150 @@
+-- The events of a replay are of their types, and its commands obey what an audit answers.
+use Rattle.std.proofs.Common.{◌≡◌, ◌++◌, ℕ, All, List, [], ◌∷◌, slice_get, Option, Some, Result, Ok, IfOk, refl, ap, sym, subst, ◌∙◌}
+use Rattle.std.specs.List.{Contains}
+use Rattle.std.specs.Prelude.{IfSome}
+use Rattle.std.proofs.lemmas.List.Elements.{All-contains}
+use Rattle.bay_audit.specs.Rules.{program_of}
+use Rattle.bay_audit_laws.specs.Laws.{CommandsObeyAt, IsAllowed, IsOfType}
+use Rattle.bay_device.specs.Device.{State}
+use Rattle.bay_device.specs.Fresh.{Past}
+use Rattle.bay_device.specs.declared.event.Event.{Event}
+use Rattle.bay_device.specs.declared.event.Step.{Step}
+use Rattle.bay_device.specs.declared.fault.StepFault.{StepFault}
+use Rattle.bay_replay.specs.History.{EachPast, device_after}
+use Rattle.bay_replay.specs.Runs.{AreOfLines, IsRun}
+use Rattle.bay_replay.specs.Scenario.{ScenarioParts}
+use Rattle.bay_report.specs.Report.{report_text}
+use Rattle.bay_report.specs.declared.load.Form.TheVariants.{Logic}
+use Rattle.bay_report_laws.specs.Printed.{PrintedCommand, lines_in, printed_command}
+use Rattle.bay_report_laws.specs.Released.{IsPrintedFor}
+use Rattle.bay_report_laws.proofs.OrderLemmas.{load, load-no-command, of-command, order-read, order-switches, other-no-command, printed-for, stands}
+use Rattle.bay_report_laws.proofs.PrintLemmas.{load-is}
+use Rattle.bay_report_laws.proofs.ScanLemmas.{past-in}
+use Rattle.bay_report_laws.proofs.WithinLemmas.{known-run}
+use Rattle.bay_rules.specs.declared.rule.Rule.{Rule}
+use Rattle.bay_rules.specs.declared.rule.RuleKind.TheVariants.{Never}
+use Rattle.bay_rules.specs.declared.rule.Timing.{Timing}
+use Rattle.bay_services.specs.declared.answer.Command.{Command}
+use Rattle.bay_trace.specs.Trace.{LineData, at_moment}
+use Rattle.bay_rule_laws.specs.Audited.{ByTimer, IsAudited, Plainly}
+use Rattle.bay_rule_laws.specs.Replayed.{IsIssued, LinesAre, ReplayedCommandsObey}
+use Rattle.bay_rule_laws.specs.Waits.{PastWaits}
+use Rattle.bay_rule_laws.proofs.AuditLemmas.{audited, right-rule, right-timer, text-begins}
+use Rattle.bay_rule_laws.proofs.ObeyLemmas.{Good, good-first, past-obeys}
+use Rattle.bay_rule_laws.proofs.TypeLemmas.{LineFits, line-fits, placed-fits}
+use Rattle.bay_rule_laws.proofs.WaitLemmas.{Ready, past-waits, ready-first}
+
+lines-typed : (first : State) (past : List Past) (lines : List (List ℕ))
+    → AreOfLines first past lines
+    → EachPast (λ now event old answer new. IsOfType event) first past
+lines-typed first [] lines are = tt
+lines-typed first (p ∷ past) lines are =
+    let last = are.1 in
+    let fits : LineFits (at_moment p.now last.named) =
+    subst (λ (o : Option LineData). IfSome o LineFits) last.reads (line-fits last.line) in (
+      subst IsOfType (sym last.event) (placed-fits (device_after first past) last.named fits),
+      lines-typed first past are.0 are.2,
+    )
+
+-- ---- lines
+
+-- the command of an event is one of which this is so
+issued-so : (rule : Rule) (now : ℕ) (event : Event) (old new : State)
+    (answer : Result Step StepFault) (step : Step) (command : Command) → answer ≡ Ok step
+    → Contains step.commands command → CommandsObeyAt rule now event old answer new
+    → IsAllowed rule old command
+issued-so rule now event old new answer step command is has obeys =
+    All-contains (IsAllowed rule old) step.commands command
+    (subst (λ (r : Result Step StepFault). IfOk r (λ step. All (IsAllowed rule old) step.commands))
+    is obeys) has
+
+module _ (parts : ScenarioParts) (first : State) (text : List ℕ) (status : ℕ)
+    (run : IsRun parts first text status) where
+  run-issued : (before after : List (List ℕ)) (line : List ℕ) (printed : PrintedCommand)
+      → lines_in text ≡ before ++ line ∷ after → printed_command line ≡ Some printed
+      → IsIssued (report_text run.printed.report) first run.past before line printed
+  run-issued before after line printed e reads =
+      let o =
+      stands printed_command other-no-command load-no-command parts first text status run before
+      after line printed e reads in
+      let at = o.at in
+      let l =
+      of-command at.order.now at.order.answer at.order.after line printed reads at.is in
+      let ids = (known-run parts first text status run).ids in
+      let begin = report_text run.printed.report in
+      let line_of_load = load parts first text status run in
+      subst (λ ls. IsIssued begin first run.past ls line printed) (sym o.begins)
+      (subst (IsIssued begin first run.past (line_of_load ∷ o.behind) line)
+      (order-read first run.past run.steps ids o.behind line at l printed reads)
+      (record {
+        later = at.later;
+        order = at.order;
+        earlier = at.earlier;
+        split = at.split;
+        ordered = subst (λ ls. IsPrintedFor begin at.order at.earlier (line_of_load ∷ ls) line)
+            (sym at.behind)
+            (printed-for begin line_of_load (load-is run.printed.report) at.order at.earlier
+            at.groups at.part at.rest line at.are at.own);
+        moment = refl;
+        step = l.step;
+        answered = l.done;
+        command = l.command;
+        issued = l.has;
+        switch = l.switch;
+        here = ap (λ ss. slice_get ss l.command.switch)
+            (sym (order-switches first run.past run.steps ids o.behind line at l)) ∙ l.here;
+        named = refl;
+        operation = refl;
+      }))
+
+  lines-obey : (rule : Rule) → EachPast (CommandsObeyAt rule) first run.past
+      → LinesAre (IsAllowed rule) (report_text run.printed.report) first run.past text
+  lines-obey rule each before after line printed e reads =
+      let i = run-issued before after line printed e reads in
+      let here = (past-in (CommandsObeyAt rule) first i.later i.order i.earlier run.past i.split
+      each).0 in (
+        i,
+        issued-so rule i.order.now i.order.event (device_after first i.earlier) i.order.after
+            i.order.answer i.step i.command i.answered i.issued here,
+      )
+
+  -- ---- runs
+
+  run-obeys : (rule : Rule) → rule.kind ≡ Never
+      → IsAudited Plainly parts.bay Logic parts.logic rule
+      → EachPast (CommandsObeyAt rule) first run.past
+  run-obeys rule never is =
+      let own = audited Plainly parts.bay Logic parts.logic rule is in
+      let b = text-begins parts.bay parts.logic first run.loaded run.runs own.own own.image
+      own.read own.made in
+      let rule_so = right-rule (program_of own.own own.image) rule own.answer never own.so
+      own.right in
+      (past-obeys own.own own.image rule b.sound own.there rule_so first run.past run.steps
+      (lines-typed first run.past run.printed.lines run.printed.events)
+      (subst (Good own.own own.image rule b.sound own.there rule_so) (sym b.is)
+      (good-first own.own own.image rule b.sound own.there rule_so b.steady))).0
+
+  run-waits : (rule : Rule) (timing : Timing) → rule.kind ≡ Never → rule.timed ≡ Some timing
+      → IsAudited ByTimer parts.bay Logic parts.logic rule
+      → PastWaits rule timing first run.past
+  run-waits rule timing never timed is =
+      let own = audited ByTimer parts.bay Logic parts.logic rule is in
+      let b = text-begins parts.bay parts.logic first run.loaded run.runs own.own own.image
+      own.read own.made in
+      let borne = right-timer (program_of own.own own.image) rule timing own.answer never timed
+      own.so own.right in
+      (past-waits own.own own.image rule timing borne.timer b.sound own.there borne.bears first
+      run.past run.steps (lines-typed first run.past run.printed.lines run.printed.events)
+      (subst (Ready own.own own.image rule timing borne.timer b.sound own.there borne.bears [])
+      (sym b.is)
+      (ready-first own.own own.image rule timing borne.timer b.sound own.there borne.bears
+      b.steady))).0
+
+pub replayed-obey : ReplayedCommandsObey
+replayed-obey parts first text status run = record {
+  obey = run-obeys parts first text status run;
+  lines = λ rule never is.
+      lines-obey parts first text status run rule
+      (run-obeys parts first text status run rule never is);
+  wait = run-waits parts first text status run;
+}

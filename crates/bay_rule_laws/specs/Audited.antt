@@ -1,0 +1,69 @@
+-- How an audit of files answers a rule.
+use Rattle.std.specs.Prelude.{ℕ, ◌≡◌, ◌⊎◌, List, slice_get, Option, Some, Result, Ok, Err}
+use mathlib.Core.Logic.{inl, inr}
+use Rattle.bay_audit.specs.declared.answer.Answer.{Answer}
+use Rattle.bay_audit.specs.declared.answer.Answer.TheVariants.{Holds, Since}
+use Rattle.bay_auditing.specs.Auditing.{AuditReport, SaysFor, SaysOf}
+use Rattle.bay_auditing.specs.Names.{Known, declared_in, known_of}
+use Rattle.bay_config.specs.declared.bay.Bay.{Bay}
+use Rattle.bay_config.specs.declared.fault.BayFault.{BayFault}
+use Rattle.bay_report.specs.declared.load.Form.{Form}
+use Rattle.bay_rules.specs.declared.fault.RuleFault.{RuleFault}
+use Rattle.bay_rules.specs.declared.rule.Rule.{Rule}
+use Rattle.il_image.specs.Images.{Image}
+use Rattle.il_text.specs.Listing.{Declared}
+
+-- an answer that tells that a rule holds, and one that tells that a timer bears it
+abbrev pub Plainly : Answer → Type 0
+Plainly (Holds cases) = Unit {0}
+Plainly other = ⊥
+
+abbrev pub ByTimer : Answer → Type 0
+ByTimer (Since timer cases) = Unit {0}
+ByTimer other = ⊥
+
+-- The rule is one of these, and is answered so.
+pub record IsAnswered (So : Answer → Type 0) (rules : List Rule) (answers : List Answer)
+    (rule : Rule) : Type 0 where
+  pub place : ℕ
+  pub here : slice_get rules place ≡ Some rule
+  pub answer : Answer
+  pub told : slice_get answers place ≡ Some answer
+  pub so : So answer
+
+-- So it is in what is said of the rules that were read, if they were.
+abbrev pub SaysOfRule : (So : Answer → Type 0) (bay : Bay) (names : Known) (image : Image)
+    (meant : Result (List Rule) RuleFault) (log : Option (List ℕ)) (text : List ℕ) (status : ℕ)
+    → SaysOf bay names image meant log text status → Rule → Type 0
+SaysOfRule So bay names image (Ok rules) log text status says rule =
+    IsAnswered So rules says.1.answers rule
+SaysOfRule So bay names image (Err fault) log text status says rule = ⊥
+
+-- and in what is said behind the line of a load, unless there was no memory for it
+abbrev pub SaysBehind : (So : Answer → Type 0) (Memory : Type 0) (file : Result Bay BayFault)
+    (declared : List Declared) (rules : List ℕ) (image : Image) (log : Option (List ℕ))
+    (text : List ℕ) (status : ℕ) → SaysFor file declared rules image log text status ⊎ Memory
+    → Rule → Type 0
+SaysBehind So Memory file declared rules image log text status (inl says) rule =
+    SaysOfRule So says.bay (known_of image.points declared) image says.meant log text status
+    says.says rule
+SaysBehind So Memory file declared rules image log text status (inr memory) rule = ⊥
+
+-- An audit of files answers the rule so.
+abbrev pub AuditSays : (So : Answer → Type 0) (bay : List ℕ) (form : Form)
+    (program rules : List ℕ) (log : Option (List ℕ)) (text : List ℕ) (status : ℕ)
+    → AuditReport bay form program rules log text status → Rule → Type 0
+AuditSays So bay form program rules log text status (inl loaded) rule =
+    SaysBehind So _ _ (declared_in form program) rules loaded.device.machine.image log loaded.tells.rest status
+    loaded.tells.says rule
+AuditSays So bay form program rules log text status (inr refused) rule = ⊥
+
+-- An audit of these octets answers the rule so.
+pub record IsAudited (So : Answer → Type 0) (bay : List ℕ) (form : Form) (program : List ℕ)
+    (rule : Rule) : Type 0 where
+  pub rules : List ℕ
+  pub log : Option (List ℕ)
+  pub text : List ℕ
+  pub status : ℕ
+  pub audit : AuditReport bay form program rules log text status
+  pub says : AuditSays So bay form program rules log text status audit rule

@@ -1,0 +1,9 @@
+-- What an audited rule says of the commands of a service and of a replay.
+--
+-- `Served` is the main file: the turns of each service obey what an audit of the same octets
+-- answers; `Replayed`: so do the events of each replay. `Audited`: how an audit answers a rule;
+-- `Waits`: what a rule with a time says.
+pub mod Audited
+pub mod Replayed
+pub mod Served
+pub mod Waits

@@ -1,0 +1,74 @@
+-- What an audited rule says of the commands of a replay.
+use Rattle.std.specs.Prelude.{ℕ, ◌≡◌, List, ◌∷◌, ◌++◌, slice_get, Some, Ok}
+use Rattle.std.specs.List.{Contains}
+use Rattle.bay_audit_laws.specs.Laws.{CommandsObeyAt, IsAllowed}
+use Rattle.bay_device.specs.Device.{State}
+use Rattle.bay_device.specs.Fresh.{Past}
+use Rattle.bay_device.specs.declared.event.Step.{Step}
+use Rattle.bay_nodes.specs.declared.switch.Switch.{Switch}
+use Rattle.bay_replay.specs.History.{EachPast, device_after}
+use Rattle.bay_replay.specs.Runs.{IsRun}
+use Rattle.bay_replay.specs.Scenario.{ScenarioParts}
+use Rattle.bay_report.specs.Report.{report_text}
+use Rattle.bay_report.specs.declared.load.Form.TheVariants.{Logic}
+use Rattle.bay_report_laws.specs.Printed.{PrintedCommand, lines_in, printed_command}
+use Rattle.bay_report_laws.specs.Released.{IsPrintedFor}
+use Rattle.bay_rules.specs.declared.rule.Rule.{Rule}
+use Rattle.bay_rules.specs.declared.rule.RuleKind.TheVariants.{Never}
+use Rattle.bay_rules.specs.declared.rule.Timing.{Timing}
+use Rattle.bay_services.specs.declared.answer.Command.{Command}
+use Rattle.bay_rule_laws.specs.Audited.{ByTimer, IsAudited, Plainly}
+use Rattle.bay_rule_laws.specs.Waits.{PastWaits}
+
+-- ---- lines
+
+-- A command's line is of what is printed for an event of this history, and tells one of the
+-- commands that the event issued: to the switch with this id.
+pub record IsIssued (begin : List ℕ) (first : State) (past : List Past)
+    (before : List (List ℕ)) (line : List ℕ) (printed : PrintedCommand) : Type 0 where
+  pub later : List Past
+  pub order : Past
+  pub earlier : List Past
+  pub split : past ≡ later ++ order ∷ earlier
+  pub ordered : IsPrintedFor begin order earlier before line
+  pub moment : printed.moment ≡ order.now
+  pub step : Step
+  pub answered : order.answer ≡ Ok step
+  pub command : Command
+  pub issued : Contains step.commands command
+  pub switch : Switch
+  pub here : slice_get first.switches command.switch ≡ Some switch
+  pub named : switch.id ≡ printed.id
+  pub operation : command.operation ≡ printed.operation
+
+-- Each command's line of a text is of such a command, of which this is so on the device before the
+-- event.
+abbrev pub LinesAre : (State → Command → Type 0) → List ℕ → State → List Past → List ℕ → Type 0
+LinesAre Is begin first past text =
+    (before after : List (List ℕ)) (line : List ℕ) (printed : PrintedCommand)
+    → lines_in text ≡ before ++ line ∷ after → printed_command line ≡ Some printed
+    → (i : IsIssued begin first past before line printed)
+    × Is (device_after first i.earlier) i.command
+
+-- ---- runs
+
+-- The events of a run obey each rule that forbids, if an audit of the same octets answers so that it
+-- holds: a command that the rule forbids while its condition holds is issued by an event before
+-- which it did not hold of what the process had last reported. So it is of each command's line of
+-- the text. They wait for each rule with a time, if it answers that a timer bears it.
+pub record RunObeys (parts : ScenarioParts) (first : State) (text : List ℕ) (status : ℕ)
+    (run : IsRun parts first text status) : Type 0 where
+  pub obey : (rule : Rule) → rule.kind ≡ Never
+      → IsAudited Plainly parts.bay Logic parts.logic rule
+      → EachPast (CommandsObeyAt rule) first run.past
+  pub lines : (rule : Rule) → rule.kind ≡ Never
+      → IsAudited Plainly parts.bay Logic parts.logic rule
+      → LinesAre (IsAllowed rule) (report_text run.printed.report) first run.past text
+  pub wait : (rule : Rule) (timing : Timing) → rule.kind ≡ Never → rule.timed ≡ Some timing
+      → IsAudited ByTimer parts.bay Logic parts.logic rule → PastWaits rule timing first run.past
+
+-- So do those of each run of a scenario's device.
+abbrev pub ReplayedCommandsObey : Type 0
+ReplayedCommandsObey =
+    (parts : ScenarioParts) (first : State) (text : List ℕ) (status : ℕ)
+    (run : IsRun parts first text status) → RunObeys parts first text status run

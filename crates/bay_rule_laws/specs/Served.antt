@@ -1,0 +1,120 @@
+-- What an audited rule says of the commands of a service.
+use Rattle.std.specs.Prelude.{ℕ, ◌≡◌, List, [], ◌∷◌, Option, Some, Result, Ok, Err, MatchResult}
+use Rattle.bay_audit_laws.specs.Laws.{IsAllowed}
+use Rattle.bay_device.specs.Device.{State}
+use Rattle.bay_device.specs.Fresh.{Past}
+use Rattle.bay_files.specs.Files.{FileGuards, FileReads, FilesData}
+use Rattle.bay_io.specs.Calls.{WriteCall}
+use Rattle.bay_io.specs.Watched.{Writing}
+use Rattle.bay_io.specs.declared.outbox.WriteFault.{WriteFault}
+use Rattle.bay_report.specs.LogLines.{PrintsLogs}
+use Rattle.bay_report.specs.declared.load.Form.{Form}
+use Rattle.bay_report.specs.declared.load.Form.TheVariants.{Logic, Image}
+use Rattle.bay_rules.specs.declared.rule.Rule.{Rule}
+use Rattle.bay_rules.specs.declared.rule.RuleKind.TheVariants.{Never}
+use Rattle.bay_rules.specs.declared.rule.Timing.{Timing}
+use Rattle.bay_services.specs.declared.answer.Command.{Command}
+use Rattle.bay_serve.specs.Calls.{Call}
+use Rattle.bay_serve.specs.Turns.{Held}
+use Rattle.bay_serve_laws.specs.Events.{done_at, turn_events}
+use Rattle.bay_serving.specs.Host.{HostCall}
+use Rattle.bay_serving_files.specs.Live.{InLater}
+use Rattle.bay_serving_files.specs.Orders.{IsOrdered}
+use Rattle.bay_serving_files.specs.Serve.{FileNames, LoadsFiles, ServesBound, ServesFiles, ServesLoaded, ServesPorts, UnservedReport}
+use Rattle.bay_serving_files.specs.Service.{DoneTurn, held_behind, past_behind}
+use Rattle.bay_serving_files.specs.declared.serve.Bound.{Bound}
+use Rattle.bay_serving_files.specs.declared.serve.Loaded.{Loaded}
+use Rattle.bay_serving_files.specs.declared.serve.Numbers.{Numbers}
+use Rattle.bay_serving_files.specs.declared.serve.Unserved.{Unserved}
+use Rattle.il_image.specs.Octets.{AreOctets}
+use Rattle.bay_rule_laws.specs.Audited.{ByTimer, IsAudited, Plainly}
+use Rattle.bay_rule_laws.specs.Waits.{OrdersWait}
+
+-- ---- turns
+
+-- Whatever stands behind a command of one of the turns, at the device right before the client's
+-- octets: where the rule forbids the command while its condition holds, the condition does not
+-- hold of what the process had last reported.
+abbrev pub OrdersObey : Rule → State → Held → List Past → List DoneTurn → Type 0
+OrdersObey rule first h past [] = Unit {0}
+OrdersObey rule first h past (t ∷ ts) =
+    ((command : Command) (o : IsOrdered first h t past command)
+    → IsAllowed rule (done_at t.now o.heard.front h.device).after command)
+    × OrdersObey rule first (held_behind t h)
+    (past_behind t.now (turn_events t.now t.given t.script h) h.device past) ts
+
+-- what is asked of an image, whoever wrote it: that it is a list of octets
+abbrev pub IsFile : Form → List ℕ → Type 0
+IsFile Logic program = Unit {0}
+IsFile Image program = AreOctets program
+
+-- Turns of a server, from its first on, obey each rule that forbids, if an audit of the same octets
+-- answers so that it holds, and wait for each with a time, if it answers that a timer bears it.
+pub record ObeyAudits (form : Form) (both : FilesData) (begun : Held) (turns : List DoneTurn)
+    : Type 0 where
+  pub obey : (rule : Rule) → rule.kind ≡ Never → IsAudited Plainly both.bay form both.program rule
+      → OrdersObey rule begun.device begun [] turns
+  pub wait : (rule : Rule) (timing : Timing) → rule.kind ≡ Never → rule.timed ≡ Some timing
+      → IsAudited ByTimer both.bay form both.program rule
+      → OrdersWait rule timing begun.device begun [] [] turns
+
+-- So it is of a program's text, and of the octets of an image.
+abbrev pub ObeyAuditsOf : Form → FilesData → Held → List DoneTurn → Type 0
+ObeyAuditsOf form both begun turns = IsFile form both.program → ObeyAudits form both begun turns
+
+-- ---- the turns of a service
+
+module _ {L H W : Type 0} (step : L → Call → L → Type 0) (acts : H → HostCall L → H → Type 0)
+    (contents : W → Option (List ℕ)) (asks : W → WriteCall → W → Type 0) where
+  -- what is so of the turns that were served, if the ports could be bound
+  abbrev pub OfBound : (Is : Held → List DoneTurn → Type 0) (numbers : Numbers) (trace : List ℕ)
+      (host after : H) (old new : Writing W) (answer : Result ℕ WriteFault)
+      (bound : Result (Bound L) Unserved) → MatchResult bound
+      (λ ports. ServesBound step acts contents asks numbers ports trace host after old new answer)
+      (λ why. PrintsLogs contents asks (UnservedReport why) old new answer × (after ≡ host))
+      → Type 0
+  OfBound Is numbers trace host after old new answer (Ok ports) goes =
+      Is ports.server goes.5.done
+  OfBound Is numbers trace host after old new answer (Err why) goes = Unit {0}
+
+  abbrev pub OfPorts : (Is : Held → List DoneTurn → Type 0) (numbers : Numbers) (loaded : Loaded)
+      (before after : H) (old new : Writing W) (answer : Result ℕ WriteFault)
+      → ServesPorts step acts contents asks numbers loaded before after old new answer → Type 0
+  OfPorts Is numbers loaded before after old new answer ports =
+      OfBound Is numbers loaded.trace.items ports.host after old new answer ports.bound
+      ports.goes_on
+
+  -- if the line of the load could be written
+  abbrev pub OfLoaded : (Is : Held → List DoneTurn → Type 0) (numbers : Numbers) (loaded : Loaded)
+      (before after : H) (old new : Writing W) (answer : Result ℕ WriteFault)
+      → ServesLoaded step acts contents asks numbers loaded before after old new answer → Type 0
+  OfLoaded Is numbers loaded before after old new answer serves =
+      InLater _ _ serves.told serves.goes_on
+      (OfPorts Is numbers loaded before after serves.middle new answer)
+
+-- ---- the turns of the files
+
+module _ {F L H W : Type 0} (step : L → Call → L → Type 0) (acts : H → HostCall L → H → Type 0)
+    (contents : W → Option (List ℕ)) (asks : W → WriteCall → W → Type 0) (reads : FileReads F)
+    (guards : FileGuards F) where
+  -- if the files could be read and loaded: with the octets of the bay file and of the program
+  abbrev pub OfFiles : (Is : FilesData → Held → List DoneTurn → Type 0) (files : F)
+      (named : FileNames) (numbers : Numbers) (before after : H) (old new : Writing W)
+      (answer : Result ℕ WriteFault) (loaded : Result Loaded Unserved)
+      → LoadsFiles reads guards files named loaded → MatchResult loaded
+      (λ all. ServesLoaded step acts contents asks numbers all before after old new answer)
+      (λ why. PrintsLogs contents asks (UnservedReport why) old new answer × (after ≡ before))
+      → Type 0
+  OfFiles Is files named numbers before after old new answer (Ok loaded) loads goes =
+      OfLoaded step acts contents asks (Is loads.0) numbers loaded before after old new answer goes
+  OfFiles Is files named numbers before after old new answer (Err why) loads goes = Unit {0}
+
+  -- The turns of each service obey what each audit of the same octets answers.
+  abbrev pub ServedCommandsObey : Type 0
+  ServedCommandsObey =
+      (files : F) (named : FileNames) (numbers : Numbers) (before after : H) (old new : Writing W)
+      (answer : Result ℕ WriteFault)
+      (serves : ServesFiles step acts contents asks reads guards files named numbers before after
+      old new answer)
+      → OfFiles (ObeyAuditsOf named.form) files named numbers before after old new answer
+      serves.loaded serves.loads serves.goes_on
