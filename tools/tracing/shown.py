@@ -50,7 +50,8 @@ CASES = {
     'il_scan': ('layer_cases programs',),
     'il_text': ('layer_cases texts',),
     'il_verify': ('layer_cases programs',)}
-NO_CASES = {'bay_audit_laws': 'no program of cases calls it'}
+NO_CASES = {'bay_audit_laws': 'no program of cases calls it',
+            'bay_rule_laws': 'no program of cases calls it'}
 
 
 @dataclasses.dataclass(frozen=True)
