@@ -147,8 +147,10 @@ module _ (So : Answer → Type 0) (bay : List ℕ) (f : Form) (program : List �
   of-audit rules log text status (inl loaded) h =
       of-device loaded.device loaded.loaded _ (declared_in f program) rules log loaded.tells.rest status loaded.tells.says h
 
-  pub audited : IsAudited So bay f program rule → OfOctets So bay f program rule
-  audited is = of-audit is.rules is.log is.text is.status is.audit is.says
+  -- What is answered of a rule is right.
+  pub audited : (rules : List ℕ) → IsAudited So bay f program rules rule
+      → OfOctets So bay f program rule
+  audited rules is = of-audit rules is.log is.text is.status is.audit is.says
 
 -- ---- a device that octets load to
 
@@ -205,6 +207,7 @@ image-begins bay program device loads own image read made octets =
           inr (image-sound program own image (file-sound bay own read) octets made verified.0);
     }
 
+-- so it is of octets of either form
 pub begins : (bay : List ℕ) (f : Form) (program : List ℕ) (device : State)
     → LoadsTo bay f program (Ok device) → IsFile f program → (own : Bay) (image : Image)
     → file_of bay ≡ Ok own → IsImageOf f program own image → Begins own image device

@@ -1,4 +1,5 @@
 pub mod AuditLemmas
+pub mod HoldLemmas
 pub mod ObeyLemmas
 pub mod OptionLemmas
 pub mod ReplayLemmas

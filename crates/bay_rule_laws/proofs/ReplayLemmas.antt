@@ -110,11 +110,11 @@ module _ (parts : ScenarioParts) (first : State) (text : List ℕ) (status : ℕ
 
   -- ---- runs
 
-  run-obeys : (rule : Rule) → rule.kind ≡ Never
-      → IsAudited Plainly parts.bay Logic parts.logic rule
+  run-obeys : (rules : List ℕ) (rule : Rule) → rule.kind ≡ Never
+      → IsAudited Plainly parts.bay Logic parts.logic rules rule
       → EachPast (CommandsObeyAt rule) first run.past
-  run-obeys rule never is =
-      let own = audited Plainly parts.bay Logic parts.logic rule is in
+  run-obeys rules rule never is =
+      let own = audited Plainly parts.bay Logic parts.logic rule rules is in
       let b = text-begins parts.bay parts.logic first run.loaded run.runs own.own own.image
       own.read own.made in
       let rule_so = right-rule (program_of own.own own.image) rule own.answer never own.so
@@ -124,11 +124,11 @@ module _ (parts : ScenarioParts) (first : State) (text : List ℕ) (status : ℕ
       (subst (Good own.own own.image rule b.sound own.there rule_so) (sym b.is)
       (good-first own.own own.image rule b.sound own.there rule_so b.steady))).0
 
-  run-waits : (rule : Rule) (timing : Timing) → rule.kind ≡ Never → rule.timed ≡ Some timing
-      → IsAudited ByTimer parts.bay Logic parts.logic rule
+  run-waits : (rules : List ℕ) (rule : Rule) (timing : Timing) → rule.kind ≡ Never
+      → rule.timed ≡ Some timing → IsAudited ByTimer parts.bay Logic parts.logic rules rule
       → PastWaits rule timing first run.past
-  run-waits rule timing never timed is =
-      let own = audited ByTimer parts.bay Logic parts.logic rule is in
+  run-waits rules rule timing never timed is =
+      let own = audited ByTimer parts.bay Logic parts.logic rule rules is in
       let b = text-begins parts.bay parts.logic first run.loaded run.runs own.own own.image
       own.read own.made in
       let borne = right-timer (program_of own.own own.image) rule timing own.answer never timed
@@ -143,8 +143,8 @@ module _ (parts : ScenarioParts) (first : State) (text : List ℕ) (status : ℕ
 pub replayed-obey : ReplayedCommandsObey
 replayed-obey parts first text status run = record {
   obey = run-obeys parts first text status run;
-  lines = λ rule never is.
+  lines = λ rules rule never is.
       lines-obey parts first text status run rule
-      (run-obeys parts first text status run rule never is);
+      (run-obeys parts first text status run rules rule never is);
   wait = run-waits parts first text status run;
 }

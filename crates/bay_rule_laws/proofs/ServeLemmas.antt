@@ -104,8 +104,8 @@ loaded-obeys : (f : Form) (both : FilesData) (device : State)
     → LoadsTo both.bay f both.program (Ok device) → (ts : List DoneTurn)
     → AreTurns (made_of device) ts → AreGiven ts → ObeyAuditsOf f both (made_of device) ts
 loaded-obeys f both device loads ts are given file = record {
-  obey = λ rule never is.
-      let own = audited Plainly both.bay f both.program rule is in
+  obey = λ rules rule never is.
+      let own = audited Plainly both.bay f both.program rule rules is in
       let b = begins both.bay f both.program device loads file own.own own.image own.read own.made
       in
       let rule_so = right-rule (program_of own.own own.image) rule own.answer never own.so own.right
@@ -114,8 +114,8 @@ loaded-obeys f both device loads ts are given file = record {
       given
       (subst (Good own.own own.image rule b.sound own.there rule_so) (sym b.is)
       (good-first own.own own.image rule b.sound own.there rule_so b.steady));
-  wait = λ rule timing never timed is.
-      let own = audited ByTimer both.bay f both.program rule is in
+  wait = λ rules rule timing never timed is.
+      let own = audited ByTimer both.bay f both.program rule rules is in
       let b = begins both.bay f both.program device loads file own.own own.image own.read own.made
       in
       let borne = right-timer (program_of own.own own.image) rule timing own.answer never timed

@@ -59,9 +59,8 @@ AuditSays So bay form program rules log text status (inl loaded) rule =
 AuditSays So bay form program rules log text status (inr refused) rule = ⊥
 
 -- An audit of these octets answers the rule so.
-pub record IsAudited (So : Answer → Type 0) (bay : List ℕ) (form : Form) (program : List ℕ)
+pub record IsAudited (So : Answer → Type 0) (bay : List ℕ) (form : Form) (program rules : List ℕ)
     (rule : Rule) : Type 0 where
-  pub rules : List ℕ
   pub log : Option (List ℕ)
   pub text : List ℕ
   pub status : ℕ

@@ -2,8 +2,10 @@
 --
 -- `Served` is the main file: the turns of each service obey what an audit of the same octets
 -- answers; `Replayed`: so do the events of each replay. `Audited`: how an audit answers a rule;
--- `Waits`: what a rule with a time says.
+-- `Told`: what a line of it says that tells that a rule holds. `Waits`: what a rule with a time
+-- says.
 pub mod Audited
 pub mod Replayed
 pub mod Served
+pub mod Told
 pub mod Waits

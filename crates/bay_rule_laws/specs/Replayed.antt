@@ -58,14 +58,15 @@ LinesAre Is begin first past text =
 -- the text. They wait for each rule with a time, if it answers that a timer bears it.
 pub record RunObeys (parts : ScenarioParts) (first : State) (text : List ℕ) (status : ℕ)
     (run : IsRun parts first text status) : Type 0 where
-  pub obey : (rule : Rule) → rule.kind ≡ Never
-      → IsAudited Plainly parts.bay Logic parts.logic rule
+  pub obey : (rules : List ℕ) (rule : Rule) → rule.kind ≡ Never
+      → IsAudited Plainly parts.bay Logic parts.logic rules rule
       → EachPast (CommandsObeyAt rule) first run.past
-  pub lines : (rule : Rule) → rule.kind ≡ Never
-      → IsAudited Plainly parts.bay Logic parts.logic rule
+  pub lines : (rules : List ℕ) (rule : Rule) → rule.kind ≡ Never
+      → IsAudited Plainly parts.bay Logic parts.logic rules rule
       → LinesAre (IsAllowed rule) (report_text run.printed.report) first run.past text
-  pub wait : (rule : Rule) (timing : Timing) → rule.kind ≡ Never → rule.timed ≡ Some timing
-      → IsAudited ByTimer parts.bay Logic parts.logic rule → PastWaits rule timing first run.past
+  pub wait : (rules : List ℕ) (rule : Rule) (timing : Timing) → rule.kind ≡ Never
+      → rule.timed ≡ Some timing → IsAudited ByTimer parts.bay Logic parts.logic rules rule
+      → PastWaits rule timing first run.past
 
 -- So do those of each run of a scenario's device.
 abbrev pub ReplayedCommandsObey : Type 0

@@ -52,10 +52,10 @@ IsFile Image program = AreOctets program
 -- answers so that it holds, and wait for each with a time, if it answers that a timer bears it.
 pub record ObeyAudits (form : Form) (both : FilesData) (begun : Held) (turns : List DoneTurn)
     : Type 0 where
-  pub obey : (rule : Rule) → rule.kind ≡ Never → IsAudited Plainly both.bay form both.program rule
-      → OrdersObey rule begun.device begun [] turns
-  pub wait : (rule : Rule) (timing : Timing) → rule.kind ≡ Never → rule.timed ≡ Some timing
-      → IsAudited ByTimer both.bay form both.program rule
+  pub obey : (rules : List ℕ) (rule : Rule) → rule.kind ≡ Never
+      → IsAudited Plainly both.bay form both.program rules rule → OrdersObey rule begun.device begun [] turns
+  pub wait : (rules : List ℕ) (rule : Rule) (timing : Timing) → rule.kind ≡ Never
+      → rule.timed ≡ Some timing → IsAudited ByTimer both.bay form both.program rules rule
       → OrdersWait rule timing begun.device begun [] [] turns
 
 -- So it is of a program's text, and of the octets of an image.

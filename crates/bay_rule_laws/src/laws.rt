@@ -1,6 +1,7 @@
 // Laws of audited rules. Each function does nothing, and its contract is the law.
 ghost use Rattle.bay_rule_laws.specs.Replayed.{ReplayedCommandsObey};
 ghost use Rattle.bay_rule_laws.specs.Served.{ServedCommandsObey};
+ghost use Rattle.bay_rule_laws.specs.Told.{HoldsAreAudited};
 ghost use Rattle.bay_serve.specs.Calls.{Called};
 
 use bay_files::files::FileSystem;
@@ -32,4 +33,10 @@ pub fn served_commands_obey<F: FileSystem, L: Link, H: Host<L>, W: Sink>(
 /// the commands wait for it.
 pub fn replayed_commands_obey()
     ensures { ReplayedCommandsObey }
+{}
+/// Each line `rule LINE ID OPERATION holds ..` of an audit's text is of a rule that stands in this
+/// line of the text of rules, for this operation of the switch with this id, and of which the audit
+/// answers that it holds, or that a timer bears it.
+pub fn told_holds_are_audited()
+    ensures { HoldsAreAudited }
 {}
