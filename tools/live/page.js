@@ -25,9 +25,9 @@ function lastKnown() {
 
 function described(it) {
   const ways = ['open', 'close'].map((way) => may(it, way)).map((m) => m.told.replace(/^. /, ''));
-  const seen = it.selected ? ', selected' : '';
   const past = lastKnown() ? 'last known ' : '';
-  return `${it.id}, ${it.kind}, ${past}${placeOf(it)}${seen}, ${ways[0]}, ${ways[1]}`;
+  const notes = notesOf(it).filter(Boolean);
+  return [it.id, it.kind, `${past}${placeOf(it)}`, ...notes, ...ways].join(', ');
 }
 
 function showPicture() {
@@ -63,7 +63,7 @@ function row(it) {
   button.setAttribute('aria-label', `${it.id}: details`);
   head.append(button);
   const place = element('td', it.position === 'bad' ? 'place bad' : 'place', positionOf(it));
-  place.append(element('span', 'why', qualityOf(it) + (it.selected ? ', selected' : '')));
+  place.append(element('span', 'why', [qualityOf(it), ...notesOf(it)].filter(Boolean).join(', ')));
   found.append(head, place, wayCell(it, 'open'), wayCell(it, 'close'));
   return found;
 }

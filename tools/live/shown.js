@@ -10,11 +10,15 @@ function element(name, kind, text) {
   return found;
 }
 
-// A switch without control is moved by hand: what is released of it goes to its blocking magnet.
 function may(it, way) {
-  const done = (way === 'open' ? 'opened' : 'closed') + (it.control === 'status' ? ' by hand' : '');
+  const done = way === 'open' ? 'opened' : 'closed';
   if (it[way].free) return {free: true, told: `✓ may be ${done}`, why: ''};
   return {free: false, told: `✕ may not be ${done}`, why: it[way].why};
+}
+
+// A switch without control is moved by hand: what is released of it goes to its blocking magnet.
+function notesOf(it) {
+  return [it.selected ? 'selected' : '', it.control === 'status' ? 'by hand' : ''];
 }
 
 function positionOf(it) {

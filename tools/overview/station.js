@@ -22,10 +22,8 @@ function switchRow(it) {
   const head = element('th', '', it.id);
   head.scope = 'row';
   const place = element('td', it.position === 'bad' ? 'place bad' : 'place', positionOf(it));
-  const more = [qualityOf(it) === 'good' ? '' : qualityOf(it), it.selected ? 'selected' : ''];
-  if (more.some(Boolean)) {
-    place.append(element('span', 'why', more.filter(Boolean).join(', ')));
-  }
+  const more = [qualityOf(it) === 'good' ? '' : qualityOf(it), ...notesOf(it)];
+  place.append(...more.filter(Boolean).map((told) => element('span', 'why', told)));
   const releases = element('td', 'releases');
   for (const found of ['open', 'close'].map((way) => may(it, way))) {
     releases.append(element('span', found.free ? 'way free' : 'way', found.told));

@@ -334,20 +334,20 @@ class Events(unittest.TestCase):
 
 class Told(unittest.TestCase):
     """What the pages say of a switch, where node is there to run their script."""
-    ASKED = ("console.log(JSON.stringify(['open', 'close'].map((way) => may("
-             "{control: process.argv[1], open: {free: true, why: ''}, "
-             "close: {free: false, why: 'W'}}, way))));")
+    ASKED = ("const it = {control: process.argv[1], open: {free: true, why: ''}, "
+             "close: {free: false, why: 'W'}};"
+             "console.log(JSON.stringify([may(it, 'open'), may(it, 'close'), notesOf(it)]));")
 
     @unittest.skipUnless(shutil.which('node'), 'there is no node')
     def test_releases_of_a_switch_that_is_moved_by_hand(self):
         script = (TOOLS / 'live' / 'shown.js').read_text(encoding='utf-8').partition('const byId')
-        for control, more in (('status', ' by hand'), ('sbo', '')):
+        for control, note in (('status', 'by hand'), ('sbo', '')):
             done = subprocess.run(
                 ['node', '-e', f'const byId{script[2]}\n{self.ASKED}', control],
                 capture_output=True, check=True)
             self.assertEqual(json.loads(done.stdout), [
-                {'free': True, 'told': f'\u2713 may be opened{more}', 'why': ''},
-                {'free': False, 'told': f'\u2715 may not be closed{more}', 'why': 'W'}])
+                {'free': True, 'told': '\u2713 may be opened', 'why': ''},
+                {'free': False, 'told': '\u2715 may not be closed', 'why': 'W'}, ['', note]])
 
 
 @needs_loopback
