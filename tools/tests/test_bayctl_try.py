@@ -29,7 +29,8 @@ for case in sorted(folder.glob('*.args')):
     if absent:
         print('bayctl: fault 121: ' + absent[0] + ': there is no such file', file=sys.stderr)
     run = {run!r} if args[0] != 'odd' else 'no-answer'
-    print(f'case={{case.stem}} run={{run}} status={{len(args)}} runners=1 proved=no', file=sys.stderr)
+    print(f'case={{case.stem}} run={{run}} status={{len(args)}} runners=1 proved=no',
+          file=sys.stderr)
 print('cases=1 ended=1 fault=0 differs=0 no-answer=0 proved=no', file=sys.stderr)
 '''
 BAY = '[bay]\ndomain = "E1"\n[[switch]]\nid = "QA1"\nkind = "breaker"\ncontrol = "status"\n'

@@ -293,9 +293,10 @@ class Talks(Tools):
 
     def test_a_lane_for_each_association(self):
         """Its number is the lowest that is free, as a server's."""
-        events = [Event(at, place, kind, who=f'10.0.0.{place % 2}') for at, (place, kind) in enumerate(
-            [(1, 'open'), (2, 'open'), (3, 'middle'), (2, 'close'), (4, 'open'), (1, 'close'),
-             (5, 'open')])]
+        seen = [(1, 'open'), (2, 'open'), (3, 'middle'), (2, 'close'), (4, 'open'), (1, 'close'),
+                (5, 'open')]
+        events = [Event(at, place, kind, who=f'10.0.0.{place % 2}')
+                  for at, (place, kind) in enumerate(seen)]
         clients = History.of_capture(self.FILE, Names(), events).clients
         self.assertEqual({place: (it.name(), it.open.changes) for place, it in clients.items()}, {
             1: ('1 (10.0.0.1)', [(0, True), (5, False), (6, True)]),
