@@ -377,7 +377,7 @@ class Asking(Tools):
     def test_who_asks(self):
         for more, ident in (([], own_name()), (['--as', 'Anna'], 'Anna'), (['--as', ''], '')):
             found = self.written(lambda port: self.call_tool(
-                'client', port, 'operate', 'CSWI1', 'on', '--wait', 0, *more))
+                'client', port, 'operate', 'CSWI1', 'close', '--wait', 0, *more))
             self.assertEqual(found, [(verb, 1, ident.encode()) for verb in ('SBOw', 'Oper')])
         self.assertRegex(own_name(), '^[^@]+@[^@]+$')
 

@@ -414,7 +414,8 @@ class Conditions(unittest.TestCase):
         rule."""
         rules = ('always QA1 open\nalways QC1 close when QA1 open and VT_DEAD and M1_AA >= 0\n'
                  'always QC1 close after VT_DEAD for 5s when M1_AA > 9\n')
-        held = ''.join(f'rule {line} holds cases=1\n' for line in (1, 2, 3))
+        held = ''.join(f'rule {line} {way} holds cases=1\n' for line, way in (
+            (1, 'QA1 open'), (2, 'QC1 close'), (3, 'QC1 close')))
         found = proved(rules, LOADED + held + ANSWER[ANSWER.index('release'):])
         bare = judging.uncovered(found)
         self.assertEqual({key: (count, it.lines()) for key, (count, it) in bare.items()}, {
