@@ -12,7 +12,8 @@ from wire import mms
 from wire.client import Client, connection_told
 from wire.control import Control
 from wire.conversation import Said
-from wire.process import NO_KEY, Life, ServerClock, greeting_of, same_bay
+from wire.process import (NO_KEY, Life, ServerClock, greeting_of, moment_of, same_bay,
+                          ungreeted)
 from wire.same_bay import compared
 from wire.sockets import is_taken
 
@@ -39,36 +40,39 @@ class Process:
     def __init__(self, port: int, named: tuple[str, str], key: str) -> None:
         self.port, self.named, self.key = port, named, key
         self.commands: list[tuple[str, str]] = []
-        self.trouble, self.is_closing, self.lock = '', False, threading.Lock()
+        self.trouble, self.lock = '', threading.Lock()
         self.socket: socket.socket | None = None
         self.clock: ServerClock | None = None
         self.life: Life | None = None
         self.rest = b''
 
-    def connect(self) -> None:
+    def connect(self) -> socket.socket:
         """A connection that the server has taken, and that has answered its greeting."""
         try:
             found = socket.create_connection((HOST, self.port), TAKEN)
         except OSError as error:
             raise Failed(connection_told(error, HOST, self.port)) from None
-        self.socket, self.rest, self.is_closing = found, b'', False
+        self.socket, self.rest = found, b''
         if not until(lambda: is_taken(found) is not False, TAKEN):
             raise Failed(f'port {self.port}: the server takes one process at a time, and has '
                          'another')
         self.clock = self.life = None
-        lines = self.lines(GREETED)
+        lines = self.lines(found, GREETED)
         greeting = greeting_of(lines[0]) if lines else None
         if greeting:
             same_bay(greeting, self.port, *self.named)
             self.clock, self.life = ServerClock(greeting.moment), Life(greeting.limit)
-            self.send(greeting.answer(self.clock.now(), self.key or NO_KEY))
+            self.send(found, greeting.answer(self.clock.now(), self.key or NO_KEY))
+        elif self.key:
+            raise ungreeted(self.port)
         threading.Thread(target=self.run, args=(found, lines), daemon=True).start()
+        return found
 
-    def lines(self, seconds: float) -> list[str]:
+    def lines(self, connection: socket.socket, seconds: float) -> list[str]:
         """The lines that come within so many seconds, as soon as there are some."""
-        self.socket.settimeout(seconds)
+        connection.settimeout(seconds)
         try:
-            piece = self.socket.recv(4096)
+            piece = connection.recv(4096)
         except TimeoutError:
             return []
         if not piece:
@@ -81,31 +85,33 @@ class Process:
         try:
             self.hear(first)
             while connection is self.socket:
-                self.hear(self.lines(LOOK))
-                if self.life and self.life.is_due():
-                    self.send(f'{self.clock.now()} alive')
+                self.hear(self.lines(connection, LOOK))
+                if self.life and self.clock and self.life.is_due():
+                    self.send(connection, f'{self.clock.now()} alive')
         except OSError as error:
-            if not self.is_closing:
+            if connection is self.socket:
                 self.trouble = f'port {self.port}: the process is lost: {error.strerror or error}'
 
     def hear(self, lines: list[str]) -> None:
         for line in lines:
+            moment = moment_of(line)
+            if self.clock and moment is not None:
+                self.clock.hears(moment)
             match line.split(' '):
                 case [_, 'command', name, way] if way in WAYS_TOLD:
                     self.commands.append((raised(name), WAYS_TOLD[way]))
                 case [_, 'refused', code]:
                     self.trouble = f'port {self.port}: the server refuses a line ({code})'
 
-    def send(self, line: str) -> None:
+    def send(self, connection: socket.socket, line: str) -> None:
         with self.lock:
-            self.socket.sendall(f'{line}\n'.encode())
+            connection.sendall(f'{line}\n'.encode())
 
     def tell(self, line: str) -> None:
         """Tells a line with the server's time, or 0 where nobody looks at it."""
-        if self.socket is None:
-            self.connect()
+        connection = self.socket or self.connect()
         try:
-            self.send(f'{self.clock.now() if self.clock else 0} {line}')
+            self.send(connection, f'{self.clock.now() if self.clock else 0} {line}')
         except OSError as error:
             self.trouble = self.trouble or f'port {self.port}: {error.strerror}'
         time.sleep(SETTLE)
@@ -113,10 +119,9 @@ class Process:
             raise Failed(self.trouble)
 
     def close(self) -> None:
-        self.is_closing = True
-        if self.socket:
-            self.socket.close()
-        self.socket = None
+        connection, self.socket = self.socket, None
+        if connection:
+            connection.close()
 
 
 class Served(Bench):
@@ -209,6 +214,10 @@ class Served(Bench):
             self.client.wait_for_report(LOOK)
         found = self.is_ended
         return lambda: found
+
+    def finish(self) -> None:
+        if self.process.trouble:
+            raise Failed(self.process.trouble)
 
     def close(self) -> None:
         self.process.close()

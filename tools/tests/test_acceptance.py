@@ -298,6 +298,14 @@ class ServedBays(Tools):
         self.assertIn('alive', heard)
         found, _ = self.accept(STEPS, '5000 process 400 E2 1\n')
         self.assertEqual((found.status, found.error.count('\n')), (1, 1))
+        found, _ = self.accept(STEPS, '', '--key', self.folder / 'key')
+        self.assertEqual(found.status, 1)
+        self.assertIn('the server does not greet: it is no supervised port', found.error)
+
+    def test_a_line_that_the_server_refuses(self):
+        found, _ = self.accept('do contact QA1 open\ndo wait 50ms\n', '5 refused 113\n')
+        self.assertEqual(found.status, 3)
+        self.assertIn('the server refuses a line (113)', found.error)
 
     def test_no_server(self):
         with socket.socket() as one:
