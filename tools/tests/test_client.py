@@ -250,7 +250,8 @@ class Statuses(Tools):
     def test_wrong_words(self):
         for words_of_it in ((1, 'operate', 'QA1', 'up'), (65_536, 'browse'),
                             ('--timeout', 'nan', 1, 'browse'), ('--timeout', '0', 1, 'browse'),
-                            ('--association', 9, 1, 'browse')):
+                            ('--association', 9, 1, 'browse'),
+                            (1, 'operate', 'QA1', 'open', '--as', 'é' * 33)):
             found = self.call_tool('client', *words_of_it)
             self.assertEqual((found.status, found.out, found.error.count('\n')), (2, '', 1))
         found = self.call_tool('client', '--bay', 'none.toml', 1, 'browse')

@@ -1,4 +1,5 @@
 """Who asks, as the orIdent of a control says it."""
+import argparse
 import os
 import pwd
 import socket
@@ -9,6 +10,13 @@ LONGEST = 64  # octets of an orIdent
 def clipped(name: str) -> str:
     """A name as far as an orIdent takes it."""
     return name.encode()[:LONGEST].decode(errors='ignore')
+
+
+def identity_of(text: str) -> str:
+    """A name that an orIdent can have, for an option."""
+    if len(os.fsencode(text)) > LONGEST:
+        raise argparse.ArgumentTypeError(f'{text[:20]}.. has more than {LONGEST} octets')
+    return text
 
 
 def own_name() -> str:
