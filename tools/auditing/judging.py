@@ -14,7 +14,8 @@ from common.texts import counted, raised
 from . import answers
 from .answers import Answer, Proof
 from .proving import Shown, conditions, shown
-from .replaying import scans_of, scenarios, timed_scenarios, timed_trace_of, trace_of
+from .replaying import (asked_ahead, scans_of, scenarios, timed_scenarios, timed_trace_of,
+                        trace_of)
 from .things import SWITCH, WAYS
 
 PAIRS = 200_000  # most pairs of combinations that a rule with a time is tried with
@@ -156,7 +157,8 @@ def chosen_of(bay, findings: list, is_asked: bool) -> list[tuple]:
 def go_through(found: Audit, chosen: list[tuple], bayctl) -> None:
     """Tries each combination, each reached from the one before it."""
     progress = Progress(len(chosen))
-    for part, octets in scenarios(found.bay, chosen, found.offsets):
+    parts = scenarios(found.bay, chosen, found.offsets, bayctl)
+    for part, octets in asked_ahead(bayctl, parts):
         scans = scans_of(bayctl, octets)
         for place, combination in enumerate(part):
             seen = several(scans, len(found.offsets))
@@ -243,7 +245,8 @@ def judge_times(finding, bay, chosen: list[tuple], bayctl, offsets) -> int:
     rule, count, last, worst = finding.rule, 0, None, None
     pairs = pairs_of(bay, finding, chosen)
     progress = Progress(len(pairs))
-    for part, octets in timed_scenarios(bay, pairs, offsets):
+    parts = timed_scenarios(bay, pairs, offsets, bayctl)
+    for part, octets in asked_ahead(bayctl, parts):
         scans = scans_of(bayctl, octets)
         for before, combination in part:
             seen = several(scans, len(offsets) + 2)[2:]

@@ -3,15 +3,16 @@ at each scan."""
 import itertools
 import subprocess
 import tempfile
-from collections.abc import Iterator
+from collections.abc import Iterable, Iterator
 
 from common.ending import Failed
 from common.texts import raised
-from report.bayctl import is_tried, not_run, run
+from report.bayctl import Ask, ask_ahead, is_tried, not_run, run
 from report.replay import NotLoaded
 
 LARGEST, SHORTEST = 16_777_216, 30  # octets of a scenario, and of the lines of a combination
 LATEST = 4_294_967_295_999  # the last moment that a trace can have
+PRINTED, LINE = 500_000, 48  # octets that `rt try` is let print, and of a scan without switches
 
 
 def changes(bay, moment, last, combination) -> Iterator:
@@ -46,23 +47,37 @@ def timed_trace_of(bay, pairs, offsets) -> Iterator:
         last, moment = combination, moment + offsets[-1]
 
 
-def scenarios(bay, chosen: list[tuple], offsets: list[int]) -> Iterator[tuple[list, bytes]]:
+def printable(bay, scans: int, bayctl) -> int:
+    """How many times so many scans a replay may print."""
+    line = LINE + sum(len(it['id']) + 4 for it in bay.file['switch'])
+    return max(PRINTED // (line * scans), 1) if is_tried(bayctl) else LATEST
+
+
+def scenarios(bay, chosen: list[tuple], offsets: list[int], bayctl) -> Iterator[tuple[list, bytes]]:
     """The octets that go through combinations, in as many scenarios as that takes: each begins
     anew."""
     size = LARGEST // (2 * SHORTEST * (len(bay.things) + len(offsets)))
-    size = max(min(size, LATEST // offsets[-1]), 1)
+    size = max(min(size, LATEST // offsets[-1], printable(bay, len(offsets), bayctl)), 1)
     for at in range(0, len(chosen), size):
         part = chosen[at:at + size]
         yield part, bay.scenario(trace_of(bay, part, offsets))
 
 
-def timed_scenarios(bay, pairs, offsets) -> Iterator:
+def timed_scenarios(bay, pairs, offsets, bayctl) -> Iterator:
     """The octets that go through pairs of combinations, in as many scenarios as that takes."""
     size = LARGEST // (2 * SHORTEST * (len(bay.things) + len(offsets) + 2))
-    size = max(min(size, LATEST // (2 * offsets[-1])), 1)
+    size = max(min(size, LATEST // (2 * offsets[-1]), printable(bay, len(offsets) + 2, bayctl)), 1)
     for at in range(0, len(pairs), size):
         part = pairs[at:at + size]
         yield part, bay.scenario(timed_trace_of(bay, part, offsets))
+
+
+def asked_ahead(bayctl, parts: Iterable[tuple]) -> Iterable[tuple]:
+    """Scenarios, each with what it goes through. The sources of bayctl replay all in one go."""
+    if is_tried(bayctl):
+        parts = list(parts)
+        ask_ahead(bayctl, [Ask(('replay',), octets) for _, octets in parts])
+    return parts
 
 
 def scans_of(bayctl, octets: bytes) -> Iterator[dict]:

@@ -51,9 +51,9 @@ def usual() -> pathlib.Path:
     return TRY if not BUILT.exists() and shutil.which('rt') else BUILT
 
 
-def is_tried(bayctl: str | pathlib.Path) -> bool:
+def is_tried(bayctl: str | pathlib.Path | None) -> bool:
     """Whether this program stands for a run of the sources."""
-    return pathlib.Path(bayctl).resolve() == TRY
+    return bayctl is not None and pathlib.Path(bayctl).resolve() == TRY
 
 
 def not_run(error: OSError) -> Failed:
@@ -76,7 +76,7 @@ def run(bayctl: str | pathlib.Path, *words: object, given: bytes = b'') -> Answe
 
 def ask_ahead(bayctl: str | pathlib.Path, asks: Sequence[Ask]) -> None:
     """Asks in one go what will be asked one by one. A built program is not asked ahead."""
-    if is_tried(bayctl):
+    if asks and is_tried(bayctl):
         USUAL.ahead |= zip(asks, asked_of_sources(asks))
 
 

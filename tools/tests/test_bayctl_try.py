@@ -3,9 +3,11 @@ import os
 import sys
 import unittest
 from pathlib import Path
+from types import SimpleNamespace
 from unittest import mock
 
 sys.path.insert(0, str(Path(__file__).resolve().parent.parent))
+from auditing import replaying
 from report import bayctl
 from tests.tool import Tools
 
@@ -113,6 +115,21 @@ class Tried(Tools):
         self.assertEqual(self.goes(), [2, 1])
         bayctl.ask_ahead(self.bayctl(''), asks)
         self.assertEqual(self.goes(), [2, 1])
+
+    def test_replays_of_an_audit_are_asked_in_one_go(self):
+        parts = [(1, b'a'), (2, b'b')]
+        with mock.patch('report.bayctl.complain'):
+            self.assertEqual(list(replaying.asked_ahead(bayctl.TRY, parts)), parts)
+        scans = [list(replaying.scans_of(bayctl.TRY, octets)) for _, octets in parts]
+        self.assertEqual((scans, self.goes()), ([[{'QA1': (False, False)}]] * 2, [2]))
+
+    def test_no_replay_prints_more_than_a_mebibyte(self):
+        bay = SimpleNamespace(file={'switch': [{'id': 'QA1'}, {'id': 'QB1'}]})
+        line = f'{replaying.LATEST} scan steps={10 ** 7} QA1=11 QB1=11\n'
+        count = replaying.printable(bay, 5, bayctl.TRY)
+        self.assertLess(count * 5 * len(line), 1_000_000)
+        self.assertGreater(count, 1000)
+        self.assertEqual(replaying.printable(bay, 5, self.folder / 'bayctl'), replaying.LATEST)
 
 
 if __name__ == '__main__':
