@@ -1,5 +1,6 @@
 pub mod AuditLemmas
 pub mod HoldLemmas
+pub mod IdLemmas
 pub mod ObeyLemmas
 pub mod OptionLemmas
 pub mod ReplayLemmas

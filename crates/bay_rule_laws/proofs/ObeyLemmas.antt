@@ -1,11 +1,11 @@
 -- A rule that holds, along the turns of a server and the events of a replay.
-use Rattle.std.proofs.Common.{◌≡◌, ◌+◌, ℕ, ◌<◌, Bool, true, false, cond, All, List, [], ◌∷◌, length, position, is_none, is_some, Option, Some, None, Result, refl, sym, subst}
+use Rattle.std.proofs.Common.{◌≡◌, ◌+◌, ℕ, ◌<◌, Bool, true, false, cond, All, List, [], ◌∷◌, length, position, is_none, is_some, Option, Some, None, Result, refl, sym, subst, slice_get, ap, ◌∙◌}
 use Rattle.std.specs.Prelude.{IfSome}
 use Rattle.std.proofs.lemmas.List.Elements.{All-cons, All-head, All-nil, All-tail, All-weaker}
 use Rattle.std.specs.declared.net.socket_addr.SocketAddrV4.{SocketAddrV4}
 use Rattle.bay_audit.specs.Process.{IsProcess}
 use Rattle.bay_audit.specs.Rules.{IsRule, program_of}
-use Rattle.bay_audit_laws.specs.Laws.{CommandsObeyAt, IsOfType, process_of}
+use Rattle.bay_audit_laws.specs.Laws.{CommandsObeyAt, IsAllowed, IsOfType, process_of}
 use Rattle.bay_audit_laws.proofs.LawLemmas.{Obeying, Turned, allowed, commands-obey, led-step, obeying-first, process-so, turned}
 use Rattle.bay_config.specs.Laws.{IsBay}
 use Rattle.bay_config.specs.declared.bay.Bay.{Bay}
@@ -20,7 +20,11 @@ use Rattle.bay_device.specs.declared.event.Step.{Step}
 use Rattle.bay_device.specs.declared.fault.StepFault.{StepFault}
 use Rattle.bay_device.proofs.CommandLemmas.{step-commanded}
 use Rattle.bay_replay.specs.History.{EachPast, device_after}
+use Rattle.bay_nodes.specs.declared.switch.Switch.{Switch}
+use Rattle.bay_rules.specs.Process.{holds}
 use Rattle.bay_rules.specs.declared.rule.Rule.{Rule}
+use Rattle.bay_rules.specs.declared.rule.RuleKind.TheVariants.{Never}
+use Rattle.bay_services.specs.declared.answer.Command.{Command}
 use Rattle.il_image.specs.Images.{Image}
 use Rattle.bay_serve.specs.Calls.{ReadOutcome, Octets, Silence, Over, Broken}
 use Rattle.bay_serve.specs.Turns.{Held, Reading, Script, after_turn, first_of}
@@ -31,9 +35,11 @@ use Rattle.bay_serve_laws.specs.Events.{ChosenEvent, done_at, surely, turn_event
 use Rattle.bay_serve_laws.specs.Order.{AreClosings, Then, brought, opened, opened_at, read_at, told_at}
 use Rattle.bay_serve_laws.proofs.OrderLemmas.{in-order}
 use Rattle.bay_serve_laws.proofs.PartLemmas.{Part-turn}
+use Rattle.bay_serving_files.specs.Orders.{IsOrdered}
 use Rattle.bay_serving_files.specs.Service.{AreTurns, DoneTurn, held_behind, past_behind}
 use Rattle.bay_serving_files.proofs.FrontLemmas.{Begins, Behind, Reads, closings-all, reads-all, then-all, why_closed}
 use Rattle.bay_rule_laws.specs.Served.{OrdersObey}
+use Rattle.bay_rule_laws.proofs.IdLemmas.{ids-apart}
 use Rattle.bay_rule_laws.proofs.SoundLemmas.{Steady, steady-halts, steady-on}
 use Rattle.bay_rule_laws.proofs.TypeLemmas.{EventFits}
 
@@ -148,21 +154,41 @@ module _ (bay : Bay) (image : Image) (rule : Rule) (is_bay : IsBay bay)
 
     -- ---- turns
 
-    pub turns-obey : (first : State) (ts : List DoneTurn) (h : Held) (past : List Past)
-        → AreTurns h ts → AreGiven ts → Good h.device → OrdersObey rule first h past ts
-    turns-obey first [] h past are given g = tt
-    turns-obey first (t ∷ ts) h past are given g =
+    -- a command to the switch with the id of the rule's, of its operation, is not issued while the
+    -- condition holds
+    pub by-id : (s : State) (command : Command) (named switch : Switch) → rule.kind ≡ Never
+        → IsAllowed rule s command → slice_get bay.switches command.switch ≡ Some named
+        → slice_get bay.switches rule.switch ≡ Some switch → named.id ≡ switch.id
+        → command.operation ≡ rule.operation → holds rule.when (process_of s) ≡ false
+    by-id s command named switch never allow here own same on =
+        allow never
+        (ids-apart bay is_bay command.switch rule.switch named switch here own same) on
+
+    pub turns-obey : (first : State) → first.switches ≡ bay.switches → rule.kind ≡ Never
+        → (ts : List DoneTurn) (h : Held) (past : List Past) → AreTurns h ts → AreGiven ts
+        → Good h.device → OrdersObey rule first h past ts
+    turns-obey first of_bay never [] h past are given g = tt
+    turns-obey first of_bay never (t ∷ ts) h past are given g =
         let events = turn_events t.now t.given t.script h in
         let typed : AreTyped events =
-        events-typed t.now t.given t.script h are.0.all_read are.0.all_offered given.0 in (
-          λ command o.
-              allowed bay image rule is_bay there holds_so t.now
-              (done_at t.now o.heard.front h.device).after command
-              (good-events t.now o.heard.front h.device
-              (All-weaker (λ (e : ChosenEvent). OfAssociation e.1) IsTyped (λ e of. of-typed e.1 of)
-              o.heard.front o.heard.first) g).0 o.allowed,
-          turns-obey first ts (held_behind t h) (past_behind t.now events h.device past) are.1
-              given.1
+        events-typed t.now t.given t.script h are.0.all_read are.0.all_offered given.0 in
+        let obeys : (command : Command) (o : IsOrdered first h t past command)
+        → IsAllowed rule (done_at t.now o.heard.front h.device).after command =
+        λ command o.
+        allowed bay image rule is_bay there holds_so t.now
+        (done_at t.now o.heard.front h.device).after command
+        (good-events t.now o.heard.front h.device
+        (All-weaker (λ (e : ChosenEvent). OfAssociation e.1) IsTyped (λ e of. of-typed e.1 of)
+        o.heard.front o.heard.first) g).0 o.allowed in (
+          obeys,
+          λ printed p switch here named on.
+              by-id (done_at t.now p.ordered.heard.front h.device).after p.command p.switch switch
+              never (obeys p.command p.ordered)
+              (ap (λ ss. slice_get ss p.command.switch) (sym of_bay) ∙ p.here)
+              (ap (λ ss. slice_get ss rule.switch) (sym of_bay) ∙ here) (sym p.named ∙ named)
+              (sym p.operation ∙ on),
+          turns-obey first of_bay never ts (held_behind t h)
+              (past_behind t.now events h.device past) are.1 given.1
               (subst Good (sym (Part-turn t.now t.given t.script h).device)
               (good-events t.now events h.device typed g)),
         )

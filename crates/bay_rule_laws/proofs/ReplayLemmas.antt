@@ -5,6 +5,8 @@ use Rattle.std.specs.Prelude.{IfSome}
 use Rattle.std.proofs.lemmas.List.Elements.{All-contains}
 use Rattle.bay_audit.specs.Rules.{program_of}
 use Rattle.bay_audit_laws.specs.Laws.{CommandsObeyAt, IsAllowed, IsOfType}
+use Rattle.bay_config.specs.Laws.{IsBay}
+use Rattle.bay_config.specs.declared.bay.Bay.{Bay}
 use Rattle.bay_device.specs.Device.{State}
 use Rattle.bay_device.specs.Fresh.{Past}
 use Rattle.bay_device.specs.declared.event.Event.{Event}
@@ -13,6 +15,7 @@ use Rattle.bay_device.specs.declared.fault.StepFault.{StepFault}
 use Rattle.bay_replay.specs.History.{EachPast, device_after}
 use Rattle.bay_replay.specs.Runs.{AreOfLines, IsRun}
 use Rattle.bay_replay.specs.Scenario.{ScenarioParts}
+use Rattle.bay_replay.proofs.LoadedLemmas.{file-sound}
 use Rattle.bay_report.specs.Report.{report_text}
 use Rattle.bay_report.specs.declared.load.Form.TheVariants.{Logic}
 use Rattle.bay_report_laws.specs.Printed.{PrintedCommand, lines_in, printed_command}
@@ -27,9 +30,10 @@ use Rattle.bay_rules.specs.declared.rule.Timing.{Timing}
 use Rattle.bay_services.specs.declared.answer.Command.{Command}
 use Rattle.bay_trace.specs.Trace.{LineData, at_moment}
 use Rattle.bay_rule_laws.specs.Audited.{ByTimer, IsAudited, Plainly}
-use Rattle.bay_rule_laws.specs.Replayed.{IsIssued, LinesAre, ReplayedCommandsObey}
+use Rattle.bay_rule_laws.specs.Replayed.{IsIssued, LinesObey, ReplayedCommandsObey}
 use Rattle.bay_rule_laws.specs.Waits.{PastWaits}
 use Rattle.bay_rule_laws.proofs.AuditLemmas.{audited, right-rule, right-timer, text-begins}
+use Rattle.bay_rule_laws.proofs.IdLemmas.{ids-apart}
 use Rattle.bay_rule_laws.proofs.ObeyLemmas.{Good, good-first, past-obeys}
 use Rattle.bay_rule_laws.proofs.TypeLemmas.{LineFits, line-fits, placed-fits}
 use Rattle.bay_rule_laws.proofs.WaitLemmas.{Ready, past-waits, ready-first}
@@ -97,15 +101,22 @@ module _ (parts : ScenarioParts) (first : State) (text : List ℕ) (status : ℕ
         operation = refl;
       }))
 
-  lines-obey : (rule : Rule) → EachPast (CommandsObeyAt rule) first run.past
-      → LinesAre (IsAllowed rule) (report_text run.printed.report) first run.past text
-  lines-obey rule each before after line printed e reads =
+  lines-obey : (own : Bay) → IsBay own → first.switches ≡ own.switches → (rule : Rule)
+      → rule.kind ≡ Never → EachPast (CommandsObeyAt rule) first run.past
+      → LinesObey rule (report_text run.printed.report) first run.past text
+  lines-obey own is of_bay rule never each before after line printed e reads =
       let i = run-issued before after line printed e reads in
       let here = (past-in (CommandsObeyAt rule) first i.later i.order i.earlier run.past i.split
-      each).0 in (
+      each).0 in
+      let old : State = device_after first i.earlier in (
         i,
-        issued-so rule i.order.now i.order.event (device_after first i.earlier) i.order.after
-            i.order.answer i.step i.command i.answered i.issued here,
+        λ switch there named on.
+            issued-so rule i.order.now i.order.event old i.order.after i.order.answer i.step
+            i.command i.answered i.issued here never
+            (ids-apart own is i.command.switch rule.switch i.switch switch
+            (ap (λ ss. slice_get ss i.command.switch) (sym of_bay) ∙ i.here)
+            (ap (λ ss. slice_get ss rule.switch) (sym of_bay) ∙ there) (i.named ∙ named))
+            (i.operation ∙ on),
       )
 
   -- ---- runs
@@ -144,7 +155,9 @@ pub replayed-obey : ReplayedCommandsObey
 replayed-obey parts first text status run = record {
   obey = run-obeys parts first text status run;
   lines = λ rules rule never is.
-      lines-obey parts first text status run rule
+      let bay = run.loaded.bay in
+      lines-obey parts first text status run bay (file-sound parts.bay bay run.loaded.read)
+      (ap (λ (s : State). s.switches) run.loaded.is) rule never
       (run-obeys parts first text status run rules rule never is);
   wait = run-waits parts first text status run;
 }

@@ -110,8 +110,8 @@ loaded-obeys f both device loads ts are given file = record {
       in
       let rule_so = right-rule (program_of own.own own.image) rule own.answer never own.so own.right
       in
-      turns-obey own.own own.image rule b.sound own.there rule_so device ts (made_of device) [] are
-      given
+      turns-obey own.own own.image rule b.sound own.there rule_so device
+      (ap (λ (s : State). s.switches) b.is) never ts (made_of device) [] are given
       (subst (Good own.own own.image rule b.sound own.there rule_so) (sym b.is)
       (good-first own.own own.image rule b.sound own.there rule_so b.steady));
   wait = λ rules rule timing never timed is.

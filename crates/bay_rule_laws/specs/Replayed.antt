@@ -1,7 +1,7 @@
 -- What an audited rule says of the commands of a replay.
-use Rattle.std.specs.Prelude.{ℕ, ◌≡◌, List, ◌∷◌, ◌++◌, slice_get, Some, Ok}
+use Rattle.std.specs.Prelude.{ℕ, ◌≡◌, false, List, ◌∷◌, ◌++◌, slice_get, Some, Ok}
 use Rattle.std.specs.List.{Contains}
-use Rattle.bay_audit_laws.specs.Laws.{CommandsObeyAt, IsAllowed}
+use Rattle.bay_audit_laws.specs.Laws.{CommandsObeyAt, process_of}
 use Rattle.bay_device.specs.Device.{State}
 use Rattle.bay_device.specs.Fresh.{Past}
 use Rattle.bay_device.specs.declared.event.Step.{Step}
@@ -13,6 +13,7 @@ use Rattle.bay_report.specs.Report.{report_text}
 use Rattle.bay_report.specs.declared.load.Form.TheVariants.{Logic}
 use Rattle.bay_report_laws.specs.Printed.{PrintedCommand, lines_in, printed_command}
 use Rattle.bay_report_laws.specs.Released.{IsPrintedFor}
+use Rattle.bay_rules.specs.Process.{holds}
 use Rattle.bay_rules.specs.declared.rule.Rule.{Rule}
 use Rattle.bay_rules.specs.declared.rule.RuleKind.TheVariants.{Never}
 use Rattle.bay_rules.specs.declared.rule.Timing.{Timing}
@@ -41,14 +42,17 @@ pub record IsIssued (begin : List ℕ) (first : State) (past : List Past)
   pub named : switch.id ≡ printed.id
   pub operation : command.operation ≡ printed.operation
 
--- Each command's line of a text is of such a command, of which this is so on the device before the
--- event.
-abbrev pub LinesAre : (State → Command → Type 0) → List ℕ → State → List Past → List ℕ → Type 0
-LinesAre Is begin first past text =
+-- Each command's line of a text is of such a command; and where it names the switch of the rule, and
+-- its operation, the condition of the rule did not hold before the event, of what the process had
+-- last reported.
+abbrev pub LinesObey : Rule → List ℕ → State → List Past → List ℕ → Type 0
+LinesObey rule begin first past text =
     (before after : List (List ℕ)) (line : List ℕ) (printed : PrintedCommand)
     → lines_in text ≡ before ++ line ∷ after → printed_command line ≡ Some printed
     → (i : IsIssued begin first past before line printed)
-    × Is (device_after first i.earlier) i.command
+    × ((switch : Switch) → slice_get first.switches rule.switch ≡ Some switch
+    → printed.id ≡ switch.id → printed.operation ≡ rule.operation
+    → holds rule.when (process_of (device_after first i.earlier)) ≡ false)
 
 -- ---- runs
 
@@ -63,7 +67,7 @@ pub record RunObeys (parts : ScenarioParts) (first : State) (text : List ℕ) (s
       → EachPast (CommandsObeyAt rule) first run.past
   pub lines : (rules : List ℕ) (rule : Rule) → rule.kind ≡ Never
       → IsAudited Plainly parts.bay Logic parts.logic rules rule
-      → LinesAre (IsAllowed rule) (report_text run.printed.report) first run.past text
+      → LinesObey rule (report_text run.printed.report) first run.past text
   pub wait : (rules : List ℕ) (rule : Rule) (timing : Timing) → rule.kind ≡ Never
       → rule.timed ≡ Some timing → IsAudited ByTimer parts.bay Logic parts.logic rules rule
       → PastWaits rule timing first run.past

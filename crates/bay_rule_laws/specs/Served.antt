@@ -1,15 +1,18 @@
 -- What an audited rule says of the commands of a service.
-use Rattle.std.specs.Prelude.{ℕ, ◌≡◌, List, [], ◌∷◌, Option, Some, Result, Ok, Err, MatchResult}
-use Rattle.bay_audit_laws.specs.Laws.{IsAllowed}
+use Rattle.std.specs.Prelude.{ℕ, ◌≡◌, false, slice_get, List, [], ◌∷◌, Option, Some, Result, Ok, Err, MatchResult}
+use Rattle.bay_audit_laws.specs.Laws.{IsAllowed, process_of}
 use Rattle.bay_device.specs.Device.{State}
 use Rattle.bay_device.specs.Fresh.{Past}
 use Rattle.bay_files.specs.Files.{FileGuards, FileReads, FilesData}
 use Rattle.bay_io.specs.Calls.{WriteCall}
 use Rattle.bay_io.specs.Watched.{Writing}
 use Rattle.bay_io.specs.declared.outbox.WriteFault.{WriteFault}
+use Rattle.bay_nodes.specs.declared.switch.Switch.{Switch}
 use Rattle.bay_report.specs.LogLines.{PrintsLogs}
 use Rattle.bay_report.specs.declared.load.Form.{Form}
 use Rattle.bay_report.specs.declared.load.Form.TheVariants.{Logic, Image}
+use Rattle.bay_report_laws.specs.Printed.{PrintedCommand}
+use Rattle.bay_rules.specs.Process.{holds}
 use Rattle.bay_rules.specs.declared.rule.Rule.{Rule}
 use Rattle.bay_rules.specs.declared.rule.RuleKind.TheVariants.{Never}
 use Rattle.bay_rules.specs.declared.rule.Timing.{Timing}
@@ -22,6 +25,7 @@ use Rattle.bay_serving_files.specs.Live.{InLater}
 use Rattle.bay_serving_files.specs.Orders.{IsOrdered}
 use Rattle.bay_serving_files.specs.Serve.{FileNames, LoadsFiles, ServesBound, ServesFiles, ServesLoaded, ServesPorts, UnservedReport}
 use Rattle.bay_serving_files.specs.Service.{DoneTurn, held_behind, past_behind}
+use Rattle.bay_serving_files.specs.Texts.{IsPrintedFor}
 use Rattle.bay_serving_files.specs.declared.serve.Bound.{Bound}
 use Rattle.bay_serving_files.specs.declared.serve.Loaded.{Loaded}
 use Rattle.bay_serving_files.specs.declared.serve.Numbers.{Numbers}
@@ -34,12 +38,17 @@ use Rattle.bay_rule_laws.specs.Waits.{OrdersWait}
 
 -- Whatever stands behind a command of one of the turns, at the device right before the client's
 -- octets: where the rule forbids the command while its condition holds, the condition does not
--- hold of what the process had last reported.
+-- hold of what the process had last reported. So it is of what stands behind a line that reads as a
+-- command, where it names the switch of the rule, and its operation.
 abbrev pub OrdersObey : Rule → State → Held → List Past → List DoneTurn → Type 0
 OrdersObey rule first h past [] = Unit {0}
 OrdersObey rule first h past (t ∷ ts) =
     ((command : Command) (o : IsOrdered first h t past command)
     → IsAllowed rule (done_at t.now o.heard.front h.device).after command)
+    × ((printed : PrintedCommand) (p : IsPrintedFor first h t past printed) (switch : Switch)
+    → slice_get first.switches rule.switch ≡ Some switch → printed.id ≡ switch.id
+    → printed.operation ≡ rule.operation
+    → holds rule.when (process_of (done_at t.now p.ordered.heard.front h.device).after) ≡ false)
     × OrdersObey rule first (held_behind t h)
     (past_behind t.now (turn_events t.now t.given t.script h) h.device past) ts
 

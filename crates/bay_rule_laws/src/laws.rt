@@ -10,8 +10,8 @@ use bay_serve::link::Link;
 use bay_serving::host::Host;
 
 /// What an audit answers is so of each service of the same bay file and program. Behind each
-/// command that a turn tells, and so behind each that is printed, or told the process, stand octets
-/// of a client. Where the audit answers that a rule holds which forbids the command while a
+/// command that a turn tells, and behind each line `ms command id on` (or `off`) that is printed, or
+/// told the process, stand octets of a client. Where the audit answers that a rule holds which forbids the command while a
 /// condition holds, this condition does not hold of what the process had last reported before
 /// these octets. Where it answers that a timer bears a rule with a time, and the rule is asked of
 /// what the process had last reported, its condition had held for the time at the last scan. An
@@ -28,12 +28,13 @@ pub fn served_commands_obey<F: FileSystem, L: Link, H: Host<L>, W: Sink>(
 
 /// What an audit answers is so of each replay whose scenario has the same bay file and program:
 /// where a rule holds that forbids a command while a condition holds, the command is issued by an
-/// event before which the condition did not hold of what the process had last reported, and each
-/// line `ms command id on` (or `off`) is of such an event. Where a timer bears a rule with a time,
-/// the commands wait for it.
+/// event before which the condition did not hold of what the process had last reported. So it is
+/// of each line `ms command id on` (or `off`) of its text that names the switch of the rule by its
+/// id. Where a timer bears a rule with a time, the commands wait for it.
 pub fn replayed_commands_obey()
     ensures { ReplayedCommandsObey }
 {}
+
 /// Each line `rule LINE ID OPERATION holds ..` of an audit's text is of a rule that stands in this
 /// line of the text of rules, for this operation of the switch with this id, and of which the audit
 /// answers that it holds, or that a timer bears it.
