@@ -65,6 +65,17 @@ right-rule g rule (Open case kept) never so right = absurd so
 right-rule g rule TooMany never so right = absurd so
 right-rule g rule (Since n cases) never so right = absurd so
 
+-- so does each rule without a time
+pub plain-rule : (g : BoundProgram) (rule : Rule) (answer : Answer) → rule.timed ≡ None
+    → Plainly answer → IsRight g rule answer → IsRule g rule
+plain-rule g rule (Holds cases) plain so right =
+    subst (λ (o : Option Timing). MatchOption o (IsAnswer g (plain_demand rule) (Holds cases))
+    (λ timing. IsUntil g rule timing (Holds cases))) plain right
+plain-rule g rule (Broken case) plain so right = absurd so
+plain-rule g rule (Open case kept) plain so right = absurd so
+plain-rule g rule TooMany plain so right = absurd so
+plain-rule g rule (Since n cases) plain so right = absurd so
+
 -- A timer bears a rule with a time that forbids.
 pub record Borne (g : BoundProgram) (rule : Rule) (timing : Timing) : Type 0 where
   pub timer : ℕ

@@ -3,10 +3,9 @@ use Rattle.std.proofs.Common.{◌≡◌, ◌+◌, ℕ, ◌<◌, Bool, true, fals
 use Rattle.std.specs.Prelude.{IfSome}
 use Rattle.std.proofs.lemmas.List.Elements.{All-cons, All-head, All-nil, All-tail, All-weaker}
 use Rattle.std.specs.declared.net.socket_addr.SocketAddrV4.{SocketAddrV4}
-use Rattle.bay_audit.specs.Process.{IsProcess}
 use Rattle.bay_audit.specs.Rules.{IsRule, program_of}
-use Rattle.bay_audit_laws.specs.Laws.{CommandsObeyAt, IsAllowed, IsOfType, process_of}
-use Rattle.bay_audit_laws.proofs.LawLemmas.{Obeying, Turned, allowed, commands-obey, led-step, obeying-first, process-so, turned}
+use Rattle.bay_audit_laws.specs.Laws.{CommandsObeyAt, IsAllowed, IsOfType, ScanObeysAt, process_of}
+use Rattle.bay_audit_laws.proofs.LawLemmas.{Led, Obeying, Turned, allowed, commands-obey, led-step, obeying-first, process-so, turned}
 use Rattle.bay_config.specs.Laws.{IsBay}
 use Rattle.bay_config.specs.declared.bay.Bay.{Bay}
 use Rattle.bay_device.specs.Device.{State}
@@ -36,7 +35,7 @@ use Rattle.bay_serve_laws.specs.Order.{AreClosings, Then, brought, opened, opene
 use Rattle.bay_serve_laws.proofs.OrderLemmas.{in-order}
 use Rattle.bay_serve_laws.proofs.PartLemmas.{Part-turn}
 use Rattle.bay_serving_files.specs.Orders.{IsOrdered}
-use Rattle.bay_serving_files.specs.Service.{AreTurns, DoneTurn, held_behind, past_behind}
+use Rattle.bay_serving_files.specs.Service.{AreTurns, DoneTurn, held_behind, past_behind, past_of}
 use Rattle.bay_serving_files.proofs.FrontLemmas.{Begins, Behind, Reads, closings-all, reads-all, then-all, why_closed}
 use Rattle.bay_rule_laws.specs.Served.{OrdersObey}
 use Rattle.bay_rule_laws.proofs.IdLemmas.{ids-apart}
@@ -123,6 +122,30 @@ abbrev pub AreGiven : List DoneTurn → Type 0
 AreGiven [] = Unit {0}
 AreGiven (t ∷ ts) = IfSome t.given.event EventFits × AreGiven ts
 
+-- each event of a history is of its type
+abbrev pub AreTypedPast : State → List Past → Type 0
+AreTypedPast first past = EachPast (λ now event old answer new. IsOfType event) first past
+
+-- so are those of turns
+events-behind : (now : ℕ) (es : List ChosenEvent) (first s : State) (past : List Past)
+    → AreTyped es → AreTypedPast first past → AreTypedPast first (past_behind now es s past)
+events-behind now [] first s past typed before = before
+events-behind now (e ∷ es) first s past typed before =
+    let o = outcome e.0 now e.1 s in
+    events-behind now es first o.after
+    (record { now = now; event = e.1; answer = o.answer; after = o.after } ∷ past)
+    (All-tail IsTyped e es typed) (All-head IsTyped e es typed, before)
+
+pub turns-typed : (first : State) (ts : List DoneTurn) (h : Held) (past : List Past)
+    → AreTurns h ts → AreGiven ts → AreTypedPast first past
+    → AreTypedPast first (past_of ts h past)
+turns-typed first [] h past are given before = before
+turns-typed first (t ∷ ts) h past are given before =
+    let events = turn_events t.now t.given t.script h in
+    turns-typed first ts (held_behind t h) (past_behind t.now events h.device past) are.1 given.1
+    (events-behind t.now events first h.device past
+    (events-typed t.now t.given t.script h are.0.all_read are.0.all_offered given.0) before)
+
 -- ---- a device whose scans halt
 
 module _ (bay : Bay) (image : Image) (rule : Rule) (is_bay : IsBay bay)
@@ -131,17 +154,29 @@ module _ (bay : Bay) (image : Image) (rule : Rule) (is_bay : IsBay bay)
     abbrev pub Good : State → Type 0
     Good s = Obeying bay image rule s × Steady s
 
+    turn-of : (now : ℕ) (event : Event) (old : State) (answer : Result Step StepFault)
+        (new : State) → IsOfType event → Steps now event old answer new → Good old
+        → Turned now event old answer new
+    turn-of now event old answer new typed steps g =
+        turned now event old answer new typed steps
+        (steady-halts now event old answer new
+        (process-so bay image rule is_bay there holds_so old g.0) g.1 steps)
+
+    led : (now : ℕ) (event : Event) (old : State) (answer : Result Step StepFault) (new : State)
+        → IsOfType event → Steps now event old answer new → Good old
+        → Led bay image rule is_bay there holds_so event old answer new
+    led now event old answer new typed steps g =
+        led-step bay image rule is_bay there holds_so now event old answer new g.0
+        (turn-of now event old answer new typed steps g)
+
     good-step : (now : ℕ) (event : Event) (old : State) (answer : Result Step StepFault)
         (new : State) → IsOfType event → Steps now event old answer new → Good old → Good new
-    good-step now event old answer new typed steps g =
-        let is : IsProcess (process_of old) =
-        process-so bay image rule is_bay there holds_so old g.0 in
-        let turn : Turned now event old answer new =
-        turned now event old answer new typed steps (steady-halts now event old answer new is g.1 steps)
-        in (
-          (led-step bay image rule is_bay there holds_so now event old answer new g.0 turn).goes_on,
-          steady-on now event old answer new is g.1 steps turn,
-        )
+    good-step now event old answer new typed steps g = (
+      (led now event old answer new typed steps g).goes_on,
+      steady-on now event old answer new
+          (process-so bay image rule is_bay there holds_so old g.0) g.1 steps
+          (turn-of now event old answer new typed steps g),
+    )
 
     good-events : (now : ℕ) (es : List ChosenEvent) (s : State) → AreTyped es → Good s
         → Good (done_at now es s).after
@@ -196,18 +231,23 @@ module _ (bay : Bay) (image : Image) (rule : Rule) (is_bay : IsBay bay)
     -- ---- a history
 
     pub past-obeys : (first : State) (past : List Past) → EachPast Steps first past
-        → EachPast (λ now event old answer new. IsOfType event) first past → Good first
-        → EachPast (CommandsObeyAt rule) first past × Good (device_after first past)
-    past-obeys first [] steps typed g = (tt, g)
+        → AreTypedPast first past → Good first
+        → EachPast (CommandsObeyAt rule) first past × EachPast (ScanObeysAt rule) first past
+        × Good (device_after first past)
+    past-obeys first [] steps typed g = (tt, tt, g)
     past-obeys first (p ∷ past) steps typed g =
         let before = past-obeys first past steps.1 typed.1 g in
         let old : State = device_after first past in (
           (
             commands-obey bay image rule is_bay there holds_so p.now p.event old p.answer p.after
-                before.1.0 (step-commanded p.now p.event old p.answer p.after steps.0),
+                before.2.0 (step-commanded p.now p.event old p.answer p.after steps.0),
             before.0,
           ),
-          good-step p.now p.event old p.answer p.after typed.0 steps.0 before.1,
+          (
+            (led p.now p.event old p.answer p.after typed.0 steps.0 before.2).scan_obeys,
+            before.1,
+          ),
+          good-step p.now p.event old p.answer p.after typed.0 steps.0 before.2,
         )
 
     -- a device as it is loaded

@@ -1,10 +1,10 @@
 -- The events of a replay are of their types, and its commands obey what an audit answers.
-use Rattle.std.proofs.Common.{◌≡◌, ◌++◌, ℕ, All, List, [], ◌∷◌, slice_get, Option, Some, Result, Ok, IfOk, refl, ap, sym, subst, ◌∙◌}
+use Rattle.std.proofs.Common.{◌≡◌, ◌++◌, ℕ, All, List, [], ◌∷◌, slice_get, Option, None, Some, Result, Ok, IfOk, refl, ap, sym, subst, ◌∙◌}
 use Rattle.std.specs.List.{Contains}
 use Rattle.std.specs.Prelude.{IfSome}
 use Rattle.std.proofs.lemmas.List.Elements.{All-contains}
-use Rattle.bay_audit.specs.Rules.{program_of}
-use Rattle.bay_audit_laws.specs.Laws.{CommandsObeyAt, IsAllowed, IsOfType}
+use Rattle.bay_audit.specs.Rules.{IsRule, program_of}
+use Rattle.bay_audit_laws.specs.Laws.{CommandsObeyAt, IsAllowed, IsOfType, ScanObeysAt}
 use Rattle.bay_config.specs.Laws.{IsBay}
 use Rattle.bay_config.specs.declared.bay.Bay.{Bay}
 use Rattle.bay_device.specs.Device.{State}
@@ -32,7 +32,7 @@ use Rattle.bay_trace.specs.Trace.{LineData, at_moment}
 use Rattle.bay_rule_laws.specs.Audited.{ByTimer, IsAudited, Plainly}
 use Rattle.bay_rule_laws.specs.Replayed.{IsIssued, LinesObey, ReplayedCommandsObey}
 use Rattle.bay_rule_laws.specs.Waits.{PastWaits}
-use Rattle.bay_rule_laws.proofs.AuditLemmas.{audited, right-rule, right-timer, text-begins}
+use Rattle.bay_rule_laws.proofs.AuditLemmas.{OfOctets, audited, plain-rule, right-rule, right-timer, text-begins}
 use Rattle.bay_rule_laws.proofs.IdLemmas.{ids-apart}
 use Rattle.bay_rule_laws.proofs.ObeyLemmas.{Good, good-first, past-obeys}
 use Rattle.bay_rule_laws.proofs.TypeLemmas.{LineFits, line-fits, placed-fits}
@@ -121,19 +121,35 @@ module _ (parts : ScenarioParts) (first : State) (text : List ℕ) (status : ℕ
 
   -- ---- runs
 
+  run-goes : (rule : Rule)
+      (own : OfOctets Plainly parts.bay Logic parts.logic rule)
+      → IsRule (program_of own.own own.image) rule
+      → EachPast (CommandsObeyAt rule) first run.past × EachPast (ScanObeysAt rule) first run.past
+  run-goes rule own rule_so =
+      let b = text-begins parts.bay parts.logic first run.loaded run.runs own.own own.image
+      own.read own.made in
+      let goes =
+      past-obeys own.own own.image rule b.sound own.there rule_so first run.past run.steps
+      (lines-typed first run.past run.printed.lines run.printed.events)
+      (subst (Good own.own own.image rule b.sound own.there rule_so) (sym b.is)
+      (good-first own.own own.image rule b.sound own.there rule_so b.steady)) in
+      (goes.0, goes.1)
+
   run-obeys : (rules : List ℕ) (rule : Rule) → rule.kind ≡ Never
       → IsAudited Plainly parts.bay Logic parts.logic rules rule
       → EachPast (CommandsObeyAt rule) first run.past
   run-obeys rules rule never is =
       let own = audited Plainly parts.bay Logic parts.logic rule rules is in
-      let b = text-begins parts.bay parts.logic first run.loaded run.runs own.own own.image
-      own.read own.made in
-      let rule_so = right-rule (program_of own.own own.image) rule own.answer never own.so
-      own.right in
-      (past-obeys own.own own.image rule b.sound own.there rule_so first run.past run.steps
-      (lines-typed first run.past run.printed.lines run.printed.events)
-      (subst (Good own.own own.image rule b.sound own.there rule_so) (sym b.is)
-      (good-first own.own own.image rule b.sound own.there rule_so b.steady))).0
+      (run-goes rule own
+      (right-rule (program_of own.own own.image) rule own.answer never own.so own.right)).0
+
+  run-scans : (rules : List ℕ) (rule : Rule) → rule.timed ≡ None
+      → IsAudited Plainly parts.bay Logic parts.logic rules rule
+      → EachPast (ScanObeysAt rule) first run.past
+  run-scans rules rule plain is =
+      let own = audited Plainly parts.bay Logic parts.logic rule rules is in
+      (run-goes rule own
+      (plain-rule (program_of own.own own.image) rule own.answer plain own.so own.right)).1
 
   run-waits : (rules : List ℕ) (rule : Rule) (timing : Timing) → rule.kind ≡ Never
       → rule.timed ≡ Some timing → IsAudited ByTimer parts.bay Logic parts.logic rules rule
@@ -160,4 +176,5 @@ replayed-obey parts first text status run = record {
       (ap (λ (s : State). s.switches) run.loaded.is) rule never
       (run-obeys parts first text status run rules rule never is);
   wait = run-waits parts first text status run;
+  scans = run-scans parts first text status run;
 }

@@ -19,7 +19,9 @@ use Rattle.bay_serving.specs.ServeReport.{AfterTurn, Hearing, Serving, ServesTur
 use Rattle.bay_serving.specs.declared.host.BindFault.{BindFault}
 use Rattle.bay_serving_files.specs.Live.{InLater}
 use Rattle.bay_serving_files.specs.Serve.{BindsPorts, BindsProcess, FileNames, IsBound, LoadsFiles, ServesBound, ServesLoaded, UnservedReport, made_of}
-use Rattle.bay_serving_files.specs.Service.{AreTurns, DoneTurn, later_turns, turns_in}
+use Rattle.bay_serving_files.specs.Service.{AreTurns, DoneTurn, later_turns, past_of, turns_in}
+use Rattle.bay_serving_files.proofs.HistoryLemmas.{stands-first}
+use Rattle.bay_serving_files.proofs.TurnLemmas.{stands-turns}
 use Rattle.bay_serving_files.specs.declared.serve.Bound.{Bound}
 use Rattle.bay_serving_files.specs.declared.serve.Loaded.{Loaded}
 use Rattle.bay_serving_files.specs.declared.serve.Numbers.{Numbers}
@@ -27,8 +29,8 @@ use Rattle.bay_serving_files.specs.declared.serve.Unserved.{Unserved}
 use Rattle.bay_serving_files.specs.declared.serve.Unserved.TheVariants as unserved
 use Rattle.bay_rule_laws.specs.Audited.{ByTimer, Plainly}
 use Rattle.bay_rule_laws.specs.Served.{ObeyAuditsOf, OfBound, OfFiles, ServedCommandsObey}
-use Rattle.bay_rule_laws.proofs.AuditLemmas.{audited, begins, right-rule, right-timer}
-use Rattle.bay_rule_laws.proofs.ObeyLemmas.{AreGiven, Good, good-first, turns-obey}
+use Rattle.bay_rule_laws.proofs.AuditLemmas.{audited, begins, plain-rule, right-rule, right-timer}
+use Rattle.bay_rule_laws.proofs.ObeyLemmas.{AreGiven, Good, good-first, past-obeys, turns-obey, turns-typed}
 use Rattle.bay_rule_laws.proofs.TypeLemmas.{choice-fits}
 use Rattle.bay_rule_laws.proofs.WaitLemmas.{Ready, ready-first, turns-wait}
 
@@ -126,6 +128,20 @@ loaded-obeys f both device loads ts are given file = record {
       (sym b.is)
       (ready-first own.own own.image rule timing borne.timer b.sound own.there borne.bears
       b.steady));
+  scans = λ rules rule plain is.
+      let own = audited Plainly both.bay f both.program rule rules is in
+      let b = begins both.bay f both.program device loads file own.own own.image own.read own.made
+      in
+      let rule_so = plain-rule (program_of own.own own.image) rule own.answer plain own.so own.right
+      in
+      let stands =
+      stands-turns device ts (made_of device) []
+      (stands-first device (own.own, own.image, b.is)) in
+      (past-obeys own.own own.image rule b.sound own.there rule_so device
+      (past_of ts (made_of device) []) stands.steps
+      (turns-typed device ts (made_of device) [] are given tt)
+      (subst (Good own.own own.image rule b.sound own.there rule_so) (sym b.is)
+      (good-first own.own own.image rule b.sound own.there rule_so b.steady))).1;
 }
 
 module _ {L H W : Type 0} (step : L → Call → L → Type 0) (acts : H → HostCall L → H → Type 0)

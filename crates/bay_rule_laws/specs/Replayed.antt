@@ -1,7 +1,7 @@
 -- What an audited rule says of the commands of a replay.
-use Rattle.std.specs.Prelude.{ℕ, ◌≡◌, false, List, ◌∷◌, ◌++◌, slice_get, Some, Ok}
+use Rattle.std.specs.Prelude.{ℕ, ◌≡◌, false, List, ◌∷◌, ◌++◌, slice_get, None, Some, Ok}
 use Rattle.std.specs.List.{Contains}
-use Rattle.bay_audit_laws.specs.Laws.{CommandsObeyAt, process_of}
+use Rattle.bay_audit_laws.specs.Laws.{CommandsObeyAt, ScanObeysAt, process_of}
 use Rattle.bay_device.specs.Device.{State}
 use Rattle.bay_device.specs.Fresh.{Past}
 use Rattle.bay_device.specs.declared.event.Step.{Step}
@@ -59,7 +59,8 @@ LinesObey rule begin first past text =
 -- The events of a run obey each rule that forbids, if an audit of the same octets answers so that it
 -- holds: a command that the rule forbids while its condition holds is issued by an event before
 -- which it did not hold of what the process had last reported. So it is of each command's line of
--- the text. They wait for each rule with a time, if it answers that a timer bears it.
+-- the text. They wait for each rule with a time, if it answers that a timer bears it. Each scan obeys
+-- each rule without a time that holds.
 pub record RunObeys (parts : ScenarioParts) (first : State) (text : List ℕ) (status : ℕ)
     (run : IsRun parts first text status) : Type 0 where
   pub obey : (rules : List ℕ) (rule : Rule) → rule.kind ≡ Never
@@ -71,6 +72,9 @@ pub record RunObeys (parts : ScenarioParts) (first : State) (text : List ℕ) (s
   pub wait : (rules : List ℕ) (rule : Rule) (timing : Timing) → rule.kind ≡ Never
       → rule.timed ≡ Some timing → IsAudited ByTimer parts.bay Logic parts.logic rules rule
       → PastWaits rule timing first run.past
+  pub scans : (rules : List ℕ) (rule : Rule) → rule.timed ≡ None
+      → IsAudited Plainly parts.bay Logic parts.logic rules rule
+      → EachPast (ScanObeysAt rule) first run.past
 
 -- So do those of each run of a scenario's device.
 abbrev pub ReplayedCommandsObey : Type 0

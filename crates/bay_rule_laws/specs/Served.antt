@@ -1,6 +1,6 @@
 -- What an audited rule says of the commands of a service.
-use Rattle.std.specs.Prelude.{ℕ, ◌≡◌, false, slice_get, List, [], ◌∷◌, Option, Some, Result, Ok, Err, MatchResult}
-use Rattle.bay_audit_laws.specs.Laws.{IsAllowed, process_of}
+use Rattle.std.specs.Prelude.{ℕ, ◌≡◌, false, slice_get, List, [], ◌∷◌, Option, None, Some, Result, Ok, Err, MatchResult}
+use Rattle.bay_audit_laws.specs.Laws.{IsAllowed, ScanObeysAt, process_of}
 use Rattle.bay_device.specs.Device.{State}
 use Rattle.bay_device.specs.Fresh.{Past}
 use Rattle.bay_files.specs.Files.{FileGuards, FileReads, FilesData}
@@ -8,6 +8,7 @@ use Rattle.bay_io.specs.Calls.{WriteCall}
 use Rattle.bay_io.specs.Watched.{Writing}
 use Rattle.bay_io.specs.declared.outbox.WriteFault.{WriteFault}
 use Rattle.bay_nodes.specs.declared.switch.Switch.{Switch}
+use Rattle.bay_replay.specs.History.{EachPast}
 use Rattle.bay_report.specs.LogLines.{PrintsLogs}
 use Rattle.bay_report.specs.declared.load.Form.{Form}
 use Rattle.bay_report.specs.declared.load.Form.TheVariants.{Logic, Image}
@@ -24,7 +25,7 @@ use Rattle.bay_serving.specs.Host.{HostCall}
 use Rattle.bay_serving_files.specs.Live.{InLater}
 use Rattle.bay_serving_files.specs.Orders.{IsOrdered}
 use Rattle.bay_serving_files.specs.Serve.{FileNames, LoadsFiles, ServesBound, ServesFiles, ServesLoaded, ServesPorts, UnservedReport}
-use Rattle.bay_serving_files.specs.Service.{DoneTurn, held_behind, past_behind}
+use Rattle.bay_serving_files.specs.Service.{DoneTurn, held_behind, past_behind, past_of}
 use Rattle.bay_serving_files.specs.Texts.{IsPrintedFor}
 use Rattle.bay_serving_files.specs.declared.serve.Bound.{Bound}
 use Rattle.bay_serving_files.specs.declared.serve.Loaded.{Loaded}
@@ -58,7 +59,8 @@ IsFile Logic program = Unit {0}
 IsFile Image program = AreOctets program
 
 -- Turns of a server, from its first on, obey each rule that forbids, if an audit of the same octets
--- answers so that it holds, and wait for each with a time, if it answers that a timer bears it.
+-- answers so that it holds, and wait for each with a time, if it answers that a timer bears it. Each
+-- scan in them obeys each rule without a time that holds.
 pub record ObeyAudits (form : Form) (both : FilesData) (begun : Held) (turns : List DoneTurn)
     : Type 0 where
   pub obey : (rules : List ℕ) (rule : Rule) → rule.kind ≡ Never
@@ -66,6 +68,9 @@ pub record ObeyAudits (form : Form) (both : FilesData) (begun : Held) (turns : L
   pub wait : (rules : List ℕ) (rule : Rule) (timing : Timing) → rule.kind ≡ Never
       → rule.timed ≡ Some timing → IsAudited ByTimer both.bay form both.program rules rule
       → OrdersWait rule timing begun.device begun [] [] turns
+  pub scans : (rules : List ℕ) (rule : Rule) → rule.timed ≡ None
+      → IsAudited Plainly both.bay form both.program rules rule
+      → EachPast (ScanObeysAt rule) begun.device (past_of turns begun [])
 
 -- So it is of a program's text, and of the octets of an image.
 abbrev pub ObeyAuditsOf : Form → FilesData → Held → List DoneTurn → Type 0

@@ -14,9 +14,10 @@ use bay_serving::host::Host;
 /// told the process, stand octets of a client. Where the audit answers that a rule holds which forbids the command while a
 /// condition holds, this condition does not hold of what the process had last reported before
 /// these octets. Where it answers that a timer bears a rule with a time, and the rule is asked of
-/// what the process had last reported, its condition had held for the time at the last scan. An
-/// image may come from any hand: it is asked to be a list of octets, and of a program's text
-/// nothing is asked.
+/// what the process had last reported, its condition had held for the time at the last scan. Each
+/// scan of a turn leaves the interlocking values as each rule without a time has it that the audit
+/// answers so that it holds. An image may come from any hand: it is asked to be a list of octets,
+/// and of a program's text nothing is asked.
 pub fn served_commands_obey<F: FileSystem, L: Link, H: Host<L>, W: Sink>(
     _files: &F,
     _link: &L,
@@ -30,7 +31,8 @@ pub fn served_commands_obey<F: FileSystem, L: Link, H: Host<L>, W: Sink>(
 /// where a rule holds that forbids a command while a condition holds, the command is issued by an
 /// event before which the condition did not hold of what the process had last reported. So it is
 /// of each line `ms command id on` (or `off`) of its text that names the switch of the rule by its
-/// id. Where a timer bears a rule with a time, the commands wait for it.
+/// id. Where a timer bears a rule with a time, the commands wait for it; and each scan obeys each
+/// rule without a time that holds.
 pub fn replayed_commands_obey()
     ensures { ReplayedCommandsObey }
 {}
