@@ -24,6 +24,7 @@ NO_LAW = {
     'bay_main Ended::of': OWN_WORDS + 'a status for each answer',
     'bay_output Log::put': OWN_WORDS + 'a line behind those that wait, whole, or one more that is '
                            'lost',
+    'bay_output Output::new': OWN_WORDS + 'what each call leaves written, and what waits',
     'bay_replay replay_watched': OWN_WORDS + 'what the reads gave, and what the writes took',
     'bay_report tell_unread': OWN_WORDS + 'the words of the line, and what is printed',
     'bay_serve serve_turn': 'it speaks of refusals alone; what a turn does has its laws in '
