@@ -148,7 +148,9 @@ class Cases:
             found[case[1]] = Answer(self.renamed(printed.get(case[1], '')), self.renamed(logged),
                                     int(case[3] or 0))
         if set(found) != set(self.order):
-            told = (error.strip() or out.strip()).split('\n')[-1][:SHOWN]
+            lines = [line for line in (error + out).split('\n') if line
+                     and not line.startswith(('run=', 'cases='))]
+            told = next((it for it in lines if 'error' in it), ''.join(lines[-1:]))[:SHOWN]
             raise Failed(f'`rt try` in crates/bayctl: {told}')
         return [found[name] for name in self.order]
 

@@ -87,10 +87,11 @@ class Tried(Tools):
             self.assertEqual((found.status, found.out, found.error.count('\n')), (status, '', 1))
 
     def test_an_rt_that_gives_no_answer(self):
-        self.file('rt', f'#!{sys.executable}\nprint("no such crate")\n').chmod(0o755)
+        self.file('rt', f'#!{sys.executable}\nprint("x\\na: error: no such crate\\n"\n'
+                  '"run=none proved=no")\n').chmod(0o755)
         found = self.call_tool('bayctl_try', 'check')
         self.assertEqual((found.status, found.error),
-                         (3, 'bayctl_try: `rt try` in crates/bayctl: no such crate\n'))
+                         (3, 'bayctl_try: `rt try` in crates/bayctl: a: error: no such crate\n'))
         (self.folder / 'rt').unlink()
         found = self.call_tool('bayctl_try', 'check')
         self.assertEqual((found.status, found.error.count('\n')), (3, 1))
