@@ -102,13 +102,15 @@ pub record Placed (past : List Past) (before : List (List ℕ)) (line : List ℕ
   pub part : List (List ℕ)
   pub rest : List (List ℕ)
   pub own : step_text order.now order.answer order.after ≡ ended (part ++ line ∷ rest)
+  pub fore : Each (λ l. IsLineOf order.now order.answer order.after l) part
   pub is : IsLineOf order.now order.answer order.after line
   pub behind : before ≡ flat groups ++ part
 
-each-at : (Is : List ℕ → Type 0) (part : List (List ℕ)) (line : List ℕ) (rest : List (List ℕ))
-    → Each Is (part ++ line ∷ rest) → Is line
-each-at Is [] line rest each = each.0.1
-each-at Is (x ∷ part) line rest each = each-at Is part line rest each.1
+each-cut : (Is : List ℕ → Type 0) (part : List (List ℕ)) (line : List ℕ) (rest : List (List ℕ))
+    → Each Is (part ++ line ∷ rest) → Each Is part × Is line
+each-cut Is [] line rest each = (tt, each.0.1)
+each-cut Is (x ∷ part) line rest each =
+    let there = each-cut Is part line rest each.1 in ((each.0, there.0), there.1)
 
 -- a printed line belongs to one event, with the lines before it
 pub placed : (past : List Past) (gs : Groups) (before after : List (List ℕ)) (line : List ℕ)
@@ -130,23 +132,28 @@ placed (p ∷ past) (g ∷ gs) before after line are e = elim (cut (flat gs) g b
         part = there.part;
         rest = there.rest;
         own = there.own;
+        fore = there.fore;
         is = there.is;
         behind = there.behind;
       })
-  | inr s ↦ record {
-    later = [];
-    order = p;
-    earlier = past;
-    split = refl;
-    groups = gs;
-    are = are.1;
-    part = s.part;
-    rest = after;
-    own = are.0.whole ∙ ap ended s.second;
-    is = each-at (λ l. IsLineOf p.now p.answer p.after l) s.part line after
-        (subst (λ ls. Each (λ l. IsLineOf p.now p.answer p.after l) ls) s.second are.0.each);
-    behind = s.before;
-  }
+  | inr s ↦
+      (let each =
+      each-cut (λ l. IsLineOf p.now p.answer p.after l) s.part line after
+      (subst (λ ls. Each (λ l. IsLineOf p.now p.answer p.after l) ls) s.second are.0.each) in
+      record {
+        later = [];
+        order = p;
+        earlier = past;
+        split = refl;
+        groups = gs;
+        are = are.1;
+        part = s.part;
+        rest = after;
+        own = are.0.whole ∙ ap ended s.second;
+        fore = each.0;
+        is = each.1;
+        behind = s.before;
+      })
 ]
 
 -- ---- the group of one of the events
@@ -157,8 +164,9 @@ pub record OneGroup (since : List Past) (q : Past) (earlier : List Past) (gs : G
   pub is : IsGroup q own
   pub others : Groups
   pub are : AreGroups earlier others
-  pub back : List (List ℕ)
-  pub split : flat gs ≡ (flat others ++ own) ++ back
+  pub between : Groups
+  pub ours : AreGroups since between
+  pub split : flat gs ≡ (flat others ++ own) ++ flat between
 
 pub one-group : (since : List Past) (q : Past) (earlier : List Past) (gs : Groups)
     → AreGroups (since ++ q ∷ earlier) gs → OneGroup since q earlier gs
@@ -168,7 +176,8 @@ one-group [] q earlier (g ∷ gs) are = record {
   is = are.0;
   others = gs;
   are = are.1;
-  back = [];
+  between = [];
+  ours = tt;
   split = sym (append-nil (flat gs ++ g));
 }
 one-group (x ∷ since) q earlier [] are = absurd are
@@ -179,9 +188,10 @@ one-group (x ∷ since) q earlier (g ∷ gs) are =
       is = there.is;
       others = there.others;
       are = there.are;
-      back = there.back ++ g;
+      between = g ∷ there.between;
+      ours = (are.0, there.ours);
       split = ap (λ ls. ls ++ g) there.split
-          ∙ append_assoc (flat there.others ++ there.own) there.back g;
+          ∙ append_assoc (flat there.others ++ there.own) (flat there.between) g;
     }
 
 -- Two lists of lines that make one text are the same.

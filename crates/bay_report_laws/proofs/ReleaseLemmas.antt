@@ -1,13 +1,15 @@
 -- Before each line of a command stands that of a scan that releases it.
-use Rattle.std.proofs.Common.{◌≡◌, ◌≢◌, ℕ, zero, suc, ◌+◌, ◌<◌, ◌≤◌, ◌^◌, true, List, [], ◌∷◌, ◌++◌, slice_get, Option, Some, None, Result, Ok, IfOk, refl, ap, ap₂, sym, subst, ◌∙◌, append_assoc, append-nil, arith}
-use Rattle.std.proofs.lemmas.List.Elements.{All-contains}
-use Rattle.std.specs.List.{Contains}
+use Rattle.std.proofs.Common.{◌≡◌, ◌≢◌, ℕ, zero, suc, ◌+◌, ◌<◌, ◌≤◌, ◌^◌, true, List, [], ◌∷◌, ◌++◌, codes, slice_get, All, Option, Some, None, Result, Ok, Err, IfOk, inl, inr, refl, ap, ap₂, sym, subst, ◌∙◌, append_assoc, append-nil, arith}
+use Rattle.std.proofs.lemmas.List.Elements.{All-append, All-contains, All-from_recursion}
+use Rattle.std.specs.Fmt.{decimal}
+use Rattle.std.specs.List.{AllByRecursion, Contains}
 use Rattle.bay_nodes.specs.declared.switch.Operation.{Operation}
 use Rattle.bay_nodes.specs.declared.switch.Operation.TheVariants as operations
 use Rattle.bay_nodes.specs.declared.switch.Switch.{Switch}
 use Rattle.bay_process.specs.Values.{is_truth}
 use Rattle.bay_process.proofs.ToldLemmas.{Keeps}
 use Rattle.bay_services.specs.Released.{releasing}
+use Rattle.bay_services.specs.declared.answer.Command.{Command}
 use Rattle.bay_tree.specs.Rows.{leaf_of}
 use Rattle.bay_device.specs.Commands.{AreCommanded, CommandedAt, IsReleasedAt}
 use Rattle.bay_device.specs.Device.{State, device_at, ended_at, ran_at}
@@ -22,16 +24,16 @@ use Rattle.bay_report.specs.Lines.{ended_text, scan_text, step_text}
 use Rattle.bay_report.specs.Report.{report_text}
 use Rattle.bay_replay.specs.Scenario.{ScenarioParts}
 use Rattle.bay_replay.specs.History.{AllFresh, EachPast, device_after}
-use Rattle.bay_report_laws.specs.Printed.{PrintedCommand, PrintedSwitch, ended, printed_command}
+use Rattle.bay_report_laws.specs.Printed.{PrintedCommand, PrintedSwitch, ended, printed_command, printed_scan}
 use Rattle.bay_report_laws.specs.ReadBack.{HaveIds, switches_told}
 use Rattle.bay_report_laws.specs.Released.{AreReleased, CommandsAreReleased, IsPrintedFor, IsReleasedBy, lets}
 use Rattle.bay_replay.specs.Runs.{IsRun}
 use Rattle.bay_replay.proofs.HistoryLemmas.{past-fixed}
-use Rattle.bay_replay.proofs.KeptLemmas.{scan_told, step-on-time}
-use Rattle.bay_report_laws.proofs.LineLemmas.{Each, each-append, ended-append}
-use Rattle.bay_report_laws.proofs.PlaceLemmas.{AreGroups, OneGroup, Placed, flat, one-group, same-lines}
+use Rattle.bay_replay.proofs.KeptLemmas.{scan_told, step-on-time, turned}
+use Rattle.bay_report_laws.proofs.LineLemmas.{Each, decimal-free, each-append, ended-append}
+use Rattle.bay_report_laws.proofs.PlaceLemmas.{AreGroups, Groups, OneGroup, Placed, flat, one-group, same-lines}
 use Rattle.bay_report_laws.proofs.PrintLemmas.{IsCommandLine, IsLineOf, ended-lines, load-is, scan-free, scan-is, told-plain}
-use Rattle.bay_report_laws.proofs.ReadLemmas.{scan-read, scan_line}
+use Rattle.bay_report_laws.proofs.ReadLemmas.{no-scan-line, no-space, order_word, scan-read, scan_line}
 use Rattle.bay_report_laws.proofs.ScanLemmas.{LastScan, fresh-at, last-scan, past-in, same-since}
 use Rattle.bay_report_laws.proofs.WithinLemmas.{AreFew, known-run, past-few}
 use Rattle.bay_report_laws.proofs.OrderLemmas.{load, load-no-command, of-command, of-each, order-read, order-steps, order-switches, other-no-command, printed-for, stands}
@@ -150,6 +152,68 @@ not-none : {A : Type 0} (xs : List A) (x : A) → Contains xs x → xs ≢ []
 not-none [] x at none = omega (arith, at.1)
 not-none (y ∷ xs) x at none = cc
 
+-- no scan was done for this answer
+abbrev NoneDone : Result Step StepFault → Type 0
+NoneDone answer = IfOk answer (λ step. step.scan ≡ None)
+
+none-told : (r : Result Step StepFault) → scan_told r ≡ None → NoneDone r
+none-told (Ok step) none = none
+none-told (Err fault) none = tt
+
+all-none : (ps : List Past) → AllByRecursion (λ (p : Past). scan_told p.answer ≡ None) ps
+    → AllByRecursion (λ (p : Past). NoneDone p.answer) ps
+all-none [] none = none
+all-none (p ∷ ps) none = (none-told p.answer none.0, all-none ps none.1)
+
+-- ---- the lines between
+
+abbrev NoScan : List ℕ → Type 0
+NoScan line = printed_scan line ≡ None
+
+no-scan-of : (p : Past) (line : List ℕ) → scan_told p.answer ≡ None
+    → IsLineOf p.now p.answer p.after line → NoScan line
+no-scan-of p line none (inl scan) =
+    absurd (let no : ◌≡◌ {A = Option ℕ} None (Some scan.steps) = sym none ∙ scan.told in cc)
+no-scan-of p line none (inr (inl l)) =
+    ap printed_scan l.is
+    ∙ no-scan-line (decimal p.now) (codes "command")
+    (l.switch.id ++ 32 ∷ order_word l.command.operation) (decimal-free 32 p.now no-space) refl refl
+no-scan-of p line none (inr (inr other)) = other.no_scan
+
+no-scans-of : (p : Past) (lines : List (List ℕ)) → scan_told p.answer ≡ None
+    → Each (λ line. IsLineOf p.now p.answer p.after line) lines → All NoScan lines
+no-scans-of p lines none each = All-from_recursion NoScan lines (at lines each)
+  where
+    at : (lines : List (List ℕ)) → Each (λ line. IsLineOf p.now p.answer p.after line) lines
+        → AllByRecursion NoScan lines
+    at [] each = tt
+    at (line ∷ lines) each = (no-scan-of p line none each.0.1, at lines each.1)
+
+no-scans : (past : List Past) (gs : Groups) → AreGroups past gs
+    → AllByRecursion (λ (p : Past). scan_told p.answer ≡ None) past → All NoScan (flat gs)
+no-scans [] [] are none = All-from_recursion NoScan [] tt
+no-scans [] (g ∷ gs) are none = absurd are
+no-scans (p ∷ past) [] are none = absurd are
+no-scans (p ∷ past) (g ∷ gs) are none =
+    All-append NoScan (flat gs) g (no-scans past gs are.1 none.1)
+    (no-scans-of p g none.0 are.0.each)
+
+abbrev commands_told : Result Step StepFault → List Command
+commands_told (Ok step) = step.commands
+commands_told (Err fault) = []
+
+-- an event with a command is no scan
+ordered-no-scan : (p : Past) (old : State) → Steps p.now p.event old p.answer p.after
+    → (step : Step) (command : Command) → p.answer ≡ Ok step → Contains step.commands command
+    → scan_told p.answer ≡ None
+ordered-no-scan p old steps step command done has =
+    elim (turned p.now p.event old p.answer p.after steps) [
+      | inl quiet ↦ quiet.0
+      | inr scan ↦
+          absurd (not-none step.commands command has
+          (ap commands_told (sym done ∙ scan.answered)))
+    ]
+
 regroup : {A : Type 0} (a b : List A) (x : A) (c d : List A)
     → ((a ++ (b ++ x ∷ [])) ++ c) ++ d ≡ (a ++ b) ++ x ∷ (c ++ d)
 regroup a b x c d = simp append_assoc
@@ -206,12 +270,13 @@ module _ (age : ℕ) (first : State) (past : List Past) (known : Known age first
       ap (λ ss. slice_get ss k) (switches
       ∙ sym (order-switches first past known.steps known.ids before line at l)) ∙ l.here in
       let place : before ≡ (flat g.others ++ lines.before)
-      ++ scan_line q.now steps (switches_told q.after 0 q.after.switches) ∷ (g.back ++ at.part) =
+      ++ scan_line q.now steps (switches_told q.after 0 q.after.switches) ∷ (flat g.between ++ at.part) =
       at.behind
       ∙ ap (λ ls. ls ++ at.part) (g.split
-      ∙ ap (λ o. (flat g.others ++ o) ++ g.back) lines.is)
+      ∙ ap (λ o. (flat g.others ++ o) ++ flat g.between) lines.is)
       ∙ regroup (flat g.others) lines.before
-      (scan_line q.now steps (switches_told q.after 0 q.after.switches)) g.back at.part in
+      (scan_line q.now steps (switches_told q.after 0 q.after.switches)) (flat g.between)
+      at.part in
       subst (IsReleasedBy age begin past (load ∷ before) line)
       (order-read first past known.steps known.ids before line at l command reads)
       (record {
@@ -228,7 +293,7 @@ module _ (age : ℕ) (first : State) (past : List Past) (known : Known age first
         scanned = s.done.event_is;
         front = load ∷ (flat g.others ++ lines.before);
         told = scan_line q.now steps (switches_told q.after 0 q.after.switches);
-        back = g.back ++ at.part;
+        back = flat g.between ++ at.part;
         lines = ap (λ ls. load ∷ ls) place;
         printed = printed-for begin load load_is q s.earlier g.others lines.before []
             (scan_line q.now steps (switches_told q.after 0 q.after.switches)) g.are
@@ -259,6 +324,11 @@ module _ (age : ℕ) (first : State) (past : List Past) (known : Known age first
             let at_scan : q.now ≡ f.0 = s.at in
             let recent : order.now ≤ f.0 + old.scan_max_age_ms = f.2 in
             omega arith);
+        last = All-from_recursion (λ (p : Past). NoneDone p.answer) s.since
+            (all-none s.since s.none);
+        last_line = All-append NoScan (flat g.between) at.part
+            (no-scans s.since g.between g.ours s.none) (no-scans-of order at.part
+            (ordered-no-scan order old here.0 l.step l.command l.done l.has) at.fore);
         unchanged = unchanged;
       })
     where

@@ -1,5 +1,5 @@
 -- What stands before a command's line in the text of a report.
-use Rattle.std.specs.Prelude.{Bool, ℕ, ◌≡◌, ◌+◌, ◌≤◌, true, All, List, ◌∷◌, ◌++◌, Some}
+use Rattle.std.specs.Prelude.{Bool, ℕ, ◌≡◌, ◌+◌, ◌≤◌, true, All, List, ◌∷◌, ◌++◌, None, Some, IfOk}
 use Rattle.std.specs.List.{Contains}
 use Rattle.bay_nodes.specs.declared.switch.Operation.{Operation}
 use Rattle.bay_nodes.specs.declared.switch.Operation.TheVariants as operations
@@ -34,9 +34,10 @@ pub record Releases (scan : PrintedScan) (command : PrintedCommand) : Type 0 whe
   pub same : switch.id ≡ command.id
   pub released : lets command.operation switch ≡ true
 
--- Among the lines before a command's stands that of a scan that releases it, at most so many
--- milliseconds before; both are of what is printed for events of this history, and of the events
--- between the two none has changed the process.
+-- Among the lines before a command's stands that of the last scan before it, which releases it, at
+-- most so many milliseconds before; both are of what is printed for events of this history. Of the
+-- events between the two none is a scan that was done, and none has changed the process; and no
+-- line between the two is read as that of a scan.
 pub record IsReleasedBy (age : ℕ) (begin : List ℕ) (past : List Past) (before : List (List ℕ))
     (line : List ℕ) (command : PrintedCommand) : Type 0 where
   pub later : List Past
@@ -56,6 +57,8 @@ pub record IsReleasedBy (age : ℕ) (begin : List ℕ) (past : List Past) (befor
   pub is : printed_scan told ≡ Some read
   pub releases : Releases read command
   pub recent : command.moment ≤ read.moment + age
+  pub last : All (λ (p : Past). IfOk p.answer (λ step. step.scan ≡ None)) since
+  pub last_line : All (λ between. printed_scan between ≡ None) back
   pub unchanged : All (λ (p : Past). IsSameProcess scan.after p.after) since
 
 -- So it is of each line of a command in the text of a run.

@@ -23,8 +23,9 @@ pub fn scans_are_within_the_budget()
 
 /// In each text that a replay may print, behind each line `ms command id on` (or `off`) stands,
 /// before it in the same text, a line `m scan ..` with `id=x1` (for `off`: `id=1y`), where ms - m
-/// is at most the bay's `scan_max_age_ms`; and of the events of the trace between the two none has
-/// changed what the process tells: no contact, no input and no measure.
+/// is at most the bay's `scan_max_age_ms`. It is of the last scan before the command: of the events
+/// of the trace between the two none is a scan that was done, and none has changed what the process
+/// tells, as a contact, an input or a measure may.
 pub fn printed_commands_are_released()
     ensures { CommandsAreReleased }
 {}
