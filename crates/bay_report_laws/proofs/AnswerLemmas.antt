@@ -1,20 +1,21 @@
 -- Beside each line of a command stands that of the octets that accept its operate.
-use Rattle.std.proofs.Common.{◌≡◌, ℕ, zero, suc, true, List, [], ◌∷◌, ◌++◌, length, map, slice_get, Option, Some, None, Result, Ok, IfOk, refl, ap, ap₂, sym, subst, ◌∙◌, append_assoc, arith}
-use Rattle.std.proofs.lemmas.List.Elements.{Contains-append_left, Contains-append_right}
+use Rattle.std.proofs.Common.{◌≡◌, ℕ, zero, suc, Bool, true, false, cond, nat_lt, All, List, [], ◌∷◌, ◌++◌, length, map, slice_get, Option, Some, None, Result, Ok, IfOk, refl, ap, ap₂, sym, subst, ◌∙◌, append_assoc, arith}
+use Rattle.std.proofs.lemmas.List.Elements.{All-append, All-cons, All-contains, All-nil, Contains-append_left, Contains-append_right}
 use Rattle.std.specs.Borrow.{Bor}
 use Rattle.std.specs.Fmt.{decimal}
 use Rattle.std.specs.List.{Contains}
 use Rattle.hex.specs.Hex.{encode_lower}
-use Rattle.bay_connection.specs.Talk.{Talk, indications}
+use Rattle.bay_connection.specs.Talk.{Indication, Talk, Terms, answers, ends, fails, indications, releases, sending, tells}
 use Rattle.bay_services.specs.Accepted.{AreNamedAlike, accepted_in}
 use Rattle.bay_services.specs.Bay.{Bay}
 use Rattle.bay_services.specs.Entries.{operates_in}
 use Rattle.bay_services.specs.declared.answer.Command.{Command}
-use Rattle.bay_device.specs.Device.{State, bay_of}
+use Rattle.bay_device.specs.Device.{State, bay_of, device_at}
 use Rattle.bay_device.specs.Entries.{IsIdle}
 use Rattle.bay_device.specs.Fresh.{Past}
+use Rattle.bay_device.specs.Hearing.{AllHeard, Done, after_indications, after_pdu, on_heard, sent_on, with_sent}
 use Rattle.bay_device.specs.Operates.{AreOperates, AreReplied, AreRepliedAt, IsReplied}
-use Rattle.bay_device.specs.Outcomes.{connection_at, place_of}
+use Rattle.bay_device.specs.Outcomes.{Outcome, connection_at, last_moment, nothing_done, outcome, place_of, recv_outcome, refusal_of}
 use Rattle.bay_device.specs.Steps.{Steps}
 use Rattle.bay_device.specs.Told.{AreTalks, pdu_in, pdus_in, talk_at}
 use Rattle.bay_device.specs.declared.event.Event.{Event}
@@ -22,6 +23,7 @@ use Rattle.bay_device.specs.declared.event.Event.TheVariants.{Open, Recv, Close,
 use Rattle.bay_device.specs.declared.event.Sent.{Sent}
 use Rattle.bay_device.specs.declared.event.Step.{Step}
 use Rattle.bay_device.specs.declared.fault.StepFault.{StepFault}
+use Rattle.bay_device.specs.declared.fault.StepFault.TheVariants.{MomentTooLarge, TimeWentBack}
 use Rattle.bay_device.proofs.EntryLemmas.{eight-places, leading}
 use Rattle.bay_device.proofs.OperateLemmas.{step-operates}
 use Rattle.bay_device.proofs.ToldLemmas.{idle-talks, telling}
@@ -30,14 +32,14 @@ use Rattle.bay_report.specs.Report.{report_text}
 use Rattle.bay_replay.specs.Scenario.{ScenarioParts}
 use Rattle.bay_report_laws.specs.Answered.{AreAnswered, CommandsAreAnswered, IsAnswered}
 use Rattle.bay_replay.specs.History.{EachPast, device_after}
-use Rattle.bay_report_laws.specs.Printed.{PrintedCommand, ended, lines_in, printed_command}
+use Rattle.bay_report_laws.specs.Printed.{PrintedCommand, PrintedSend, ended, lines_in, printed_command}
 use Rattle.bay_report_laws.specs.ReadBack.{HaveIds}
 use Rattle.bay_report_laws.specs.Released.{IsPrintedFor}
 use Rattle.bay_replay.specs.Runs.{IsRun}
 use Rattle.bay_replay.proofs.HistoryLemmas.{past-does}
 use Rattle.bay_replay.proofs.RunLemmas.{idle}
 use Rattle.bay_report_laws.proofs.LineLemmas.{AreLines, decimal-free, each-append, ended-append, free, free-append, hex-free, lines-are, map-lines, more-lines}
-use Rattle.bay_report_laws.proofs.OrderLemmas.{load, load-no-command, of-command, of-each, order-read, order-switches, other-no-command, printed-for, stands}
+use Rattle.bay_report_laws.proofs.OrderLemmas.{load, load-no-command, of-command, of-each, order-read, order-steps, order-switches, other-no-command, printed-for, stands}
 use Rattle.bay_report_laws.proofs.PlaceLemmas.{Placed}
 use Rattle.bay_report_laws.proofs.PrintLemmas.{IsCommandLine, closed-lines, commands-lines, ended-lines, load-is, ran-lines, sends-lines}
 use Rattle.bay_replay.proofs.KeptLemmas.{scan_told}
@@ -121,6 +123,68 @@ module _ (now : ℕ) (names : Bay) (s : State) (step : Step) (command : Command)
   of-event (BadMeasure k field) replied = none-has step.commands command replied has
   of-event Lost replied = none-has step.commands command replied has
   of-event Scan replied = none-has step.commands command replied has
+
+-- ---- the association of what is sent
+
+module _ (now a : ℕ) where
+  abbrev IsOn : Sent → Type 0
+  IsOn sent = sent.association ≡ a
+
+  abbrev AllOn : Step → Type 0
+  AllOn step = All IsOn step.sent
+
+  on-pdus : (terms : Terms) (pdus : List (List ℕ))
+      → All IsOn (map (λ pdu. sent_on a (sending terms pdu)) pdus)
+  on-pdus terms [] = All-nil IsOn
+  on-pdus terms (pdu ∷ pdus) = All-cons IsOn _ _ refl (on-pdus terms pdus)
+
+  on-more : (octets : List ℕ) (d : Done) → All IsOn d.sent → All IsOn (with_sent a octets d).sent
+  on-more octets d on = All-append IsOn d.sent _ on (All-cons IsOn _ [] refl (All-nil IsOn))
+
+  on-next : (i : Indication) (d : Done) (later : Done → AllHeard) → All IsOn d.sent
+      → ((e : Done) → All IsOn e.sent → All IsOn (later e).done.sent)
+      → All IsOn (on_heard now a i d later).done.sent
+  on-next (answers octets) d later on so = so (with_sent a octets d) (on-more octets d on)
+  on-next (tells terms pdu) d later on so =
+      so (after_pdu now a terms pdu d) (All-append IsOn d.sent _ on (on-pdus terms _))
+  on-next (releases octets) d later on so = on-more octets d on
+  on-next ends d later on so = on
+  on-next (fails code) d later on so = on
+
+  on-heard : (choice : Option ℕ) (is : List Indication) (d : Done) → All IsOn d.sent
+      → All IsOn (after_indications choice now a is d).done.sent
+  on-heard None [] d on = on
+  on-heard None (i ∷ is) d on =
+      on-next i d (after_indications None now a is) on (on-heard None is)
+  on-heard (Some zero) is d on = on
+  on-heard (Some (suc n)) [] d on = on
+  on-heard (Some (suc n)) (i ∷ is) d on =
+      on-next i d (after_indications (Some n) now a is) on (on-heard (Some n) is)
+
+  on-recv : (choice : Option ℕ) (octets : List ℕ) (s : State) (talk : Option Talk)
+      → IfOk (recv_outcome choice now a octets s talk).answer AllOn
+  on-recv choice octets s None = tt
+  on-recv choice [] s (Some talk) = All-nil IsOn
+  on-recv choice (octet ∷ octets) s (Some talk) =
+      on-heard choice (indications talk (octet ∷ octets)) (nothing_done (device_at now s))
+      (All-nil IsOn)
+
+  on-if : (late early : Bool) (o : Outcome) (s : State) → IfOk o.answer AllOn
+      → let r : Outcome = cond late (refusal_of MomentTooLarge s)
+      (cond early (refusal_of TimeWentBack s) o) in IfOk r.answer AllOn
+  on-if true early o s on = tt
+  on-if false true o s on = tt
+  on-if false false o s on = on
+
+  sent-on : (octets : Bor (List ℕ)) (event : Event) (old : State)
+      (answer : Result Step StepFault) (new : State) → event ≡ Recv a octets
+      → Steps now event old answer new → IfOk answer AllOn
+  sent-on octets event old answer new is steps =
+      subst (λ (r : Result Step StepFault). IfOk r AllOn)
+      (sym (steps.answered ∙ ap (λ e. (outcome steps.choice now e old).answer) is))
+      (on-if (nat_lt last_moment now) (nat_lt now old.moment)
+      (recv_outcome steps.choice now a octets.now old (connection_at (place_of a) old)) old
+      (on-recv steps.choice octets.now old (connection_at (place_of a) old)))
 
 -- ---- the line of sent octets
 
@@ -227,6 +291,13 @@ module _ (first : State) (past : List Past) (steps : EachPast Steps first past)
       contains-map (λ (x : Sent). pdu_in x.octets) l.step.sent from.replied.response
       from.replied.replied in
       let x : Sent = sent.1.0 in
+      let on : x.association ≡ from.association =
+      All-contains (IsOn order.now from.association) l.step.sent x
+      (subst (λ (r : Result Step StepFault). IfOk r (AllOn order.now from.association)) l.done
+      (sent-on order.now from.association from.octets order.event old order.answer order.after
+      from.event_is (order-steps first past steps ids before line at l).0))
+      (subst (λ (xs : List Sent). Contains xs x) (sym sent.1.1.1)
+      (Contains-append_right sent.0 (x ∷ sent.1.1.0) x (0, omega arith, refl))) in
       let switches =
       order-switches first past steps ids before line at l in
       subst (IsAnswered begin first past (load_text ∷ before) line)
@@ -259,7 +330,9 @@ module _ (first : State) (past : List Past) (steps : EachPast Steps first past)
             (subst HaveIds (sym switches) ids) l.step l.done sent.0 x sent.1.1.0 sent.1.1.1;
         sent = x.octets;
         digits = send-read order.now x.association (encode_lower x.octets)
-            (hex-free 32 x.octets refl);
+            (hex-free 32 x.octets refl)
+            ∙ ap (λ a. let o : Option PrintedSend =
+            Some (record { association = decimal a; octets = encode_lower x.octets }) in o) on;
         accepts = subst (λ response. Contains (operates_in (accepted_in order.now from.association
             from.replied.pdu (bay_of first) response)) l.command) (sym sent.1.1.2)
             from.replied.accepts;

@@ -193,7 +193,8 @@ abbrev pub send_line : ℕ → ℕ → List ℕ → List ℕ
 send_line now a digits = decimal now ++ 32 ∷ (codes "send" ++ 32 ∷ (decimal a ++ 32 ∷ digits))
 
 pub send-read : (now a : ℕ) (digits : List ℕ) → free 32 digits ≡ true
-    → printed_send (send_line now a digits) ≡ Some digits
+    → printed_send (send_line now a digits)
+    ≡ Some (record { association = decimal a; octets = digits })
 send-read now a digits plain =
     ap send_in (split-at 32 (decimal now) (codes "send" ++ 32 ∷ (decimal a ++ 32 ∷ digits))
     (decimal-free 32 now no-space)

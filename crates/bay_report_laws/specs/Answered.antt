@@ -2,6 +2,7 @@
 -- it.
 use Rattle.std.specs.Prelude.{ℕ, ◌≡◌, List, ◌∷◌, ◌++◌, slice_get, Some}
 use Rattle.std.specs.Borrow.{Bor}
+use Rattle.std.specs.Fmt.{decimal}
 use Rattle.std.specs.List.{Contains}
 use Rattle.hex.specs.Hex.{encode_lower}
 use Rattle.bay_nodes.specs.declared.switch.Switch.{Switch}
@@ -24,9 +25,9 @@ use Rattle.bay_report_laws.specs.Reports.{OfEach}
 use Rattle.bay_replay.specs.Runs.{IsRun}
 
 -- A command's line is of what is printed for octets of a client. One of their PDUs asks for the
--- operate of this switch; and among the lines that are printed for these octets is one of sent
--- octets, by their digits, whose PDU, read as the response to that one, has a success as its
--- result.
+-- operate of this switch; and among the lines that are printed for these octets is one of octets
+-- sent on the association that asked, by their digits, whose PDU, read as the response to that one,
+-- has a success as its result.
 pub record IsAnswered (begin : List ℕ) (first : State) (past : List Past)
     (before : List (List ℕ)) (line : List ℕ) (command : PrintedCommand) : Type 0 where
   pub later : List Past
@@ -51,7 +52,8 @@ pub record IsAnswered (begin : List ℕ) (first : State) (past : List Past)
   pub told : List ℕ
   pub stands : Contains (lines_in (step_text order.now order.answer order.after)) told
   pub sent : List ℕ
-  pub digits : printed_send told ≡ Some (encode_lower sent)
+  pub digits : printed_send told
+      ≡ Some (record { association = decimal association; octets = encode_lower sent })
   pub accepts : Contains (operates_in (accepted_in order.now association pdu (bay_of first)
       (pdu_in sent))) operate
 

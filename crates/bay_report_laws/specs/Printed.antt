@@ -133,11 +133,18 @@ printed_command line = command_in (words_in line)
 
 -- ---- the line of sent octets
 
-abbrev pub send_in : List (List ℕ) → Option (List ℕ)
-send_in (moment ∷ verb ∷ association ∷ digits ∷ []) =
-    if bytes_eq verb (codes "send") then Some digits else None
+-- the association and the octets, by their digits
+pub record PrintedSend : Type 0 where
+  pub association : List ℕ
+  pub octets : List ℕ
+
+abbrev pub send_in : List (List ℕ) → Option PrintedSend
+send_in (moment ∷ verb ∷ association ∷ octets ∷ []) =
+    if bytes_eq verb (codes "send")
+    then Some (record { association = association; octets = octets })
+    else None
 send_in _ = None
 
--- the digits that the line of sent octets has
-abbrev pub printed_send : List ℕ → Option (List ℕ)
+-- what the line of sent octets says
+abbrev pub printed_send : List ℕ → Option PrintedSend
 printed_send line = send_in (words_in line)

@@ -1,5 +1,6 @@
 -- What is printed is read back.
 use Rattle.std.specs.Prelude.{ℕ, ◌≡◌, ◌+◌, ◌<◌, ◌^◌, true, List, [], ◌∷◌, ◌++◌, Some}
+use Rattle.std.specs.Fmt.{decimal}
 use Rattle.hex.specs.Hex.{encode_lower}
 use Rattle.bay_config.specs.Key.{is_identifier}
 use Rattle.bay_nodes.specs.declared.switch.Operation.{Operation}
@@ -53,4 +54,5 @@ abbrev pub ReadsSends : Type 0
 ReadsSends =
     (now : ℕ) (sent : Sent)
     → (line : List ℕ) × IsEnded (send_text now sent) line
-    × (printed_send line ≡ Some (encode_lower sent.octets))
+    × (printed_send line ≡ Some (record
+    { association = decimal sent.association; octets = encode_lower sent.octets }))

@@ -25,15 +25,15 @@ pub fn scans_are_within_the_budget()
 /// before it in the same text, a line `m scan ..` with `id=x1` (for `off`: `id=1y`), where ms - m
 /// is at most the bay's `scan_max_age_ms`. It is of the last scan before the command: of the events
 /// of the trace between the two none is a scan that was done, and none has changed what the process
-/// tells, as a contact, an input or a measure may.
+/// tells, as a contact, an input or a measure may; and no line between the two reads as a scan's.
 pub fn printed_commands_are_released()
     ensures { CommandsAreReleased }
 {}
 
 /// In each text that a replay may print, each line of a command is of what is printed for octets of
 /// a client. One of their PDUs asks for the operate of this switch; and among the lines for the
-/// same line of the trace stands one of sent octets, by their hexadecimal digits, whose PDU, read
-/// as the response to that one, has a success as its result.
+/// same line of the trace stands one of octets sent on the association that asked, by their
+/// hexadecimal digits, whose PDU, read as the response to that one, has a success as its result.
 pub fn printed_commands_are_answered()
     ensures { CommandsAreAnswered }
 {}
