@@ -74,6 +74,7 @@ NamedFits (bad_measure id field) = Unit {0}
 NamedFits lost = Unit {0}
 NamedFits scan = Unit {0}
 
+-- The number of a measure in a line has 32 bits.
 abbrev pub LineFits : LineData → Type 0
 LineFits blank = Unit {0}
 LineFits (at_moment moment named) = NamedFits named
