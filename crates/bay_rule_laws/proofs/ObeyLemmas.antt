@@ -48,6 +48,7 @@ use Rattle.bay_rule_laws.proofs.TypeLemmas.{EventFits}
 abbrev pub IsTyped : ChosenEvent → Type 0
 IsTyped e = IsOfType e.1
 
+-- Each measure of the events has 32 bits.
 abbrev pub AreTyped : List ChosenEvent → Type 0
 AreTyped es = All IsTyped es
 
@@ -151,6 +152,7 @@ turns-typed first (t ∷ ts) h past are given before =
 module _ (bay : Bay) (image : Image) (rule : Rule) (is_bay : IsBay bay)
     (there : rule.switch < length bay.switches) (holds_so : IsRule (program_of bay image) rule)
   where
+    -- what is kept along the events
     abbrev pub Good : State → Type 0
     Good s = Obeying bay image rule s × Steady s
 

@@ -195,6 +195,7 @@ sound-on now event old answer new is sound (inr (inr scan)) =
 
 -- ---- a device that runs a text, or has a verified image
 
+-- It runs what a text means, or is sound.
 abbrev pub Steady : State → Type 0
 Steady s = ((c : Checked) × Runs c s) ⊎ Sound s
 
