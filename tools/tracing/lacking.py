@@ -22,8 +22,6 @@ NO_LAW = {
     'bay_io WatchedWriter::log': OWN_WORDS + 'one call of the sink with the line, or none',
     'bay_io read_all': OWN_WORDS + 'what the reads gave, in order, up to an end',
     'bay_main Ended::of': OWN_WORDS + 'a status for each answer',
-    'bay_output Log::put': OWN_WORDS + 'a line behind those that wait, whole, or one more that is '
-                           'lost',
     'bay_output Output::new': OWN_WORDS + 'what each call leaves written, and what waits',
     'bay_replay replay_watched': OWN_WORDS + 'what the reads gave, and what the writes took',
     'bay_report tell_unread': OWN_WORDS + 'the words of the line, and what is printed',
