@@ -27,7 +27,7 @@ def acceptance(checks) -> None:
 
 def served_acceptance(checks) -> None:
     """At the served bay, supervised and not."""
-    for more in ((), ('--supervise', 500)):
+    for more in ((), ('--supervise', '500')):
         with Server(checks.bayctl, BAY, LOGIC, *more, with_process=True) as server:
             server.client().close()
             words = [STEPS, '--bay', BAY, '--port', server.port, '--process', server.process]
