@@ -27,10 +27,11 @@ def acceptance(checks) -> None:
 
 def served_acceptance(checks) -> None:
     """At the served bay, supervised and not."""
-    for more in ((), ('--supervise', '500')):
+    for more in ((), ('--supervise', 500)):
         with Server(checks.bayctl, BAY, LOGIC, *more, with_process=True) as server:
             server.client().close()
-            words = [STEPS, '--bay', BAY, '--port', server.port, '--process', server.process]
+            words = [STEPS, '--bay', BAY, '--port', str(server.port), '--process',
+                     str(server.process)]
             checks.wants('an acceptance test at a served bay', *checks.run('acceptance', *words),
                          [PASSED], 0)
 
