@@ -1,5 +1,5 @@
 -- A history grows by an event, by those of a turn, and by those of all turns.
-use Rattle.std.proofs.Common.{◌≡◌, ℕ, List, [], ◌∷◌, length, refl, ap, sym, subst, ◌∙◌}
+use Rattle.std.proofs.Common.{◌≡◌, ℕ, List, [], ◌∷◌, length, None, refl, ap, sym, subst, ◌∙◌}
 use Rattle.bay_services.specs.Accepted.{AreNamedAlike}
 use Rattle.bay_device.specs.Device.{State, bay_of}
 use Rattle.bay_device.specs.Entries.{IsIdle}
@@ -23,6 +23,7 @@ use Rattle.bay_serving_files.specs.Service.{past_behind}
 pub record Stands (first : State) (past : List Past) (s : State) : Type 0 where
   pub steps : EachPast Steps first past
   pub last : device_after first past ≡ s
+  pub unscanned : first.last_scan ≡ None
   pub alike : AreNamedAlike (bay_of first) (bay_of s)
   pub sized : AreTalks s.connections
   pub eight : length s.connections ≡ 8
@@ -36,6 +37,7 @@ pub stands-first : (first : State) → Came [] first → Stands first [] first
 stands-first first came = record {
   steps = tt;
   last = refl;
+  unscanned = ap (λ (d : State). d.last_scan) came.2;
   alike = record { domain = refl; switches = refl; names = refl };
   sized = idle-talks first (idle first came);
   eight = ap (λ talks. length talks) (idle first came).closed;
@@ -64,6 +66,7 @@ module _ (first : State) (now : ℕ) where
           at.steps,
         );
         last = refl;
+        unscanned = at.unscanned;
         alike = told.alike;
         sized = told.sized;
         eight = eight-places now e.1 s o.answer o.after at.eight steps;

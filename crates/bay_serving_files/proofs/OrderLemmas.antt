@@ -261,7 +261,7 @@ module _ (first : State) (h : Held) (t : DoneTurn) (past : List Past) (command :
             accepts = subst (λ p. Contains (operates_in (accepted_in t.now a r.pdu (bay_of first)
                 p)) command) (sym m.is) r.accepts;
             allowed = allowed;
-            released = released-by past h.device mid t.now first.scan_max_age_ms command at.tracks
+            released = released-by first past h.device mid t.now first.scan_max_age_ms command at
                 (same-events t.now front h.device before)
                 (aged first (past_behind t.now front h.device past) mid stands) allowed;
           }

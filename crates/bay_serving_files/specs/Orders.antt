@@ -1,6 +1,6 @@
 -- What stands behind each command that a turn tells: who asked for it, what was answered, and what
 -- released it.
-use Rattle.std.specs.Prelude.{ℕ, ◌≡◌, ◌+◌, true, All, List, [], ◌∷◌, ◌++◌, Option, Some, Ok}
+use Rattle.std.specs.Prelude.{ℕ, ◌≡◌, ◌+◌, true, All, List, [], ◌∷◌, ◌++◌, Option, None, Some, Ok, IfOk}
 use Rattle.std.specs.Borrow.{Bor}
 use Rattle.std.specs.List.{Contains}
 use Rattle.bay_connection.specs.Talk.{Talk, Terms, indications, tells}
@@ -24,11 +24,13 @@ use Rattle.bay_serve_laws.specs.Events.{ChosenEvent, done_at, turn_events}
 use Rattle.bay_serve_laws.specs.Flows.{FlowsAt, given_of, sent_to}
 use Rattle.bay_serving_files.specs.Service.{DoneTurn, held_behind, past_behind}
 
--- Among these events is such a scan; it left the interlocking value of the command TRUE (EnaCls for
--- on, EnaOpn for off), and on this device the process still tells what it told after it.
+-- Among these events is such a scan, and none of those since is a scan that was done; it left the
+-- interlocking value of the command TRUE (EnaCls for on, EnaOpn for off), and on this device the
+-- process still tells what it told after it.
 pub record IsReleasedBy (now age : ℕ) (past : List Past) (s : State) (command : Command)
     : Type 0 where
   pub scan : HasScan now age past
+  pub last : All (λ (p : Past). IfOk p.answer (λ step. step.scan ≡ None)) scan.since
   pub enabled : is_truth true
       (leaf_of (releasing command.switch command.operation) scan.scan.after.rows) ≡ true
   pub unchanged : IsSameProcess scan.scan.after s
@@ -61,8 +63,8 @@ pub record IsHeard (h : Held) (t : DoneTurn) : Type 0 where
 -- Octets that were heard come to a command: one of their PDUs asks for this operate, and octets
 -- that are sent to the association in the turn have a success as its result, read as the response
 -- to that PDU. What the link takes of the association in the turn, and then what its queue holds,
--- is what the queue held, and then all that is sent to it. A scan of an earlier turn released the
--- command.
+-- is what the queue held, and then all that is sent to it. The last scan of the earlier turns
+-- released the command, and the events of this turn before it are of associations, so no scans.
 pub record IsOrdered (first : State) (h : Held) (t : DoneTurn) (past : List Past)
     (command : Command) : Type 0 where
   pub heard : IsHeard h t

@@ -161,9 +161,9 @@ module _ {L H W : Type 0} (step : L → Call → L → Type 0) (acts : H → Hos
     (contents : W → Option (List ℕ)) (asks : W → WriteCall → W → Type 0) where
   -- Turns are served, all of which are one run of the device, from load on. Behind each command
   -- that one of them tells stand a client's octets that ask for it, the success that is sent to
-  -- this client, and a scan of an earlier turn that released it; and so behind each line that is
-  -- printed, or told the process, and reads as one. Where the process is supervised, it lived as
-  -- each turn began that tells a command.
+  -- this client, and the last scan before, of an earlier turn, which released it; and so behind
+  -- each line that is printed, or told the process, and reads as one. Where the process is
+  -- supervised, it lived as each turn began that tells a command.
   pub record ServesRun (turns : ℕ) (before : Serving L H) (old new : Writing W) (host : H)
       (answer : Result ℕ WriteFault) : Type 0 where
     pub serves : ServesTurns step acts contents asks turns before old host new answer

@@ -52,9 +52,9 @@ pub fn all_turns_are_one_run<L: Link, H: Host<L>, W: Sink>(_link: &L, _host: &H,
 /// in this turn. Its success stands in octets that the device sent to this association in the turn:
 /// what the link takes of the association in the turn, and then what its queue holds, is what the
 /// queue held before, and then all that the device sent to it; where the association is closed
-/// behind the turn, the link took a front of that. A scan of an earlier turn, not too old, left the
-/// switch's interlocking value TRUE, and since then the process has not changed: in the turn itself
-/// only events of associations come before the octets.
+/// behind the turn, the link took a front of that. The last scan before, of an earlier turn and not
+/// too old, left the switch's interlocking value TRUE, and since then the process has not changed:
+/// in the turn itself only events of associations come before the octets.
 pub fn each_command_is_asked_for<L: Link, H: Host<L>, W: Sink>(_link: &L, _host: &H, _sink: &W)
     ensures { (turns : ℕ) (before : Serving L H) (old new : Writing W) (host : H)
         (answer : Result ℕ WriteFault)
@@ -66,8 +66,8 @@ pub fn each_command_is_asked_for<L: Link, H: Host<L>, W: Sink>(_link: &L, _host:
 
 /// Each line that a server prints for its turns, or tells its process, and that reads as a command,
 /// `ms command id on` (or `off`), is of a command of that turn, at the turn's moment, to the switch
-/// with this id, behind which the client's octets, the success sent to it and the scan of an
-/// earlier turn stand.
+/// with this id, behind which the client's octets, the success sent to it and the last scan of the
+/// earlier turns stand.
 pub fn printed_commands_are_asked_for<L: Link, H: Host<L>, W: Sink>(_link: &L, _host: &H, _sink: &W)
     ensures lines { (turns : ℕ) (before : Serving L H) (old new : Writing W) (host : H)
         (answer : Result ℕ WriteFault)
@@ -81,8 +81,8 @@ pub fn printed_commands_are_asked_for<L: Link, H: Host<L>, W: Sink>(_link: &L, _
 {}
 
 /// No octets that any client sends, in whatever turns, make a command without the interlocking:
-/// whatever the link brings and the process reports, each command of each turn stands on a scan
-/// that left its interlocking value TRUE, and on an operate that was asked for and answered.
+/// whatever the link brings and the process reports, each command of each turn stands on the last
+/// scan, which left its interlocking value TRUE, and on an operate that was asked for and answered.
 pub fn no_octets_command_alone()
     ensures { (begun : Held) (turns : List DoneTurn) → IsBegun begun → AreTurns begun turns
         → AreOrdered begun.device begun [] turns }

@@ -347,10 +347,11 @@ fn serve_loaded<L: Link + Drop, H: Host<L>, W: Sink>(
 ///
 /// All turns are one run of the device, from load on. Behind each command that a turn tells, and so
 /// behind each line that is printed, or told the process, and reads as one, stand the octets of a
-/// client that ask for it, the success that is sent to this client, and a scan of an earlier turn
-/// that left the switch's interlocking value TRUE, since which the process has not changed. Where
-/// the process is supervised, it was there as the turn began, it had said that it is of this bay,
-/// and by the moment of its last word it lived at most so many milliseconds before the turn before.
+/// client that ask for it, the success that is sent to this client, and the last scan before, of an
+/// earlier turn, which left the switch's interlocking value TRUE, and since which the process has
+/// not changed. Where the process is supervised, it was there as the turn began, it had said that
+/// it is of this bay, and by the moment of its last word it lived at most so many milliseconds
+/// before the turn before.
 pub fn serve<F: FileSystem, L: Link + Drop, H: Host<L>, W: Sink>(
     alloc: Global,
     named: NamedFiles<'_>,
