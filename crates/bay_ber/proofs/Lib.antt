@@ -1,6 +1,8 @@
 pub mod BackLemmas
 pub mod ContentLemmas
 pub mod EachLemmas
+pub mod FormLemmas
+pub mod JudgedLemmas
 pub mod KnownLemmas
 pub mod ListingLemmas
 pub mod OctetLemmas

@@ -16,6 +16,8 @@
 
 pub mod Code
 pub mod Content
+pub mod Forms
+pub mod Judged
 pub mod Octets
 pub mod Reading
 pub mod Sheets
