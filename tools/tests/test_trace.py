@@ -1,5 +1,6 @@
-"""From a promise to its proof: each row of README and PROVED names calls that are there, with
-clauses whose definitions are found; and has a law, an edit and a case, or a reason for none."""
+"""From a promise to its proof: each row of README, PROVED and SECURITY names calls that are there,
+with clauses whose definitions are found; has a law, an edit and a case, or a reason for none; and
+keeps its id."""
 import html
 import pathlib
 import re
@@ -15,8 +16,9 @@ from tracing.calls import TOP, Source, all_calls, crates, quiet
 from tracing.definitions import Reader, scope_of_call, unfound
 from tracing.edits import edits_of, laws_about, refused_of
 from tracing.marked import block, inline
-from tracing.promises import PAGES, Promise, Resolver, borne_by, promises
-from tracing.sheet import Sheet
+from tracing.lacking import key_of
+from tracing.promises import PAGES, Promise, Resolver, borne_by, promises, registered
+from tracing.sheet import FIRST, Sheet
 
 CODE = '''ghost use Rattle.bay_tree.specs.Rows.{place_of};
 
@@ -115,9 +117,29 @@ class Promises(unittest.TestCase):
         for it in promises():
             borne = borne_by(it)
             self.assertEqual(borne.unknown, [], told_of(it))
-            self.assertTrue(borne.calls, told_of(it))
+            self.assertEqual(bool(borne.calls), it.by != 'the proof of each function', told_of(it))
             for call in borne.calls:
                 self.assertTrue(borne.clauses(call), f'{told_of(it)}: {call.title}')
+
+    def test_each_row_has_an_id_of_its_own(self):
+        """An id is never used twice: the register keeps each, with the call that bears it."""
+        with_id = [it for it in promises() if it.page.name != 'README.md']
+        for it in with_id:
+            self.assertRegex(it.id, r'^P-\d{3}$', told_of(it))
+            self.assertEqual(registered().get(it.id), key_of(borne_by(it)) or 'every function',
+                             f'{told_of(it)}: {it.id}')
+        ids = [it.id for it in with_id]
+        self.assertEqual(len(ids), len(set(ids)))
+        gone = {it for it, told in registered().items() if told.startswith('gone')}
+        self.assertEqual(set(registered()) - set(ids), gone)
+
+    def test_no_id_has_left_the_register(self):
+        numbers = [int(it.removeprefix('P-')) for it in registered()]
+        self.assertEqual(numbers, list(range(1, len(numbers) + 1)))
+
+    def test_what_a_buyer_asks_for_is_there(self):
+        self.assertEqual(len(FIRST), 10)
+        self.assertEqual(set(FIRST.values()) - {it.id for it in promises()}, set())
 
     def test_each_definition_that_a_clause_cites_is_found(self):
         calls = {call for it in promises() for call in (*borne_by(it).calls,
@@ -168,6 +190,10 @@ class Written(Tools):
             path, _, place = link.partition('#')
             there = place in anchors if not path else (self.folder / path).is_file()
             self.assertTrue(there, link)
+
+    def test_each_word_of_a_clause_and_a_definition_leads_to_its_definition_on_the_page(self):
+        for text in re.findall(r'<pre>(.*?)</pre>', Sheet('.').page(), re.S):
+            self.assertEqual(re.findall(r'href="([^#"][^"]*)"', text), [])
 
     def test_links_elsewhere(self):
         self.assertIn('href="https://host/at/README.md#L', Sheet('https://host/at').page())

@@ -3,6 +3,7 @@ from .promises import Borne, Promise, borne_by
 
 OWN_WORDS = 'its clause says it in the words of its subject: '
 NO_LAW = {
+    '': 'no clause says it: it is what a proof of a function is',
     'bay_audit audit': OWN_WORDS + 'each scan from each process, in each state; the laws of '
                        'bay_audit_laws say what that is of a device',
     'bay_base same_name': OWN_WORDS + 'a table of words, and letters that differ in case',
@@ -39,6 +40,7 @@ NO_LAW = {
     'il_verify Verified::image': OWN_WORDS + 'paths through the code and tables that agree with '
                                  'it, where the code goes over it once'}
 NO_EDIT = {
+    '': 'an overflow, or a place past an end, is a goal of its own in each proof',
     'bay_main Ended::of': 'each method is one match with an arm for each answer; bayctl_cases has '
                           'each status',
     'bay_rules conditions_have_truths': 'it is about conditions as they are read; the edits of '

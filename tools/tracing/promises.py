@@ -1,4 +1,5 @@
-"""The promises of README and PROVED: the rows of their tables, and what their last column names."""
+"""The promises of README, PROVED and SECURITY: the rows of their tables, and what their last column
+names. Those of PROVED and SECURITY have ids, which `ids.txt` registers."""
 import dataclasses
 import functools
 import pathlib
@@ -7,7 +8,8 @@ import re
 from .calls import TOP, Call, all_calls, calls_of, crates, types_of
 from .definitions import Named, scope_of_call
 
-PAGES = (TOP / 'README.md', TOP / 'docs' / 'PROVED.md')
+PAGES = (TOP / 'README.md', TOP / 'docs' / 'PROVED.md', TOP / 'docs' / 'SECURITY.md')
+REGISTER = pathlib.Path(__file__).with_name('ids.txt')
 SECTION = re.compile(r'^## (.*)$')
 QUOTED = re.compile(r'`([^`]+)`')
 LAWS = re.compile(r'laws of (\w+)')
@@ -22,6 +24,7 @@ class Promise:
     text: str
     by: str
     crates: tuple[str, ...]
+    id: str = ''
 
 
 def known_in(text: str) -> tuple[str, ...]:
@@ -34,7 +37,7 @@ class Page:
 
     def __init__(self, path: pathlib.Path) -> None:
         self.path, self.section, self.crates = path, '', ()
-        self.is_table = False
+        self.is_table, self.has_ids = False, False
         self.found: list[Promise] = []
 
     def read(self) -> list[Promise]:
@@ -53,20 +56,21 @@ class Page:
     def take(self, cells: list[str], number: int) -> None:
         """Takes a row of a table."""
         if cells[-1] == 'By':
-            self.is_table = True
-            self.crates = known_in(cells[0]) or self.crates
+            self.is_table, self.has_ids = True, cells[0] == 'Id'
+            self.crates = known_in(cells[int(self.has_ids)]) or self.crates
         elif self.is_table and not cells[0].startswith('--'):
+            known = cells.pop(0) if self.has_ids else ''
             text = ': '.join(cells[:-1])
             bold = re.match(r'\*\*(\w+)\*\*', text)
             self.crates = known_in(bold[1] if bold else cells[0] if len(cells) > 2 else '') \
                 or self.crates
             self.found.append(Promise(self.path, self.section, number, text, cells[-1],
-                                      self.crates))
+                                      self.crates, known))
 
 
 @functools.cache
 def promises() -> list[Promise]:
-    """The promises of both pages."""
+    """The promises of all pages."""
     return [it for path in PAGES for it in Page(path).read()]
 
 
@@ -205,3 +209,9 @@ def borne_by(promise: Promise) -> Borne:
 def public_laws() -> list[Call]:
     """The laws of all crates."""
     return [it for it in all_calls() if it.is_public and it.is_law]
+
+
+def registered() -> dict[str, str]:
+    """What each id stands for, by the register: the first call that bears it, or that it is gone."""
+    lines = REGISTER.read_text(encoding='utf-8').splitlines()
+    return dict(it.split(' ', 1) for it in lines if it.startswith('P-'))

@@ -31,7 +31,20 @@ a:hover { text-decoration: underline } summary { cursor: pointer; color: #555 }
 '''
 HEADINGS = ('Names of values', 'Signs and words', 'Where the words of a clause come from',
             'Traits, laws and loans')
-LEAD = '''<p>For each promise of README and PROVED this page shows the clauses that carry it, the
+# What a buyer asks for, and the promise that answers it.
+FIRST = {
+    'The headline: never against the interlocking': 'P-001',
+    'No switch is operated that was not selected': 'P-012',
+    'A server commands only what a client asked for': 'P-132',
+    'A command goes out only while the process lives': 'P-133',
+    'A rule that the audit proves binds every command': 'P-071',
+    'A program does what its text means': 'P-041',
+    'The language is the standard\'s': 'P-044',
+    'No program and no image goes wrong': 'P-138',
+    'No octets crash the device or change what the process told': 'P-134',
+    'A request is read in one way': 'P-137'}
+LINES_A_MINUTE = 20
+LEAD = '''<p>For each promise of README, PROVED and SECURITY this page shows the clauses that carry it, the
 laws, the wrong bodies that the prover refuses, and the cases that show it. In a clause and in a
 definition the names are links to their definitions, which stand at the end of the page, or in their
 files.</p><ul>
@@ -62,15 +75,12 @@ class Sheet:
         self.listed = self.definitions()
 
     def definitions(self) -> dict[Named, str]:
-        """The definitions that clauses cite, and those that these name, with their anchors."""
+        """The definitions that clauses cite, with all that they rest on, and their anchors."""
         first = [it for borne in self.borne.values() for it in borne.definitions]
         for promise, borne in self.borne.items():
             for call in (*borne.calls, *self.laws[promise]):
                 first += cited(call, frozenset(borne.calls.get(call, ())))
-        named = dict.fromkeys(first)
-        for it in list(named):
-            named |= dict.fromkeys(below(it))
-        return {it: f'{it.crate}.{it.path.stem}.{it.name}' for it in named}
+        return {it: f'{it.crate}.{it.path.stem}.{it.name}' for it in closure(first)}
 
     def source(self, path: pathlib.Path, line: int) -> str:
         """A link to a line of a file."""
@@ -127,7 +137,8 @@ class Sheet:
         cases = ', '.join(f'{case.name} ({self.source(case.path, case.line)})'
                           for case in shown.cases_of(borne))
         return ''.join((
-            f'<div class="promise"><p>{inline(it.text)}</p><p class="quiet">By: {inline(it.by)} '
+            f'<div class="promise"{mark(it)}><p>{inline(titled(it))}</p>'
+            f'<p class="quiet">By: {inline(it.by)} '
             f'({self.source(it.page, it.line)})</p>',
             self.part('Clauses', [self.contract(call, borne) for call in borne.code],
                       'laws carry it'),
@@ -136,6 +147,22 @@ class Sheet:
             self.part('Wrong bodies', edits, lacking.reason(lacking.NO_EDIT, it)),
             self.part('Cases', [f'<p>{cases}</p>'] if cases else [], shown.no_cases(borne)),
             '</div>'))
+
+    def first(self) -> str:
+        """The first screen: what a buyer asks for, and how long it takes to understand."""
+        by_id = {it.id: borne for it, borne in self.borne.items()}
+        rows = []
+        for words, known in FIRST.items():
+            found = rests_on(by_id[known])
+            lines = sum(it.text.count('\n') + 1 for it in found)
+            rows.append(f'<tr><td><a href="#{known}">{html.escape(words)}</a></td><td>{known}</td>'
+                        f'<td>{counted(len(found), "definition")}, {counted(lines, "line")}</td>'
+                        f'<td>{time_for(lines)}</td></tr>')
+        return ('<h2>What a buyer asks for</h2><table><tr><th>Promise</th><th>Id</th><th>It rests on'
+                f'</th><th>To understand it</th></tr>{"".join(rows)}</table><p class="quiet">What a '
+                'promise rests on is each definition that its clauses name, with those that these '
+                'name, and so on; all of them stand below. One who reads '
+                f'{LINES_A_MINUTE} lines of them a minute understands it in this time.</p>')
 
     def definition(self, it: Named) -> str:
         """A definition, with the comment above it."""
@@ -171,11 +198,44 @@ class Sheet:
             '<!DOCTYPE html><html lang="en"><meta charset="utf-8">'
             '<meta name="viewport" content="width=device-width"><title>From a promise to its '
             f'proof</title><style>{STYLE}</style><h1>From a promise to its proof</h1>{LEAD}'
-            f'<p class="quiet">Commit {commit()}; {counts}.</p><ul>{"".join(told)}'
+            f'<p class="quiet">Commit {commit()}; {counts}.</p>{self.first()}<ul>{"".join(told)}'
             '<li><a href="#definitions">Definitions</a></li></ul><details><summary>How to read '
             f'clauses and definitions</summary>{how}</details>', *body,
             f'<h2 id="definitions">Definitions</h2><p>{", ".join(links)}</p>', *parts.values(),
             '</html>\n'))
+
+
+def closure(first: list[Named]) -> list[Named]:
+    """Definitions, those that they name, and so on."""
+    found = dict.fromkeys(first)
+    left = list(found)
+    for it in left:
+        new = [further for further in below(it) if further not in found]
+        found |= dict.fromkeys(new)
+        left += dict.fromkeys(new)
+    return list(found)
+
+
+def rests_on(borne: Borne) -> list[Named]:
+    """The definitions that a promise rests on: what its clauses cite, and all below."""
+    return closure([it for call, labels in borne.calls.items()
+                    for it in cited(call, frozenset(labels))])
+
+
+def time_for(lines: int) -> str:
+    """How long one reads so many lines of definitions."""
+    minutes = max(5, 5 * round(lines / LINES_A_MINUTE / 5))
+    return f'{minutes} minutes' if minutes < 120 else f'{round(minutes / 60)} hours'
+
+
+def mark(promise: Promise) -> str:
+    """The anchor of a promise that has an id."""
+    return f' id="{promise.id}"' if promise.id else ''
+
+
+def titled(promise: Promise) -> str:
+    """The words of a promise behind its id."""
+    return f'{promise.id} {promise.text}'.strip()
 
 
 def head_of(crate: str) -> str:

@@ -82,5 +82,7 @@ def cases_of(borne: Borne) -> list[Place]:
 
 def no_cases(borne: Borne) -> str:
     """Why there are none, or an empty text."""
+    if not borne.calls:
+        return 'each run of each case shows it'
     found = dict.fromkeys(NO_CASES.get(it.crate, '') for it in borne.calls)
     return '' if cases_of(borne) else '; '.join(it for it in found if it)
