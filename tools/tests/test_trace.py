@@ -11,7 +11,7 @@ import unittest
 TOOLS = pathlib.Path(__file__).resolve().parent.parent
 sys.path.insert(0, str(TOOLS))
 from tests.tool import Tools
-from tracing import lacking, shown
+from tracing import inner, lacking, shown
 from tracing.calls import TOP, Source, all_calls, crates, quiet
 from tracing.definitions import Reader, scope_of_call, unfound
 from tracing.edits import edits_of, laws_about, refused_of
@@ -136,6 +136,14 @@ class Promises(unittest.TestCase):
     def test_no_id_has_left_the_register(self):
         numbers = [int(it.removeprefix('P-')) for it in registered()]
         self.assertEqual(numbers, list(range(1, len(numbers) + 1)))
+
+    def test_each_public_clause_belongs_to_a_promise_or_is_judged(self):
+        self.assertGreater(len(inner.orphans()), 100)
+        lost = {call for call, _ in inner.orphans() if call not in inner.served()}
+        for call in lost:
+            self.assertTrue(inner.judged(call), f'{call.crate} {call.title}')
+        self.assertEqual(set(inner.JUDGED), {f'{it.crate} {it.title}' for it in lost})
+        self.assertEqual([it.title for it in lost if it.is_law], [])
 
     def test_what_a_buyer_asks_for_is_there(self):
         self.assertEqual(len(FIRST), 10)

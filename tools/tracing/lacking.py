@@ -7,6 +7,7 @@ NO_LAW = {
     'bay_audit audit': OWN_WORDS + 'each scan from each process, in each state; the laws of '
                        'bay_audit_laws say what that is of a device',
     'bay_base same_name': OWN_WORDS + 'a table of words, and letters that differ in case',
+    'bay_ber BerFault::code': OWN_WORDS + 'a number for each fault',
     'bay_config read_bay': '`sound` is the law of what `read` gives: a bay whose names differ and '
                            'whose rows make a tree',
     'bay_device load': '`accepted` and `refused` say of the texts themselves what `device` comes '
@@ -41,6 +42,8 @@ NO_LAW = {
                                  'it, where the code goes over it once'}
 NO_EDIT = {
     '': 'an overflow, or a place past an end, is a goal of its own in each proof',
+    'bay_ber BerFault::code': 'each is one match with an arm for each fault; each refusal of the cases '
+                              'has its number',
     'bay_main Ended::of': 'each method is one match with an arm for each answer; bayctl_cases has '
                           'each status',
     'bay_rules conditions_have_truths': 'it is about conditions as they are read; the edits of '

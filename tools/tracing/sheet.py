@@ -8,7 +8,7 @@ import subprocess
 
 from common.texts import counted
 
-from . import lacking, shown
+from . import inner, lacking, shown
 from .calls import CRATES, TOP, Call, crates
 from .definitions import NAMED, Declared, Named, Scope, below, cited, scope_of, scope_of_call
 from .edits import Edit, laws_about, refused_of
@@ -164,6 +164,23 @@ class Sheet:
                 'name, and so on; all of them stand below. One who reads '
                 f'{LINES_A_MINUTE} lines of them a minute understands it in this time.</p>')
 
+    def inner(self) -> str:
+        """The public clauses that belong to no promise, by call, with the promise they serve."""
+        of_calls: dict[Call, list[str]] = {}
+        for call, clause in inner.orphans():
+            of_calls.setdefault(call, []).append(clause.label or clause.kind)
+        rows = []
+        for call, labels in of_calls.items():
+            serves = inner.served().get(call)
+            why = f'<a href="#{serves.id}">{serves.id}</a>' if serves else inline(inner.judged(call))
+            rows.append(f'<tr><td>{call.crate}</td><td>{html.escape(call.title)} '
+                        f'({self.source(call.path, call.line)})</td>'
+                        f'<td>{html.escape(", ".join(labels))}</td><td>{why}</td></tr>')
+        return ('<h2 id="inner">Inner clauses</h2><p>These public clauses are named by no promise: '
+                'they say what a call does on the way from a call of the promise beside it, or why '
+                'they belong to none.</p><table><tr><th>Crate</th><th>Call</th><th>Clauses</th><th>'
+                f'For</th></tr>{"".join(rows)}</table>')
+
     def definition(self, it: Named) -> str:
         """A definition, with the comment above it."""
         kind = 'type of the code' if isinstance(it, Declared) else 'definition'
@@ -199,8 +216,9 @@ class Sheet:
             '<meta name="viewport" content="width=device-width"><title>From a promise to its '
             f'proof</title><style>{STYLE}</style><h1>From a promise to its proof</h1>{LEAD}'
             f'<p class="quiet">Commit {commit()}; {counts}.</p>{self.first()}<ul>{"".join(told)}'
+            '<li><a href="#inner">Inner clauses</a></li>'
             '<li><a href="#definitions">Definitions</a></li></ul><details><summary>How to read '
-            f'clauses and definitions</summary>{how}</details>', *body,
+            f'clauses and definitions</summary>{how}</details>', *body, self.inner(),
             f'<h2 id="definitions">Definitions</h2><p>{", ".join(links)}</p>', *parts.values(),
             '</html>\n'))
 
