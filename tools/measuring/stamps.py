@@ -1,6 +1,7 @@
 """The line above a table of figures that says what measured it, when, of what and where."""
 import dataclasses
 import datetime
+import enum
 import functools
 import os
 import pathlib
@@ -9,13 +10,14 @@ import subprocess
 import sys
 
 TOP = pathlib.Path(__file__).resolve().parent.parent.parent
-PAGES = ('bench/RESULTS.md', 'docs/SECURITY.md')
+PAGES = ('bench/RESULTS.md', 'bench/AXIOMS.md', 'docs/SECURITY.md', 'docs/TRUSTED.md')
 STAMP = re.compile(r'^Measured by `(?P<command>[^`]+)`\s+on\s+(?P<date>\d{4}-\d\d-\d\d)\s+at\s+'
                    r'commit\s+(?P<commit>[0-9a-f]{7,40})(?P<changed>\+?);\s+machine:\s+'
                    r'(?P<machine>[^;]+?);\s+kit:\s+(?P<kit>[^;]+?)\.$', re.M)
 # Tables that hold no figures.
 PLAIN = ('| Name | Processors | Beside it |', '| What | Aim | Reached | Script |',
-         '| Event | Result |', '| Test | Where | Result |')
+         '| Event | Result |', '| Test | Where | Result |', '| Id |', '| Tool | The claim |',
+         '| What | What a fault in it could break |')
 
 
 @dataclasses.dataclass(frozen=True)
@@ -105,6 +107,21 @@ def changed_since(commit: str, paths: tuple[str, ...]) -> int | None:
     done = subprocess.run(('git', 'diff', '--name-only', commit, 'HEAD', '--', *paths), cwd=TOP,
                           capture_output=True, text=True)
     return None if done.returncode else len(done.stdout.split())
+
+
+class Age(enum.Enum):
+    """How old figures are."""
+    NEW = 'as new as its sources'
+    OLD = 'older than some of its sources'
+    LOST = 'of no commit that is there'
+
+
+def age_of(figures: Figures) -> Age:
+    """How old figures are, by the commit that their stamp names."""
+    if figures.stamp is None:
+        return Age.LOST
+    files = changed_since(figures.stamp['commit'], tuple(measured_by(figures.stamp['command'])))
+    return Age.LOST if files is None else Age.OLD if files else Age.NEW
 
 
 def told_of(figures: Figures) -> str:

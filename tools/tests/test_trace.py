@@ -11,14 +11,14 @@ import unittest
 TOOLS = pathlib.Path(__file__).resolve().parent.parent
 sys.path.insert(0, str(TOOLS))
 from tests.tool import Tools
-from tracing import inner, lacking, shown
+from tracing import inner, lacking, shown, standards
 from tracing.calls import TOP, Source, all_calls, crates, quiet
 from tracing.definitions import Reader, scope_of_call, unfound
 from tracing.edits import edits_of, laws_about, refused_of
 from tracing.marked import block, inline
 from tracing.lacking import key_of
 from tracing.promises import PAGES, Promise, Resolver, borne_by, promises, registered
-from tracing.sheet import FIRST, Sheet
+from tracing.sheet import FIRST, Sheet, StandardSheet
 
 CODE = '''ghost use Rattle.bay_tree.specs.Rows.{place_of};
 
@@ -202,6 +202,20 @@ class Written(Tools):
     def test_each_word_of_a_clause_and_a_definition_leads_to_its_definition_on_the_page(self):
         for text in re.findall(r'<pre>(.*?)</pre>', Sheet('.').page(), re.S):
             self.assertEqual(re.findall(r'href="([^#"][^"]*)"', text), [])
+
+    def test_the_page_by_standard(self):
+        page = StandardSheet('.').page()
+        anchors = re.findall(r' id="([^"]+)"', page)
+        self.assertEqual(len(anchors), len(set(anchors)))
+        links = re.findall(r'href="#([^"]+)"', page)
+        self.assertEqual({html.unescape(it) for it in links} - set(anchors), set())
+        for clause in ('8.1.3.6', 'InitiateRequestPDU', 'table 10'):
+            self.assertIn(f'<tr><td>{clause}</td>', page)
+
+    def test_what_a_comment_cites(self):
+        self.assertEqual(standards.clauses_in('bit 6 (X.690 8.1.2.5, 8.4; ISO 9506-2, Data)'),
+                         [('X.690', '8.1.2.5'), ('X.690', '8.4'), ('ISO 9506-2', 'Data')])
+        self.assertEqual(standards.clauses_in('of our own'), [])
 
     def test_links_elsewhere(self):
         self.assertIn('href="https://host/at/README.md#L', Sheet('https://host/at').page())

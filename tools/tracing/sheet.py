@@ -8,7 +8,7 @@ import subprocess
 
 from common.texts import counted
 
-from . import inner, lacking, shown
+from . import inner, lacking, shown, standards
 from .calls import CRATES, TOP, Call, crates
 from .definitions import NAMED, Declared, Named, Scope, below, cited, scope_of, scope_of_call
 from .edits import Edit, laws_about, refused_of
@@ -30,7 +30,7 @@ table { border-collapse: collapse; margin: .5em 0 } th, td { text-align: left; v
 a:hover { text-decoration: underline } summary { cursor: pointer; color: #555 }
 '''
 HEADINGS = ('Names of values', 'Signs and words', 'Where the words of a clause come from',
-            'Traits, laws and loans')
+            'How a form is read', 'Traits, laws and loans')
 # What a buyer asks for, and the promise that answers it.
 FIRST = {
     'The headline: never against the interlocking': 'P-001',
@@ -221,6 +221,43 @@ class Sheet:
             f'clauses and definitions</summary>{how}</details>', *body, self.inner(),
             f'<h2 id="definitions">Definitions</h2><p>{", ".join(links)}</p>', *parts.values(),
             '</html>\n'))
+
+
+class StandardSheet(Sheet):
+    """The page by standard and clause: definitions, laws and cases."""
+
+    def definitions(self) -> dict[Named, str]:
+        """All definitions, with their anchors."""
+        found = closure([it for crate in crates() for it in standards.definitions_of(crate)])
+        return {it: f'{it.crate}.{it.path.stem}.{it.name}' for it in found}
+
+    def clause(self, clause: str, found: list) -> str:
+        """A row of a clause."""
+        names = ', '.join(f'<a href="#{self.listed[it]}">{html.escape(it.name)}</a>'
+                          for it in found)
+        laws = dict.fromkeys(law for it in found for law in standards.laws_of(it))
+        told = ', '.join(f'{html.escape(it.title)} ({self.source(it.path, it.line)})'
+                         for it in laws)
+        cases = dict.fromkeys(name for it in found for name in shown.CASES.get(it.crate, ()))
+        return (f'<tr><td>{html.escape(clause)}</td><td>{names}</td><td>{told or "none"}</td>'
+                f'<td>{html.escape(", ".join(cases)) or "none"}</td></tr>')
+
+    def page(self) -> str:
+        """The whole page."""
+        tables: dict[str, list[str]] = {}
+        for (standard, clause), found in standards.by_clause().items():
+            tables.setdefault(standard, []).append(self.clause(clause, found))
+        body = [f'<h2>{html.escape(standard)}</h2><table><tr><th>Clause</th><th>Definitions</th>'
+                f'<th>Laws that cite them</th><th>Cases</th></tr>{"".join(rows)}</table>'
+                for standard, rows in tables.items()]
+        listed = sorted(self.listed, key=lambda it: (it.crate, it.name))
+        return ''.join((
+            '<!DOCTYPE html><html lang="en"><meta charset="utf-8">'
+            '<meta name="viewport" content="width=device-width"><title>By standard and clause'
+            f'</title><style>{STYLE}</style><h1>By standard and clause</h1><p>Each definition '
+            'stands under the clauses that the comment above it names, or else the head of its '
+            f'file.</p><p class="quiet">Commit {commit()}.</p>', *body, '<h2>Definitions</h2>',
+            *(self.crate(it, listed) for it in crates()), '</html>\n'))
 
 
 def closure(first: list[Named]) -> list[Named]:

@@ -1,0 +1,1 @@
+"""A release: what it holds, the Debian package, and what was proved and run for it."""

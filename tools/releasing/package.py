@@ -1,0 +1,110 @@
+"""The Debian package of a release: bayctl, the tools, the unit files and the documents."""
+import gzip
+import os
+import pathlib
+import shutil
+import subprocess
+import textwrap
+
+from common.ending import Failed
+
+TOP = pathlib.Path(__file__).resolve().parent.parent.parent
+STATION = TOP / 'examples' / 'station'
+# Where the README of the station installs by hand, and where a package does.
+PLACES = {'/usr/local/bin/bayctl': '/usr/bin/bayctl',
+          '/usr/local/lib/bayctl/tools': '/usr/share/bayctl/tools'}
+UNITS = ('bayctl@.service', 'driver@.service', 'tls@.service', 'station.service', 'bays.target')
+CONTROL = '''Package: bayctl
+Version: {version}
+Section: misc
+Priority: optional
+Architecture: amd64
+Maintainer: {maintainer}
+Installed-Size: {size}
+Depends: libc6, python3 (>= 3.11), systemd
+Recommends: stunnel4
+Description: bay controller of a substation, proved
+ An IEC 61850 MMS server between a bay's switchgear and its operators. An
+ interlocking program in Instruction List guards every switch command. Each
+ function of bayctl is proved; the tools beside it are not.
+'''
+POSTINST = '''#!/bin/sh
+set -e
+if [ "$1" = configure ]; then
+    systemd-sysusers bayctl.conf
+    systemd-tmpfiles --create bayctl.conf || true
+    if [ -d /run/systemd/system ]; then
+        systemctl daemon-reload || true
+    fi
+fi
+'''
+COPYRIGHT = '''The repository that this package was made of names no licence: ask whoever
+handed it to you before you hand it on.
+'''
+
+
+def moved(text: str) -> str:
+    """A unit file with the places of a package."""
+    for old, new in PLACES.items():
+        text = text.replace(old, new)
+    return text
+
+
+def put(root: pathlib.Path, name: str, octets: bytes, mode: int = 0o644) -> None:
+    """Writes a file of the package."""
+    path = root / name
+    path.parent.mkdir(parents=True, exist_ok=True)
+    path.write_bytes(octets)
+    path.chmod(mode)
+
+
+def put_folder(root: pathlib.Path, name: str, files: list[str]) -> None:
+    """Copies files of the repository, by their names from its top, below a folder."""
+    for it in files:
+        mode = 0o755 if os.access(TOP / it, os.X_OK) else 0o644
+        put(root, f'{name}/{it}', (TOP / it).read_bytes(), mode)
+
+
+def listed(*places: str) -> list[str]:
+    """The files of the repository below places, without tests."""
+    done = subprocess.run(('git', 'ls-files', '-z', *places), cwd=TOP, capture_output=True,
+                          text=True, check=True)
+    return [it for it in done.stdout.split('\0') if it and '/tests/' not in it]
+
+
+def laid_out(root: pathlib.Path, program: pathlib.Path, changes: bytes) -> None:
+    """Lays out what the package installs, and what runs when it is."""
+    put(root, 'usr/bin/bayctl', program.read_bytes(), 0o755)
+    put_folder(root, 'usr/share/bayctl', listed('tools'))
+    put_folder(root, 'usr/share/doc/bayctl', listed('README.md', 'docs', 'examples'))
+    put(root, 'usr/share/doc/bayctl/copyright', COPYRIGHT.encode())
+    put(root, 'usr/share/doc/bayctl/changelog.gz', gzip.compress(changes, mtime=0))
+    for it in UNITS:
+        text = moved((STATION / it).read_text(encoding='utf-8'))
+        put(root, f'usr/lib/systemd/system/{it}', text.encode())
+    for kind in ('sysusers', 'tmpfiles'):
+        put(root, f'usr/lib/{kind}.d/bayctl.conf', (STATION / f'{kind}.conf').read_bytes())
+    (root / 'etc' / 'bayctl').mkdir(parents=True)
+
+
+def package(folder: pathlib.Path, program: pathlib.Path, version: str,
+            maintainer: str) -> pathlib.Path:
+    """Builds the package in a folder, and returns its path."""
+    if shutil.which('dpkg-deb') is None:
+        raise Failed('dpkg-deb is not there: it builds the package')
+    root = folder / 'package'
+    laid_out(root, program, (TOP / 'CHANGELOG.md').read_bytes())
+    size = sum(it.stat().st_size for it in root.rglob('*') if it.is_file()) // 1024
+    put(root, 'DEBIAN/control', textwrap.dedent(CONTROL).format(
+        version=version, maintainer=maintainer, size=size).encode())
+    put(root, 'DEBIAN/postinst', POSTINST.encode(), 0o755)
+    for it in root.rglob('*'):
+        if it.is_dir():
+            it.chmod(0o755)
+    made = folder / f'bayctl_{version}_amd64.deb'
+    done = subprocess.run(('dpkg-deb', '--root-owner-group', '--build', root, made),
+                          capture_output=True, text=True)
+    shutil.rmtree(root)
+    if done.returncode:
+        raise Failed(f'dpkg-deb: {done.stderr.strip()}')
+    return made
