@@ -1,4 +1,6 @@
 """The Debian package of a release: bayctl, the tools, the unit files and the documents."""
+import datetime
+import email.utils
 import gzip
 import os
 import pathlib
@@ -41,6 +43,32 @@ fi
 COPYRIGHT = '''The repository that this package was made of names no licence: ask whoever
 handed it to you before you hand it on.
 '''
+CHANGES = '''bayctl ({version}) unstable; urgency=medium
+
+  * CHANGELOG.md.gz beside this file has what changed.
+
+ -- {maintainer}  {date}
+'''
+MANUAL = '''.TH BAYCTL 1
+.SH NAME
+bayctl \\- bay controller of a substation
+.SH SYNOPSIS
+.B bayctl check | compile | replay | serve | audit
+.RI [ options ]
+.SH DESCRIPTION
+Loads a bay file and an interlocking program, and checks them, replays a trace,
+serves clients of IEC 61850 MMS, or proves rules of the program.
+.B bayctl COMMAND \\-\\-help
+lists the options of a command.
+.SH SEE ALSO
+/usr/share/doc/bayctl/README.md, /usr/share/doc/bayctl/docs/USER.md
+'''
+# What lintian finds, and why it stays.
+OVERRIDES = '''# All services of the bays are started and stopped as one.
+bayctl: systemd-service-file-refers-to-unusual-wantedby-target bays.target *
+# The repository names no licence yet.
+bayctl: copyright-without-copyright-notice
+'''
 
 
 def moved(text: str) -> str:
@@ -72,13 +100,21 @@ def listed(*places: str) -> list[str]:
     return [it for it in done.stdout.split('\0') if it and '/tests/' not in it]
 
 
-def laid_out(root: pathlib.Path, program: pathlib.Path, changes: bytes) -> None:
-    """Lays out what the package installs, and what runs when it is."""
+def packed(text: str) -> bytes:
+    """A text as gzip packs it, at no time."""
+    return gzip.compress(text.encode(), mtime=0)
+
+
+def laid_out(root: pathlib.Path, program: pathlib.Path) -> None:
+    """Lays out what the package installs."""
     put(root, 'usr/bin/bayctl', program.read_bytes(), 0o755)
     put_folder(root, 'usr/share/bayctl', listed('tools'))
     put_folder(root, 'usr/share/doc/bayctl', listed('README.md', 'docs', 'examples'))
     put(root, 'usr/share/doc/bayctl/copyright', COPYRIGHT.encode())
-    put(root, 'usr/share/doc/bayctl/changelog.gz', gzip.compress(changes, mtime=0))
+    changes = (TOP / 'CHANGELOG.md').read_text(encoding='utf-8')
+    put(root, 'usr/share/doc/bayctl/CHANGELOG.md.gz', packed(changes))
+    put(root, 'usr/share/man/man1/bayctl.1.gz', packed(MANUAL))
+    put(root, 'usr/share/lintian/overrides/bayctl', OVERRIDES.encode())
     for it in UNITS:
         text = moved((STATION / it).read_text(encoding='utf-8'))
         put(root, f'usr/lib/systemd/system/{it}', text.encode())
@@ -93,7 +129,10 @@ def package(folder: pathlib.Path, program: pathlib.Path, version: str,
     if shutil.which('dpkg-deb') is None:
         raise Failed('dpkg-deb is not there: it builds the package')
     root = folder / 'package'
-    laid_out(root, program, (TOP / 'CHANGELOG.md').read_bytes())
+    laid_out(root, program)
+    date = email.utils.format_datetime(datetime.datetime.now(datetime.UTC))
+    put(root, 'usr/share/doc/bayctl/changelog.gz', packed(CHANGES.format(
+        version=version, maintainer=maintainer, date=date)))
     size = sum(it.stat().st_size for it in root.rglob('*') if it.is_file()) // 1024
     put(root, 'DEBIAN/control', textwrap.dedent(CONTROL).format(
         version=version, maintainer=maintainer, size=size).encode())

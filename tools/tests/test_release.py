@@ -34,7 +34,7 @@ class Package(Tools):
 
     def test_what_is_installed(self):
         program = self.file('bayctl', 'PROGRAM')
-        laid_out(self.folder / 'root', pathlib.Path(program), b'# Changes\n')
+        laid_out(self.folder / 'root', pathlib.Path(program))
         for name in ('usr/bin/bayctl', 'usr/share/bayctl/tools/client', 'etc/bayctl',
                      'usr/lib/systemd/system/bayctl@.service', 'usr/lib/tmpfiles.d/bayctl.conf',
                      'usr/share/doc/bayctl/docs/USER.md', 'usr/share/doc/bayctl/copyright'):

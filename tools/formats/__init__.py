@@ -1,0 +1,1 @@
+"""The formats of the definitions as ASN.1."""
