@@ -19,7 +19,8 @@ STATUSES = {
     PARTLY: 'not all was proved, tried or asked',
     INTERRUPTED: 'it was interrupted'}
 # The statuses that each tool ends with, beside 130.
-OF_TOOLS = {'acceptance': (0, 1, 2, 3), 'audit': (0, 1, 2, 3, 4), 'certify': (0, 1, 2, 3),
+OF_TOOLS = {'acceptance': (0, 1, 2, 3), 'asn1': (0, 2, 3), 'audit': (0, 1, 2, 3, 4),
+            'certify': (0, 1, 2, 3),
             'client': (0, 1, 2, 3), 'diagnose': (0, 1, 2, 3), 'explain': (0, 1, 2, 3),
             'figures': (0, 1, 2, 3), 'gpio': (0, 1, 2, 3), 'join': (0, 2, 3), 'log': (0, 2, 3),
             'modbus': (0, 1, 2, 3), 'panel': (0, 2, 3), 'release': (0, 1, 2, 3), 'rules': (0, 1, 2, 3),

@@ -61,10 +61,10 @@ def field_name(name: str) -> str:
 
 
 class Module:
-    """Writes the forms of a crate."""
+    """Writes the forms of a crate, which may name those of others."""
 
-    def __init__(self, forms: dict[str, Form]) -> None:
-        self.forms = forms
+    def __init__(self, forms: dict[str, Form], others: tuple[str, ...] = ()) -> None:
+        self.forms, self.others = forms, others
 
     def form(self, term: Term) -> Form | None:
         """The form that a term names."""
@@ -86,6 +86,8 @@ class Module:
             return self.value(self.opened(term))
         if term.head in ('made', 'such'):
             return constrained(self.value(term.args[1]), term)
+        if term.head in self.others:
+            return type_name(term.head)
         if term.head == 'under':
             return self.tagged(*term.args)
         if term.head == 'choice':
@@ -138,6 +140,8 @@ class Module:
             return constrained(self.content(term.args[1], word), term)
         if term.head in ('one', 'front'):
             return self.value(term.args[0])
+        if term.head in self.others:
+            return type_name(term.head)
         if term.head == 'each':
             return f'{word} OF {self.value(term.args[0])}'
         if term.head == 'fields':
@@ -206,7 +210,8 @@ def constrained(text: str, term: Term) -> str:
     """A type of which only a part is taken."""
     if term.head != 'such':
         return text
-    test = TEST.search(term.args[0].head)
+    head = term.args[0].head
+    test = TEST.search(head) if head.startswith('(') else re.match(r'\w+', head)
     return f'{text} (CONSTRAINED BY {{-- {test[0] if test else "a test"} --}})'
 
 
@@ -238,7 +243,8 @@ def apart(components: list[str]) -> list[str]:
     return found
 
 
-def module(crate: str, title: str) -> str:
-    """The module of a crate's forms."""
-    body = '\n\n'.join(Module(forms_of(crate)).text())
+def module(crate: str, title: str, below: tuple[str, ...] = ()) -> str:
+    """The module of a crate's forms, which may name those of the crates below it."""
+    others = tuple(it for other in below for it in forms_of(other))
+    body = '\n\n'.join(Module(forms_of(crate), others).text())
     return f'{title} DEFINITIONS ::= BEGIN\n\n{body}\n\nEND\n'
