@@ -1,13 +1,12 @@
 -- The contexts that are offered.
-use Rattle.std.proofs.Common.{◌≡◌, ℕ, ◌+◌, ◌-◌, ◌<◌, ◌||◌, ◌&&◌, Bool, true, false, not, List, [], ◌∷◌, ◌++◌, length, get_or, take, drop, Option, Some, None, refl, sym, ap, ◌∙◌}
+use Rattle.std.proofs.Common.{◌≡◌, ℕ, ◌+◌, ◌-◌, ◌<◌, ◌||◌, ◌&&◌, Bool, true, false, not, List, [], ◌∷◌, ◌++◌, length, get_or, take, drop, Option, Some, None, option_map, refl, sym, ap, ◌∙◌}
 use Rattle.std.specs.List.{list_any}
 use Rattle.std.proofs.lemmas.List.{drop_more, length-drop}
 use Rattle.std.proofs.Math.Seq.{take-length}
-use Rattle.bay_base.specs.Options.{◌>>=◌}
 use Rattle.bay_ber.specs.Values.{Part, onto, values_in}
 use Rattle.bay_ber.proofs.ListingLemmas.{Passed, passed-first, passed-more, passed-end, passed-bad, passed-stop}
 use Rattle.bay_assoc.specs.declared.presentation.Context.{Context}
-use Rattle.bay_assoc.specs.Presentation.{is_ber, offers_ber, has_id, are_distinct}
+use Rattle.bay_assoc.specs.Presentation.{transfer_syntax, transfer_syntaxes, has_id, are_distinct}
 
 -- ---- transfer syntaxes
 
@@ -15,11 +14,11 @@ use Rattle.bay_assoc.specs.Presentation.{is_ber, offers_ber, has_id, are_distinc
 -- Rules.
 pub record Flags (whole rest : List ℕ) (found : Bool) : Type 0 where
   pub done : List Bool
-  pub passed : Passed is_ber whole rest done
+  pub passed : Passed transfer_syntax.reads whole rest done
   pub is : found ≡ list_any (λ b. b) done
 
 pub flags-first : (whole : List ℕ) → Flags whole whole false
-flags-first whole = record { done = []; passed = passed-first is_ber whole; is = refl }
+flags-first whole = record { done = []; passed = passed-first transfer_syntax.reads whole; is = refl }
 
 any-more : (done : List Bool) (one : Bool)
     → list_any (λ b. b) (done ++ one ∷ []) ≡ (list_any (λ b. b) done || one)
@@ -30,33 +29,33 @@ any-more (false ∷ done) one = any-more done one
 
 pub flags-more : (whole rest new : List ℕ) (found one more : Bool) (part : Part)
     → Flags whole rest found → values_in rest ≡ onto (part ∷ []) (values_in new)
-    → is_ber part ≡ Some one → more ≡ (found || one) → Flags whole new more
+    → transfer_syntax.reads part ≡ Some one → more ≡ (found || one) → Flags whole new more
 flags-more whole rest new found one more part f step here is = record {
   done = f.done ++ one ∷ [];
-  passed = passed-more is_ber whole rest new f.done part one f.passed step here;
+  passed = passed-more transfer_syntax.reads whole rest new f.done part one f.passed step here;
   is = is ∙ ap (λ (b : Bool). b || one) f.is ∙ sym (any-more f.done one);
 }
 
 abbrev any_of : Option (List Bool) → Option Bool
-any_of o = o >>= λ each. Some (list_any (λ b. b) each)
+any_of o = option_map (list_any (λ b. b)) o
 
 pub flags-end : (whole rest : List ℕ) (found : Bool) → Flags whole rest found
-    → values_in rest ≡ Some [] → offers_ber whole ≡ Some found
-unfolding offers_ber
+    → values_in rest ≡ Some [] → transfer_syntaxes.reads whole ≡ Some found
+unfolding transfer_syntaxes
 flags-end whole rest found f last =
-    ap any_of (passed-end is_ber whole rest f.done f.passed last) ∙ ap Some (sym f.is)
+    ap any_of (passed-end transfer_syntax.reads whole rest f.done f.passed last) ∙ ap Some (sym f.is)
 
 pub flags-bad : (whole rest new : List ℕ) (found : Bool) (part : Part) → Flags whole rest found
-    → values_in rest ≡ onto (part ∷ []) (values_in new) → is_ber part ≡ None
-    → offers_ber whole ≡ None
-unfolding offers_ber
+    → values_in rest ≡ onto (part ∷ []) (values_in new) → transfer_syntax.reads part ≡ None
+    → transfer_syntaxes.reads whole ≡ None
+unfolding transfer_syntaxes
 flags-bad whole rest new found part f step bad =
-    ap any_of (passed-bad is_ber whole rest new f.done part f.passed step bad)
+    ap any_of (passed-bad transfer_syntax.reads whole rest new f.done part f.passed step bad)
 
 pub flags-stop : (whole rest : List ℕ) (found : Bool) → Flags whole rest found
-    → values_in rest ≡ None → offers_ber whole ≡ None
-unfolding offers_ber
-flags-stop whole rest found f stop = ap any_of (passed-stop is_ber whole rest f.done f.passed stop)
+    → values_in rest ≡ None → transfer_syntaxes.reads whole ≡ None
+unfolding transfer_syntaxes
+flags-stop whole rest found f stop = ap any_of (passed-stop transfer_syntax.reads whole rest f.done f.passed stop)
 
 -- ---- identifiers
 

@@ -26,8 +26,7 @@ use Rattle.bay_assoc.specs.Hearing.{Hearing, answer, mms, released, aborted, is_
 use Rattle.bay_assoc.specs.SpelledSession.{IsSize, SpellUnits, Framed, user_data, IsSpdu}
 use Rattle.bay_assoc.specs.SpelledValues.{IsUser, IsAssociate}
 use Rattle.bay_assoc.specs.SpelledHearing.{IsHeard}
-use Rattle.bay_assoc.proofs.AcseBackLemmas.{associate-back, release-back}
-use Rattle.bay_assoc.proofs.ValueBackLemmas.{user-back, request-back}
+use Rattle.bay_assoc.proofs.MessageLemmas.{user-back, request-back, associate-back, release-back}
 
 -- ---- units
 

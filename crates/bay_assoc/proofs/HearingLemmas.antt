@@ -12,7 +12,7 @@ use Rattle.bay_assoc.specs.SpelledValues.{IsUser}
 use Rattle.bay_assoc.specs.SpelledHearing.{IsAnswered, IsReleased, IsHeard}
 use Rattle.bay_initiate.proofs.InitiateLemmas.{initiate-read}
 use Rattle.bay_assoc.proofs.SpduLemmas.{spdu-again}
-use Rattle.bay_assoc.proofs.ValueLemmas.{user-read, request-read, associate-read, release-read}
+use Rattle.bay_assoc.proofs.MessageLemmas.{user-read, request-read, associate-read, release-read}
 
 answered : (octets text : List ℕ) (terms : AssociationTerms) → IsAnswered octets text terms
     → hearing Idle octets ≡ Ok (answer text, Open terms)

@@ -1,7 +1,8 @@
 -- A PDU of MMS stands last in its TSDU.
-use Rattle.std.proofs.Common.{◌≡◌, ℕ, pos, List, [], ◌∷◌, ◌++◌, Ok, IsSome, refl, sym, ap, subst, ◌∙◌}
+use Rattle.std.proofs.Common.{◌≡◌, ℕ, ℤ, pos, List, [], ◌∷◌, ◌++◌, Option, Some, None, Ok, IsSome, refl, sym, ap, subst, ◌∙◌}
 use Rattle.std.proofs.lemmas.List.{append-nil, append_assoc}
 use Rattle.bay_ber.specs.declared.tag.Tag.{Tag}
+use Rattle.bay_ber.specs.Forms.{Form, integer, octets as bare, anything, fields, under, done, next, AreMaybe}
 use Rattle.bay_ber.specs.Spelling.{Spells}
 use Rattle.bay_ber.specs.Values.{Part, value, SpellAll}
 use Rattle.bay_ber.proofs.ReadLemmas.{IsBytes}
@@ -12,10 +13,9 @@ use Rattle.bay_assoc.specs.declared.hearing.Phase.{Phase}
 use Rattle.bay_assoc.specs.declared.hearing.Phase.TheVariants.{Open}
 use Rattle.bay_assoc.specs.Hearing.{mms, hearing}
 use Rattle.bay_assoc.specs.Hears.{association_terms, StandsLast, IsOpenFor}
-use Rattle.bay_assoc.specs.Presentation.{Carried}
+use Rattle.bay_assoc.specs.Presentation.{Carried, carried_parts, pdv_list, user_part, user_data}
 use Rattle.bay_assoc.specs.SpelledHearing.{IsHeard}
-use Rattle.bay_assoc.specs.SpelledValues.{IsCarried, IsUser}
-use Rattle.bay_assoc.specs.Tags.{application}
+use Rattle.bay_assoc.specs.Tags.{oid_tag, application}
 use Rattle.bay_assoc.specs.Views.{hearing_of}
 use Rattle.bay_assoc.proofs.HearingBackLemmas.{heard-is-spelled}
 
@@ -38,30 +38,54 @@ value-last : (octets : List ℕ) (tag : Tag) (content : List ℕ) → Spells oct
 value-last octets tag content s =
     record { front = s.front ++ s.len; is = s.parts ∙ sym (append_assoc s.front s.len content) }
 
-last-of : (octets : List ℕ) (parts : List Part) (tag : Tag) (content : List ℕ)
-    → SpellAll octets (parts ++ value tag content ∷ []) → EndsWith octets content
-last-of octets [] tag content s =
+last-of : (octets : List ℕ) (parts : List Part) (tag : Tag) (content : List ℕ) (last : Part)
+    → last ≡ value tag content → SpellAll octets (parts ++ last ∷ []) → EndsWith octets content
+last-of octets [] tag content last same s =
     ends-on octets s.0 content
     (record { front = []; is = s.2 ∙ ap (λ (ys : List ℕ). s.0 ++ ys) s.4 ∙ append-nil s.0 })
-    (value-last s.0 tag content s.3)
-last-of octets (part ∷ parts) tag content s =
+    (subst (λ (p : Part). EndsWith s.0 p.content) same (value-last s.0 last.tag last.content s.3))
+last-of octets (part ∷ parts) tag content last same s =
     ends-on octets s.1 content (record { front = s.0; is = s.2 })
-    (last-of s.1 parts tag content s.4)
+    (last-of s.1 parts tag content last same s.4)
 
-carried-last : (octets : List ℕ) (c : Carried) → IsCarried octets c → EndsWith octets c.value
+abbrev pair : Form (List Part) (ℤ × (List ℕ × Unit {0}))
+pair = next (under int_tag integer) (next (under (constructed 0) bare) done)
+
+pair-last : (octets : List ℕ) (front parts : List Part) (x : ℤ × (List ℕ × Unit {0}))
+    → SpellAll octets (front ++ parts) → pair.Spells parts x → EndsWith octets x.1.0
+pair-last octets front (id ∷ v ∷ []) x s is =
+    subst (EndsWith octets) is.1.0.2
+    (last-of octets (front ++ id ∷ []) (constructed 0) is.1.0.0 v is.1.0.1
+    (subst (SpellAll octets) (sym (append_assoc front (id ∷ []) (v ∷ []))) s))
+pair-last octets front (id ∷ v ∷ w ∷ more) x s is = let none = is.1.1 in absurd cc
+pair-last octets front (id ∷ []) x s is = absurd is.1
+pair-last octets front [] x s is = absurd is
+
+parts-last : (octets : List ℕ) (parts : List Part) (name : Option (Unit {0}))
+    (x : ℤ × (List ℕ × Unit {0})) → SpellAll octets parts
+    → AreMaybe oid_tag anything.Spells pair.Spells parts name x → EndsWith octets x.1.0
+parts-last octets parts None x s is = pair-last octets [] parts x s is.1
+parts-last octets (p ∷ parts) (Some name) x s is = pair-last octets (p ∷ []) parts x s is.3
+parts-last octets [] (Some name) x s is = absurd is
+
+carried-last : (octets : List ℕ) (c : Carried) → (fields carried_parts).Spells octets c
+    → EndsWith octets c.value
+unfolding carried_parts
 carried-last octets c is =
-    let P : List Part → Type 0 = λ parts. SpellAll octets parts in
-    last-of octets (is.names ++ value int_tag is.number ∷ []) (constructed 0) c.value
-    (subst P
-    (sym (append_assoc is.names (value int_tag is.number ∷ [])
-    (value (constructed 0) c.value ∷ []))) is.parts)
+    let x = is.3 in
+    subst (λ (d : Carried). EndsWith octets d.value) x.2
+    (parts-last octets is.0 x.0.0 x.0.1 is.1 x.1)
 
-user-last : (octets : List ℕ) (c : Carried) → IsUser octets c → EndsWith octets c.value
+user-last : (octets : List ℕ) (c : Carried) → user_data.Spells octets c → EndsWith octets c.value
+unfolding user_data user_part pdv_list
 user-last octets c is =
-    ends-on octets is.content c.value (last-of octets [] (application 1) is.content is.whole)
-    (ends-on is.content is.listed.content c.value
-    (last-of is.content [] sequence is.listed.content is.listed.whole)
-    (carried-last is.listed.content c is.listed.carried))
+    let outer = is.2 in
+    let inner = outer.2 in
+    let list = inner.2 in
+    ends-on octets outer.0 c.value (last-of octets [] (application 1) outer.0 is.0 outer.1 is.1)
+    (ends-on outer.0 list.0 c.value
+    (last-of outer.0 [] sequence list.0 inner.0 list.1 inner.1)
+    (carried-last list.0 c list.2))
 
 heard-last : (old new : Phase) (octets pdu : List ℕ) → IsHeard old octets (mms pdu) new
     → EndsWith octets pdu

@@ -1,14 +1,11 @@
-pub mod AcseBackLemmas
 pub mod ContextLemmas
 pub mod FrontLemmas
 pub mod HearingBackLemmas
 pub mod HearingLemmas
 pub mod LastLemmas
-pub mod ModeLemmas
+pub mod MessageLemmas
 pub mod RefusalLemmas
 pub mod SpduLemmas
 pub mod TextLemmas
 pub mod UnitLemmas
-pub mod ValueBackLemmas
-pub mod ValueLemmas
 pub mod WrapLemmas

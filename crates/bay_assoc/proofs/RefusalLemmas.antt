@@ -25,9 +25,8 @@ use Rattle.bay_assoc.specs.SpelledValues.{IsUser, IsRequest, IsAssociate, IsRele
 use Rattle.bay_assoc.specs.SpelledRefusals.{IsIn, IsElsewhere, Disagrees, lacks_contexts, user_elsewhere, user_in_mms, no_associate, pdu_elsewhere, pdu_in_acse, no_initiate, too_small, IsEarly, IsLate, IsRefusedFirst, no_spdu, early, no_request, disagrees, IsRefusedOpen, no_spdu_later, late, no_release_user, release_elsewhere, release_in_mms, no_release, no_data_user, data_elsewhere, data_in_acse, IsRefused}
 use Rattle.bay_assoc.proofs.HearingBackLemmas.{UserBytes, spdu-back, id-is}
 use Rattle.bay_assoc.proofs.SpduLemmas.{spdu-again}
-use Rattle.bay_assoc.proofs.ValueLemmas.{user-read, request-read, associate-read, release-read}
-use Rattle.bay_assoc.proofs.AcseBackLemmas.{associate-back, release-back}
-use Rattle.bay_assoc.proofs.ValueBackLemmas.{user-back, request-back}
+use Rattle.bay_assoc.proofs.MessageLemmas.{user-read, request-read, associate-read, release-read}
+use Rattle.bay_assoc.proofs.MessageLemmas.{user-back, request-back, associate-back, release-back}
 
 -- ---- what is read and what is spelled
 
@@ -235,7 +234,7 @@ module _ (a : Accepted) (octets user : List ℕ) (f : AssocFault) where
       → (or_fault fault.BadAcse o >> g) ≡ Err f → IsRefusedOpen a octets f
   release-case c None spdu is in_acse lack g never e =
       no_release user c spdu is in_acse
-      (λ r. absurd (let k : None ≡ Some r.content = sym lack ∙ release-read c.value r in cc))
+      (λ r. absurd (let k : None ≡ Some r.0 = sym lack ∙ release-read c.value r in cc))
       (same-fault fault.BadAcse f e)
   release-case c (Some y) spdu is in_acse has g never e = absurd (never y e)
 

@@ -7,7 +7,8 @@ use Rattle.bay_ber.specs.declared.tag.Tag.{Tag}
 use Rattle.bay_base.specs.Options.{◌>>=◌}
 use Rattle.bay_ber.specs.Content.{integer_in}
 use Rattle.bay_ber.specs.Writing.{element, integer_octets}
-use Rattle.bay_ber.specs.Values.{Part, integer_under, only_one, value_in, at_most_five, few_in}
+use Rattle.bay_ber.specs.Values.{Part, only_one, value_in, at_most_five, few_in}
+use Rattle.bay_ber.specs.Values as ber
 use Rattle.bay_ber.proofs.ContentLemmas.{integer-again}
 use Rattle.bay_ber.proofs.ListingLemmas.{values-again}
 use Rattle.bay_ber.proofs.SizeLemmas.{length-element, length-integer_octets}
@@ -17,7 +18,7 @@ use Rattle.bay_assoc.specs.Tags.{application}
 use Rattle.bay_assoc.specs.declared.hearing.AssociationTerms.{AssociationTerms}
 use Rattle.bay_assoc.specs.declared.hearing.Phase.{Phase}
 use Rattle.bay_assoc.specs.declared.hearing.Phase.TheVariants.{Open}
-use Rattle.bay_assoc.specs.Presentation.{carried_as, carried_in, carried_under, user_in}
+use Rattle.bay_assoc.specs.Presentation.{carried_parts, pdv_list, user_part, user_data}
 use Rattle.bay_assoc.specs.Session.{spdu_in}
 use Rattle.bay_assoc.specs.Texts.{user_text, transfer_text}
 use Rattle.bay_assoc.specs.Hearing.{mms, data_transfer, hearing}
@@ -63,14 +64,15 @@ id-again id low =
     fits id low = omega arith
 
 carried-again : (id : ℕ) (value : List ℕ) → id < 65536
-    → carried_as (record { tag = int_tag; content = integer_octets (pos id) })
-    (record { tag = constructed 0; content = value }) ≡ Some (record { id = pos id; value = value })
-unfolding carried_as integer_under
+    → carried_parts.reads
+    (ber.value int_tag (integer_octets (pos id)) ∷ ber.value (constructed 0) value ∷ [])
+    ≡ Some (record { id = pos id; value = value })
+unfolding carried_parts
 carried-again id value low = rw (id-again id low) refl
 
 pub user-again : (id : ℕ) (value : List ℕ) → id < 65536 → length value < 2 ^ 31
-    → user_in (user_text id value) ≡ Some (record { id = pos id; value = value })
-unfolding user_in carried_under carried_in
+    → user_data.reads (user_text id value) ≡ Some (record { id = pos id; value = value })
+unfolding user_data user_part pdv_list
 user-again id value low short =
     let number = integer_octets (pos id) in
     let inner = element int_tag number ++ element (constructed 0) value in
@@ -91,7 +93,7 @@ user-again id value low short =
     rw (a, b, d) (carried-again id value low)
 
 pub transfer-heard : (terms : AssociationTerms) (pdu : List ℕ)
-    → user_in (user_text terms.contexts.mms pdu)
+    → user_data.reads (user_text terms.contexts.mms pdu)
     ≡ Some (record { id = pos terms.contexts.mms; value = pdu })
     → hearing (Open terms) (transfer_text (user_text terms.contexts.mms pdu))
     ≡ Ok (mms pdu, Open terms)

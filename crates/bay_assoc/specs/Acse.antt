@@ -1,37 +1,41 @@
--- Association control (ISO 8650-1 9), by the values that octets are.
+-- What is read of association control (ISO 8650-1 9): the requests for an association and for a
+-- release.
 use Rattle.std.specs.Prelude.{List, [], ◌∷◌, ℕ, Option, Some, None, if◌then◌else◌}
 use Rattle.std.specs.Str.{bytes_eq}
-use Rattle.bay_base.specs.Options.{◌>>=◌}
-use Rattle.bay_ber.specs.Values.{Part, value_in, few_in, known_in, under}
+use Rattle.bay_ber.specs.Forms.{Form, made, such, octets, one, fields, known, under, done, next}
 use Rattle.bay_ber.specs.Tags.{constructed}
+use Rattle.bay_ber.specs.Values.{Part}
 use Rattle.bay_assoc.specs.Tags.{oid_tag, external_tag, application, mms_application}
-use Rattle.bay_assoc.specs.Presentation.{Carried, carried_of}
+use Rattle.bay_assoc.specs.Presentation.{Carried, carried_parts}
 
 -- the application context of MMS
 abbrev pub application_of : List ℕ → Option (List ℕ)
 application_of name = if bytes_eq name mms_application then Some name else None
 
--- the application context that a value names, where it is that of MMS
-unfoldable pub application_as : Part → Option (List ℕ)
-application_as part = under (constructed 1) part >>= value_in >>= under oid_tag >>= application_of
+-- the application context, which is that of MMS (application-context-name)
+unfoldable pub application_context : Form Part (List ℕ)
+application_context = under (constructed 1) (one (under oid_tag (such application_of octets)))
 
--- user information is one external
-unfoldable pub information_as : Part → Option Carried
-information_as part =
-    under (constructed 30) part >>= value_in >>= under external_tag >>= few_in >>= carried_of
+-- one external (user-information)
+unfoldable pub information : Form Part Carried
+information = under (constructed 30) (one (under external_tag (fields carried_parts)))
 
--- an application context and the user information behind it
-abbrev pub associate_of : List Part → Option Carried
-associate_of (name ∷ information ∷ []) =
-    application_as name >>= λ ignored. information_as information
-associate_of parts = None
+-- the application context and the user information, which is read
+unfoldable pub associate_parts : Form (List Part) Carried
+associate_parts = made (λ x. x.1.0) (next application_context (next information done))
 
--- the user information of the request for an association (AARQ) that octets are, among other fields
-unfoldable pub associate_in : List ℕ → Option Carried
-associate_in octets =
-    value_in octets >>= under (application 0) >>= known_in (constructed 1 ∷ constructed 30 ∷ [])
-    >>= associate_of
+-- the request for an association, among whose fields are these (AARQ-apdu)
+unfoldable pub associate : Form (List ℕ) Carried
+associate =
+    one (under (application 0) (known (constructed 1 ∷ constructed 30 ∷ []) associate_parts))
 
--- the content of the request for a release (RLRQ) that octets are
+-- the request for a release, whose content is not looked into (RLRQ-apdu)
+unfoldable pub release : Form (List ℕ) (List ℕ)
+release = one (under (application 2) octets)
+
+-- what octets are read as
+abbrev pub associate_in : List ℕ → Option Carried
+associate_in octets = associate.reads octets
+
 abbrev pub release_in : List ℕ → Option (List ℕ)
-release_in octets = value_in octets >>= under (application 2)
+release_in octets = release.reads octets

@@ -1,56 +1,47 @@
--- Presentation protocol data units (ISO 8823-1 8.2), by the values that octets are.
+-- What is read of presentation protocol data units (ISO 8823-1 8.2): the user data, and the request
+-- for a connection (CP).
 use Rattle.std.specs.Prelude.{ℕ, ℤ, pos, negsuc, ◌==◌, ◌&&◌, Bool, true, not, List, [], ◌∷◌, length, Option, Some, None, nat_lt, if◌then◌else◌}
 use Rattle.std.specs.List.{list_any}
 use Rattle.std.specs.Str.{bytes_eq}
-use Rattle.bay_base.specs.Options.{◌>>=◌}
-use Rattle.bay_ber.specs.declared.tag.Tag.{Tag}
-use Rattle.bay_ber.specs.Tags.{same_tag, context, constructed, sequence, int_tag}
-use Rattle.bay_ber.specs.Content.{integer_in}
-use Rattle.bay_ber.specs.Values.{Part, value_in, few_in, known_in, each_in, under, integer_under}
+use Rattle.bay_ber.specs.Forms.{Form, made, such, integer, octets, anything, one, fields, known, each, whole, under, done, next, maybe, by_first}
+use Rattle.bay_ber.specs.Tags.{context, constructed, sequence, int_tag}
+use Rattle.bay_ber.specs.Values.{Part}
 use Rattle.bay_assoc.specs.Tags.{oid_tag, set_tag, application, acse_syntax, mms_syntax, ber_syntax}
 use Rattle.bay_assoc.specs.declared.presentation.Context.{Context}
 
--- the content of the one value that octets are, under a tag
-abbrev pub content_under : Tag → List ℕ → Option (List ℕ)
-content_under tag octets = value_in octets >>= under tag
+-- ---- the definition of contexts (Context-list)
 
--- ---- contexts that are offered
+-- a transfer syntax: whether it is the Basic Encoding Rules
+unfoldable pub transfer_syntax : Form Part Bool
+transfer_syntax = under oid_tag (made (λ name. bytes_eq name ber_syntax) octets)
 
--- whether the transfer syntax is the Basic Encoding Rules
-unfoldable pub is_ber : Part → Option Bool
-is_ber part = under oid_tag part >>= λ name. Some (bytes_eq name ber_syntax)
-
--- whether it is one of those that octets list
-unfoldable pub offers_ber : List ℕ → Option Bool
-offers_ber octets = each_in is_ber octets >>= λ each. Some (list_any (λ b. b) each)
+-- transfer syntaxes: whether one of them is
+unfoldable pub transfer_syntaxes : Form (List ℕ) Bool
+transfer_syntaxes = made (list_any (λ b. b)) (each transfer_syntax)
 
 -- an identifier of a context, 1 to 32,767
 abbrev pub context_id : ℤ → Option ℕ
 context_id (pos n) = if nat_lt 0 n && nat_lt n 32768 then Some n else None
 context_id (negsuc n) = None
 
--- a context: its identifier, the abstract syntax, and the transfer syntaxes
-unfoldable pub context_with : Part → Part → Part → Option Context
-context_with id syntax transfers = do
-  z ← integer_under int_tag id
-  n ← context_id z
-  name ← under oid_tag syntax
-  list ← under sequence transfers
-  ber ← offers_ber list
-  Some (record {
-    id = n;
-    is_acse = ber && bytes_eq name acse_syntax;
-    is_mms = ber && bytes_eq name mms_syntax;
-  })
+-- a context out of its identifier, its abstract syntax, and whether BER is offered
+abbrev pub context_of : ℕ × (List ℕ × (Bool × Unit {0})) → Context
+context_of x =
+    record {
+      id = x.0;
+      is_acse = x.1.1.0 && bytes_eq x.1.0 acse_syntax;
+      is_mms = x.1.1.0 && bytes_eq x.1.0 mms_syntax;
+    }
 
--- three parts are a context
-abbrev pub context_of : List Part → Option Context
-context_of (id ∷ syntax ∷ transfers ∷ []) = context_with id syntax transfers
-context_of parts = None
+-- a context's identifier, its abstract syntax, and its transfer syntaxes
+unfoldable pub context_parts : Form (List Part) Context
+context_parts =
+    made context_of (next (under int_tag (such context_id integer)) (next (under oid_tag octets)
+    (next (under sequence transfer_syntaxes) done)))
 
--- the context that a value offers
-unfoldable pub context_as : Part → Option Context
-context_as part = under sequence part >>= few_in >>= context_of
+-- one context of the list
+unfoldable pub definition : Form Part Context
+definition = under sequence (fields context_parts)
 
 -- whether a context has this identifier
 abbrev pub has_id : ℕ → List Context → Bool
@@ -67,121 +58,104 @@ few_contexts contexts =
     if nat_lt 16 (length contexts) then None
     else (if are_distinct contexts then Some contexts else None)
 
--- the contexts that octets offer
-unfoldable pub contexts_in : List ℕ → Option (List Context)
-contexts_in octets = each_in context_as octets >>= few_contexts
+-- the contexts that are offered
+unfoldable pub definition_list : Form (List ℕ) (List Context)
+definition_list = such few_contexts (each definition)
 
--- ---- presentation data values
+-- ---- user data (User-data)
 
 -- a value, and the context that it is in
 pub record Carried : Type 0 where
   pub id : ℤ
   pub value : List ℕ
 
--- a value in the context of this identifier
-unfoldable pub carried_as : Part → Part → Option Carried
-carried_as id value = do
-  z ← integer_under int_tag id
-  octets ← under (constructed 0) value
-  Some (record { id = z; value = octets })
+abbrev pub carried_by : Option (Unit {0}) × (ℤ × (List ℕ × Unit {0})) → Carried
+carried_by x = record { id = x.1.0; value = x.1.1.0 }
 
--- an object identifier may stand before the context, which is not looked at
-abbrev pub carried_of : List Part → Option Carried
-carried_of (id ∷ value ∷ []) = carried_as id value
-carried_of (name ∷ id ∷ value ∷ []) = under oid_tag name >>= λ ignored. carried_as id value
-carried_of parts = None
+-- The parts of a PDV-list, and of an EXTERNAL (X.690 8.18): an object identifier that may be left
+-- out and is not looked at, a context's identifier, and a value as a single ASN.1 type.
+unfoldable pub carried_parts : Form (List Part) Carried
+carried_parts =
+    made carried_by (maybe oid_tag anything
+    (next (under int_tag integer) (next (under (constructed 0) octets) done)))
 
--- the one value of fully encoded user data
-unfoldable pub carried_in : List ℕ → Option Carried
-carried_in octets = value_in octets >>= under sequence >>= few_in >>= carried_of
+-- a value and its context (PDV-list)
+unfoldable pub pdv_list : Form Part Carried
+pdv_list = under sequence (fields carried_parts)
 
--- the one value of fully encoded user data, under their tag
-unfoldable pub carried_under : Part → Option Carried
-carried_under part = under (application 1) part >>= carried_in
+-- one of them, fully encoded (Fully-encoded-data)
+unfoldable pub user_part : Form Part Carried
+user_part = under (application 1) (one pdv_list)
 
 -- the user data that octets are
-unfoldable pub user_in : List ℕ → Option Carried
-user_in octets = value_in octets >>= carried_under
+unfoldable pub user_data : Form (List ℕ) Carried
+user_data = one user_part
 
--- ---- the request for a connection (CP)
+-- ---- the request for a connection (CP-type)
 
--- what a request for a connection has: the called selector, where it came, the contexts, and the
--- user data
+-- what it has: the called selector, where it came, the contexts, and the user data
 pub record Connect : Type 0 where
   pub called : Option (List ℕ)
   pub contexts : List Context
   pub user : Carried
 
--- at most 16 octets
+-- a selector of at most 16 octets
 abbrev pub selector_of : List ℕ → Option (List ℕ)
 selector_of octets = if nat_lt 16 (length octets) then None else Some octets
 
--- the called selector, where it came
-abbrev pub selector_as : Option Part → Option (Option (List ℕ))
-selector_as None = Some None
-selector_as (Some part) = under (context 2) part >>= selector_of >>= λ octets. Some (Some octets)
+abbrev pub connect_by : Option (List ℕ) × (List Context × (Carried × Unit {0})) → Connect
+connect_by x = record { called = x.0; contexts = x.1.0; user = x.1.1.0 }
 
--- a request out of its parts
-unfoldable pub connect_with : Option Part → Part → Part → Option Connect
-connect_with selector list user = do
-  called ← selector_as selector
-  octets ← under (constructed 4) list
-  contexts ← contexts_in octets
-  carried ← carried_under user
-  Some (record { called = called; contexts = contexts; user = carried })
+-- the called selector, which may be left out, the contexts, and the user data
+unfoldable pub connect_parts : Form (List Part) Connect
+connect_parts =
+    made connect_by (maybe (context 2) (such selector_of octets)
+    (next (under (constructed 4) definition_list) (next user_part done)))
 
--- the calling selector may be left out, and so may the called one
-abbrev pub connect_of : List Part → Option Connect
-connect_of (list ∷ user ∷ []) = connect_with None list user
-connect_of (selector ∷ list ∷ user ∷ []) =
-    if same_tag selector.tag (context 1)
-    then connect_with None list user
-    else connect_with (Some selector) list user
-connect_of (calling ∷ called ∷ list ∷ user ∷ []) =
-    under (context 1) calling >>= λ ignored. connect_with (Some called) list user
-connect_of parts = None
+-- before them the calling selector, which may be left out and is not looked at
+unfoldable pub normal_parts : Form (List Part) Connect
+normal_parts = made (λ x. x.1) (maybe (context 1) anything connect_parts)
 
--- the parameters of the normal mode, among other fields
-unfoldable pub normal_in : List ℕ → Option Connect
-normal_in octets =
-    known_in (context 1 ∷ context 2 ∷ constructed 4 ∷ application 1 ∷ []) octets >>= connect_of
-
--- the parameters of the normal mode, under their tag
-unfoldable pub normal_as : Part → Option Connect
-normal_as part = under (constructed 2) part >>= normal_in
+-- the parameters of the normal mode, among other fields (normal-mode-parameters)
+unfoldable pub normal : Form Part Connect
+normal =
+    under (constructed 2)
+    (known (context 1 ∷ context 2 ∷ constructed 4 ∷ application 1 ∷ []) normal_parts)
 
 -- the normal mode is the number 1
 abbrev pub mode_of : ℤ → Option ℤ
 mode_of (pos n) = if n == 1 then Some (pos n) else None
 mode_of (negsuc n) = None
 
--- the mode that a value is
-unfoldable pub mode_as : Part → Option ℤ
-mode_as part =
-    under (constructed 0) part >>= value_in >>= under (context 0) >>= integer_in >>= mode_of
+-- the normal mode (Mode-selector)
+unfoldable pub mode : Form Part ℤ
+mode = under (constructed 0) (one (under (context 0) (such mode_of integer)))
 
--- the mode and the parameters, in either order
-abbrev pub request_of : List Part → Option Connect
-request_of (first ∷ second ∷ []) =
-    if same_tag first.tag (constructed 0)
-    then mode_as first >>= (λ mode. normal_as second)
-    else mode_as second >>= (λ mode. normal_as first)
-request_of parts = None
+-- the normal mode and its parameters, in either order, as in a set
+unfoldable pub mode_parts : {A : Type 0} → Form Part A → Form (List Part) A
+mode_parts parameters =
+    by_first (constructed 0) (made (λ x. x.1.0) (next mode (next parameters done)))
+    (made (λ x. x.0) (next parameters (next mode done)))
 
--- the mode, in either order
-abbrev pub mode_among : List Part → Option ℤ
-mode_among (first ∷ second ∷ []) =
-    if same_tag first.tag (constructed 0) then mode_as first else mode_as second
-mode_among parts = None
+-- the two among other fields
+unfoldable pub cp : {A : Type 0} → Form Part A → Form (List ℕ) A
+cp parameters =
+    one (under set_tag (known (constructed 0 ∷ constructed 2 ∷ []) (mode_parts parameters)))
 
--- the mode of a request for a connection, where its fields are those of one
-unfoldable pub mode_in : List ℕ → Option ℤ
-mode_in octets =
-    value_in octets >>= under set_tag >>= known_in (constructed 0 ∷ constructed 2 ∷ [])
-    >>= mode_among
+-- a request for a connection
+abbrev pub request : Form (List ℕ) Connect
+request = cp normal
 
--- the request that octets are, among other fields
-unfoldable pub request_in : List ℕ → Option Connect
-request_in octets =
-    value_in octets >>= under set_tag >>= known_in (constructed 0 ∷ constructed 2 ∷ [])
-    >>= request_of
+-- one whose parameters are not looked at
+abbrev pub request_mode : Form (List ℕ) Part
+request_mode = cp whole
+
+-- what octets are read as
+abbrev pub user_in : List ℕ → Option Carried
+user_in octets = user_data.reads octets
+
+abbrev pub request_in : List ℕ → Option Connect
+request_in octets = request.reads octets
+
+abbrev pub mode_in : List ℕ → Option Part
+mode_in octets = request_mode.reads octets

@@ -198,7 +198,7 @@ fn agreement(contexts: &[Context], user: Carried<'_>) -> Result<(Accepted, Agree
 }
 
 // A request for a connection.
-#[tactic(auto, unfolding(crate::specs::Hearing::connection_request), using(crate::proofs::ModeLemmas::a_request_has_its_mode))]
+#[tactic(auto, unfolding(crate::specs::Hearing::connection_request))]
 fn connected<'a>(alloc: Global, user: &'a [u8]) -> Result<(Heard<'a>, Phase), AssocFault>
     ensures heard { Gives AssocFault.OutOfMemory (λ x. (hearing_of x.0, x.1)) result
         (spec.connection_request user.now) }

@@ -1,10 +1,11 @@
 // Presentation protocol data units (ISO 8823-1 8.2).
 ghost use Rattle.std.specs.Prelude.{◌≡◌, ◌≤◌, ◌++◌, ◌∷◌, ◌&&◌, ◌||◌, [], length, map, option_map, OnOk, IfOk, IfSome, IsErrOf, IsSome};
-ghost use Rattle.std.specs.Option.{option_copied, ForSome};
 ghost use Rattle.bay_base.specs.Exact.{Gives};
-ghost use Rattle.bay_ber.specs.Values.{part_of, each_in};
+ghost use Rattle.bay_ber.specs.Forms.{octets as any_content, one, under, each, whole};
+ghost use Rattle.bay_ber.specs.Values.{part_of};
 ghost use Rattle.bay_assoc.specs.declared.fault.AssocFault.TheVariants.{BadPresentation};
 ghost use Rattle.bay_assoc.specs.Results.{or_fault};
+ghost use Rattle.bay_assoc.specs.Presentation.{transfer_syntax, transfer_syntaxes, context_parts, definition, definition_list, carried_parts, pdv_list, user_part, user_data, connect_parts, normal_parts, normal, mode, mode_parts, request, request_mode};
 ghost use Rattle.bay_assoc.specs.Presentation as spec;
 ghost use Rattle.bay_assoc.specs.Views.{carried_view, connect_view};
 
@@ -47,16 +48,16 @@ pub struct Carried<'a> {
 
 /// Reads octets as exactly one value and returns its content if it has this tag.
 pub(crate) fn content_under<'a>(octets: &'a [u8], tag: Tag) -> Option<&'a [u8]>
-    ensures { option_map (λ o. o.now) result ≡ spec.content_under tag octets.now }
+    ensures { option_map (λ o. o.now) result ≡ (one (under tag any_content)).reads octets.now }
 {
     let value = whole_value(octets)?;
     value.under(tag)
 }
 
 // Whether a transfer syntax is the Basic Encoding Rules.
-#[tactic(auto, unfolding(crate::specs::Presentation::is_ber))]
+#[tactic(auto, unfolding(crate::specs::Presentation::transfer_syntax))]
 fn is_ber(value: &Value<'_>) -> Option<bool>
-    ensures { result ≡ spec.is_ber (part_of value.now) }
+    ensures { result ≡ transfer_syntax.reads (part_of value.now) }
 {
     let name = value.under(Tag::universal(6))?;
     Some(name == BER)
@@ -78,7 +79,7 @@ fn either(first: bool, second: bool) -> bool
 
 // Whether one of the transfer syntaxes in octets is.
 fn offers_ber(octets: &[u8]) -> Option<bool>
-    ensures { result ≡ spec.offers_ber octets.now }
+    ensures { result ≡ transfer_syntaxes.reads octets.now }
 {
     let mut found = false;
     let mut values = Values::new(octets);
@@ -108,10 +109,10 @@ fn context_id(number: i64) -> Option<u16>
 }
 
 // The context of an identifier, an abstract syntax and a list of transfer syntaxes.
-#[tactic(auto, unfolding(crate::specs::Presentation::context_with))]
+#[tactic(auto, unfolding(crate::specs::Presentation::context_parts, bay_ber::specs::Values::integer_under))]
 fn context_with(id: &Value<'_>, syntax: &Value<'_>, transfers: &Value<'_>) -> Option<Context>
-    ensures { result ≡ spec.context_with (part_of id.now) (part_of syntax.now)
-        (part_of transfers.now) }
+    ensures { result ≡ context_parts.reads
+        (part_of id.now ∷ part_of syntax.now ∷ part_of transfers.now ∷ []) }
 {
     let id = context_id(id.integer_under(Tag::universal(2))?)?;
     let name = syntax.under(Tag::universal(6))?;
@@ -125,8 +126,9 @@ fn context_with(id: &Value<'_>, syntax: &Value<'_>, transfers: &Value<'_>) -> Op
 }
 
 // The context whose three parts these are.
+#[tactic(auto, unfolding(crate::specs::Presentation::context_parts))]
 fn context_of(parts: &[Value<'_>]) -> Option<Context>
-    ensures { result ≡ spec.context_of (map part_of parts.now) }
+    ensures { result ≡ context_parts.reads (map part_of parts.now) }
 {
     match parts {
         [id, syntax, transfers] => context_with(id, syntax, transfers),
@@ -135,9 +137,9 @@ fn context_of(parts: &[Value<'_>]) -> Option<Context>
 }
 
 // The context that a value offers.
-#[tactic(auto, unfolding(crate::specs::Presentation::context_as))]
+#[tactic(auto, unfolding(crate::specs::Presentation::definition))]
 fn context_as(value: &Value<'_>) -> Option<Context>
-    ensures { result ≡ spec.context_as (part_of value.now) }
+    ensures { result ≡ definition.reads (part_of value.now) }
 {
     let parts = few_values(value.under(Tag::sequence())?)?;
     context_of(parts.as_slice())
@@ -146,7 +148,7 @@ fn context_as(value: &Value<'_>) -> Option<Context>
 // The contexts that octets offer, one after another.
 fn read_contexts(alloc: Global, octets: &[u8]) -> Result<Vec<Context>, AssocFault>
     ensures { Gives AssocFault.OutOfMemory (λ v. v.items) result
-        (or_fault BadPresentation (each_in spec.context_as octets.now)) }
+        (or_fault BadPresentation ((each definition).reads octets.now)) }
 {
     let mut contexts = Vec::new(alloc);
     let mut values = Values::new(octets);
@@ -193,10 +195,10 @@ fn are_distinct(contexts: &[Context]) -> bool
 }
 
 // The contexts that octets offer, if they are few and distinct.
-#[tactic(auto, unfolding(crate::specs::Presentation::contexts_in))]
+#[tactic(auto, unfolding(crate::specs::Presentation::definition_list))]
 fn contexts_in(alloc: Global, octets: &[u8]) -> Result<Vec<Context>, AssocFault>
     ensures exact { Gives AssocFault.OutOfMemory (λ v. v.items) result
-        (or_fault BadPresentation (spec.contexts_in octets.now)) }
+        (or_fault BadPresentation (definition_list.reads octets.now)) }
     ensures few { IfOk result (λ v. length v.items ≤ 16) }
 {
     let contexts = read_contexts(alloc, octets)?;
@@ -207,10 +209,10 @@ fn contexts_in(alloc: Global, octets: &[u8]) -> Result<Vec<Context>, AssocFault>
 }
 
 // The identifier of a context, and the value that is carried in it as a single ASN.1 type.
-#[tactic(auto, unfolding(crate::specs::Presentation::carried_as))]
+#[tactic(auto, unfolding(crate::specs::Presentation::carried_parts, bay_ber::specs::Values::integer_under))]
 fn carried_as<'a>(id: &Value<'_>, value: &Value<'a>) -> Option<Carried<'a>>
     ensures { option_map carried_view result
-        ≡ spec.carried_as (part_of id.now) (part_of value.now) }
+        ≡ carried_parts.reads (part_of id.now ∷ part_of value.now ∷ []) }
 {
     let id = id.integer_under(Tag::universal(2))?;
     let value = value.under(Tag::context_constructed(0))?;
@@ -218,8 +220,9 @@ fn carried_as<'a>(id: &Value<'_>, value: &Value<'a>) -> Option<Carried<'a>>
 }
 
 /// Reads the value that parts carry, and its context.
+#[tactic(auto, unfolding(crate::specs::Presentation::carried_parts))]
 pub(crate) fn carried_of<'a>(parts: &[Value<'a>]) -> Option<Carried<'a>>
-    ensures { option_map carried_view result ≡ spec.carried_of (map part_of parts.now) }
+    ensures { option_map carried_view result ≡ carried_parts.reads (map part_of parts.now) }
 {
     match parts {
         [id, value] => carried_as(id, value),
@@ -229,26 +232,26 @@ pub(crate) fn carried_of<'a>(parts: &[Value<'a>]) -> Option<Carried<'a>>
 }
 
 // The one value of fully encoded user data.
-#[tactic(auto, unfolding(crate::specs::Presentation::carried_in))]
+#[tactic(auto, unfolding(crate::specs::Presentation::pdv_list))]
 fn carried_in(octets: &[u8]) -> Option<Carried<'_>>
-    ensures { option_map carried_view result ≡ spec.carried_in octets.now }
+    ensures { option_map carried_view result ≡ (one pdv_list).reads octets.now }
 {
     let parts = few_values(content_under(octets, Tag::sequence())?)?;
     carried_of(parts.as_slice())
 }
 
 // The one value of user data under their tag.
-#[tactic(auto, unfolding(crate::specs::Presentation::carried_under))]
+#[tactic(auto, unfolding(crate::specs::Presentation::user_part))]
 fn carried_under<'a>(value: &Value<'a>) -> Option<Carried<'a>>
-    ensures { option_map carried_view result ≡ spec.carried_under (part_of value.now) }
+    ensures { option_map carried_view result ≡ user_part.reads (part_of value.now) }
 {
     carried_in(value.under(Tag::application_constructed(1))?)
 }
 
 /// Reads the value that user data of the session carry, and its context.
-#[tactic(auto, unfolding(crate::specs::Presentation::user_in))]
+#[tactic(auto, unfolding(crate::specs::Presentation::user_data))]
 pub(crate) fn user_in(octets: &[u8]) -> Option<Carried<'_>>
-    ensures { option_map carried_view result ≡ spec.user_in octets.now }
+    ensures { option_map carried_view result ≡ user_data.reads octets.now }
 {
     let value = whole_value(octets)?;
     carried_under(&value)
@@ -266,32 +269,23 @@ fn selector_of(octets: &[u8]) -> Option<&[u8]>
     }
 }
 
-// The selector of the one called, where it came.
-fn selector_as<'a>(value: Option<&Value<'a>>) -> Option<Option<&'a [u8]>>
-    ensures exact { option_map (option_map (λ o. o.now)) result
-        ≡ spec.selector_as (option_map part_of (option_copied value.entry)) }
-    ensures short { IfSome result (λ o. ForSome o (λ octets. length octets.now ≤ 16)) }
-{
-    match value {
-        Some(value) => Some(Some(selector_of(value.under(Tag::context(2))?)?)),
-        None => Some(None),
-    }
-}
-
-// What a request for a connection has: the selector of the one called, the contexts, and user data.
-#[tactic(auto, unfolding(crate::specs::Presentation::connect_with))]
-fn connect_with<'a>(
-    alloc: Global,
-    selector: Option<&Value<'a>>,
-    list: &Value<'a>,
-    user: &Value<'a>,
-) -> Result<Connect<'a>, AssocFault>
+// What a request for a connection has, behind the calling selector.
+#[tactic(auto, unfolding(crate::specs::Presentation::connect_parts))]
+fn connect_of<'a>(alloc: Global, parts: &[Value<'a>]) -> Result<Connect<'a>, AssocFault>
     ensures { Gives AssocFault.OutOfMemory connect_view result
-        (or_fault BadPresentation
-        (spec.connect_with (option_map part_of (option_copied selector.entry)) (part_of list.now)
-        (part_of user.now))) }
+        (or_fault BadPresentation (connect_parts.reads (map part_of parts.now))) }
 {
-    let called = selector_as(selector).ok_or(AssocFault::BadPresentation)?;
+    let (called, list, user) = match parts {
+        [list, user] => (None, list, user),
+        [called, list, user] => {
+            let octets = called
+                .under(Tag::context(2))
+                .ok_or(AssocFault::BadPresentation)?;
+            let selector = selector_of(octets).ok_or(AssocFault::BadPresentation)?;
+            (Some(selector), list, user)
+        }
+        _ => return Err(AssocFault::BadPresentation),
+    };
     let octets = list
         .under(Tag::context_constructed(4))
         .ok_or(AssocFault::BadPresentation)?;
@@ -304,29 +298,27 @@ fn connect_with<'a>(
     })
 }
 
-// Reads the parts of a CP PPDU; the selectors of both sides may be missing.
-fn connect_of<'a>(alloc: Global, parts: &[Value<'a>]) -> Result<Connect<'a>, AssocFault>
+// The same behind the calling selector, where it came.
+#[tactic(auto, unfolding(crate::specs::Presentation::normal_parts))]
+fn normal_of<'a>(alloc: Global, parts: &[Value<'a>]) -> Result<Connect<'a>, AssocFault>
     ensures { Gives AssocFault.OutOfMemory connect_view result
-        (or_fault BadPresentation (spec.connect_of (map part_of parts.now))) }
+        (or_fault BadPresentation (normal_parts.reads (map part_of parts.now))) }
 {
-    let (called, list, user) = match parts {
-        [list, user] => (None, list, user),
-        [calling, list, user] if calling.tag.is(Tag::context(1)) => (None, list, user),
-        [called, list, user] => (Some(called), list, user),
-        [calling, called, list, user] if calling.tag.is(Tag::context(1)) => {
-            (Some(called), list, user)
-        }
-        _ => return Err(AssocFault::BadPresentation),
-    };
-    connect_with(alloc, called, list, user)
+    match parts {
+        [calling, parts @ ..] if calling.tag.is(Tag::context(1)) => connect_of(alloc, parts),
+        _ => connect_of(alloc, parts),
+    }
 }
 
-// The parameters of the normal mode, among other fields.
-#[tactic(auto, unfolding(crate::specs::Presentation::normal_in))]
-fn normal_in(alloc: Global, octets: &[u8]) -> Result<Connect<'_>, AssocFault>
+// The parameters of the normal mode under their tag, among other fields.
+#[tactic(auto, unfolding(crate::specs::Presentation::normal))]
+fn normal_as<'a>(alloc: Global, value: &Value<'a>) -> Result<Connect<'a>, AssocFault>
     ensures { Gives AssocFault.OutOfMemory connect_view result
-        (or_fault BadPresentation (spec.normal_in octets.now)) }
+        (or_fault BadPresentation (normal.reads (part_of value.now))) }
 {
+    let octets = value
+        .under(Tag::context_constructed(2))
+        .ok_or(AssocFault::BadPresentation)?;
     let tags = [
         Tag::context(1),
         Tag::context(2),
@@ -334,19 +326,7 @@ fn normal_in(alloc: Global, octets: &[u8]) -> Result<Connect<'_>, AssocFault>
         Tag::application_constructed(1),
     ];
     let known = known_values(octets, &tags).ok_or(AssocFault::BadPresentation)?;
-    connect_of(alloc, known.as_slice())
-}
-
-// The parameters of the normal mode under their tag.
-#[tactic(auto, unfolding(crate::specs::Presentation::normal_as))]
-fn normal_as<'a>(alloc: Global, value: &Value<'a>) -> Result<Connect<'a>, AssocFault>
-    ensures { Gives AssocFault.OutOfMemory connect_view result
-        (or_fault BadPresentation (spec.normal_as (part_of value.now))) }
-{
-    let octets = value
-        .under(Tag::context_constructed(2))
-        .ok_or(AssocFault::BadPresentation)?;
-    normal_in(alloc, octets)
+    normal_of(alloc, known.as_slice())
 }
 
 // The number of the normal mode, 1; no other mode is taken.
@@ -357,9 +337,9 @@ fn mode_of(number: i64) -> Option<i64>
 }
 
 // The normal mode.
-#[tactic(auto, unfolding(crate::specs::Presentation::mode_as))]
+#[tactic(auto, unfolding(crate::specs::Presentation::mode))]
 fn mode_as(value: &Value<'_>) -> Option<i64>
-    ensures { result ≡ spec.mode_as (part_of value.now) }
+    ensures { result ≡ mode.reads (part_of value.now) }
 {
     let mode = value.under(Tag::context_constructed(0))?;
     let number = content_under(mode, Tag::context(0))?;
@@ -367,27 +347,31 @@ fn mode_as(value: &Value<'_>) -> Option<i64>
 }
 
 // The mode and the parameters, in either order.
+#[tactic(auto, unfolding(crate::specs::Presentation::mode_parts))]
 fn request_of<'a>(alloc: Global, parts: &[Value<'a>]) -> Result<Connect<'a>, AssocFault>
     ensures request { Gives AssocFault.OutOfMemory connect_view result
-        (or_fault BadPresentation (spec.request_of (map part_of parts.now))) }
+        (or_fault BadPresentation ((mode_parts normal).reads (map part_of parts.now))) }
     ensures memory { IsErrOf result AssocFault.OutOfMemory
-        → IsSome (spec.mode_among (map part_of parts.now)) }
+        → IsSome ((mode_parts whole).reads (map part_of parts.now)) }
+    ensures mode { IfOk result (λ r. IsSome ((mode_parts whole).reads (map part_of parts.now))) }
 {
-    let (mode, parameters) = match parts {
+    let (selector, parameters) = match parts {
         [first, second] if first.tag.is(Tag::context_constructed(0)) => (first, second),
         [first, second] => (second, first),
         _ => return Err(AssocFault::BadPresentation),
     };
-    mode_as(mode).ok_or(AssocFault::BadPresentation)?;
+    mode_as(selector).ok_or(AssocFault::BadPresentation)?;
     normal_as(alloc, parameters)
 }
 
 /// Reads octets as a request for a connection (CP), which may have other fields.
-#[tactic(auto, unfolding(crate::specs::Presentation::request_in, crate::specs::Presentation::mode_in))]
+#[tactic(auto, unfolding(crate::specs::Presentation::cp))]
 pub(crate) fn request_in(alloc: Global, octets: &[u8]) -> Result<Connect<'_>, AssocFault>
     ensures request { Gives AssocFault.OutOfMemory connect_view result
-        (or_fault BadPresentation (spec.request_in octets.now)) }
-    ensures memory { IsErrOf result AssocFault.OutOfMemory → IsSome (spec.mode_in octets.now) }
+        (or_fault BadPresentation (request.reads octets.now)) }
+    ensures memory { IsErrOf result AssocFault.OutOfMemory
+        → IsSome (request_mode.reads octets.now) }
+    ensures mode { IfOk result (λ r. IsSome (request_mode.reads octets.now)) }
 {
     let content = content_under(octets, Tag::universal_constructed(17)).ok_or(
         AssocFault::BadPresentation,

@@ -53,7 +53,8 @@ chosen-bytes : (x : Bool) (p : Part) (more : List Part) → IsBytes p.content �
 chosen-bytes true p more b bs = (b, bs)
 chosen-bytes false p more b bs = bs
 
-filter-bytes : (f : Part → Bool) (parts : List Part) → AllBytes parts → AllBytes (filter f parts)
+pub filter-bytes : (f : Part → Bool) (parts : List Part) → AllBytes parts
+    → AllBytes (filter f parts)
 filter-bytes f [] b = tt
 filter-bytes f (p ∷ ps) b = chosen-bytes (f p) p (filter f ps) b.0 (filter-bytes f ps b.1)
 

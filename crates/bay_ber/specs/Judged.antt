@@ -1,38 +1,36 @@
--- Layers: what is read of one layer is judged by the next, and the first that refuses says why.
+-- Verdicts of layers: what one layer reads is judged by the next, and the first that refuses says
+-- why.
 use Rattle.std.specs.Prelude.{◌≡◌, ◌⊎◌, Option, Some, None, Result, Ok, Err}
-use Rattle.bay_base.specs.Results.{◌>>=◌}
+use Rattle.bay_base.specs.Results.{◌>>=◌ as ◌>>◌}
 use Rattle.bay_ber.specs.Forms.{Form}
 
 -- what is answered; what is spelled so, and what is refused so
-pub record Judged (S A E : Type 0) : Type 1 where
-  pub answers : S → Result A E
-  pub Spells : S → A → Type 0
-  pub Refuses : S → E → Type 0
+pub record Verdict (A E : Type 0) : Type 1 where
+  pub answers : Result A E
+  pub Spells : A → Type 0
+  pub Refuses : E → Type 0
 
 abbrev pub or_fault : {A E : Type 0} → E → Option A → Result A E
 or_fault fault (Some x) = Ok x
 or_fault fault None = Err fault
 
 -- what is spelled in no way has this fault
-abbrev pub wanted : {S A E : Type 0} → E → Form S A → Judged S A E
-wanted fault f = record {
-  answers = λ s. or_fault fault (f.reads s);
-  Spells = f.Spells;
-  Refuses = λ s e. (e ≡ fault) × ((x : _) → f.Spells s x → ⊥);
+abbrev pub wanted : {S A E : Type 0} → E → Form S A → S → Verdict A E
+wanted fault f s = record {
+  answers = or_fault fault (f.reads s);
+  Spells = f.Spells s;
+  Refuses = λ e. (e ≡ fault) × ((x : _) → f.Spells s x → ⊥);
 }
 
--- a test of what was read
-abbrev pub test : {A B E : Type 0} → (A → Result B E) → Judged A B E
-test judge = record {
-  answers = judge;
-  Spells = λ x y. judge x ≡ Ok y;
-  Refuses = λ x e. judge x ≡ Err e;
-}
+-- the outcome of a test
+abbrev pub told : {A E : Type 0} → Result A E → Verdict A E
+told r = record { answers = r; Spells = λ x. r ≡ Ok x; Refuses = λ e. r ≡ Err e }
 
--- one layer in another
-abbrev pub within : {S A B E : Type 0} → Judged S A E → Judged A B E → Judged S B E
-within {A = A} j k = record {
-  answers = λ s. j.answers s >>= k.answers;
-  Spells = λ s y. (x : A) × j.Spells s x × k.Spells x y;
-  Refuses = λ s e. j.Refuses s e ⊎ ((x : A) × j.Spells s x × k.Refuses x e);
+infixl 10 ◌>>=◌
+-- one layer, and behind it the next, which judges what it read
+abbrev pub ◌>>=◌ : {A B E : Type 0} → Verdict A E → (A → Verdict B E) → Verdict B E
+◌>>=◌ {A} layer next = record {
+  answers = layer.answers >> λ x. (next x).answers;
+  Spells = λ y. (x : A) × layer.Spells x × (next x).Spells y;
+  Refuses = λ e. layer.Refuses e ⊎ ((x : A) × layer.Spells x × (next x).Refuses e);
 }

@@ -1,5 +1,5 @@
 use Rattle.bay_assoc.proofs.SpduLemmas.{spdu-again}
-use Rattle.bay_assoc.proofs.ValueLemmas.{user-read, request-read, associate-read}
+use Rattle.bay_assoc.proofs.MessageLemmas.{user-read, request-read, associate-read}
 use Rattle.bay_assoc.proofs.laws.one_spelling.Goals as goal
 
 pub returns-clause-spdu : goal.returns-clause-spdu

@@ -1,5 +1,4 @@
-use Rattle.bay_assoc.proofs.AcseBackLemmas.{associate-back}
-use Rattle.bay_assoc.proofs.ValueBackLemmas.{user-back, request-back}
+use Rattle.bay_assoc.proofs.MessageLemmas.{user-back, request-back, associate-back}
 use Rattle.bay_assoc.proofs.HearingBackLemmas.{spdu-spelled}
 use Rattle.bay_assoc.proofs.laws.read_is_spelled.Goals as goal
 
