@@ -1,107 +1,126 @@
--- What is spelled so is heard so.
-use Rattle.std.proofs.Common.{◌≡◌, ℕ, pos, List, Option, Some, None, Result, Ok, refl, sym, ap, ◌∙◌}
-use Rattle.std.proofs.lemmas.Bool.{eq-eqb}
+-- What is heard of a TSDU, or why it is refused, is what is spelled or refused so.
+use Rattle.std.proofs.Common.{◌≡◌, ℕ, Bool, true, false, cond, List, Option, Some, None, Result, Ok, Err, sym, ap, subst, ◌∙◌}
+use Rattle.bay_ber.proofs.FormLemmas.{ExactIn}
+use Rattle.bay_ber.proofs.JudgedLemmas.{Fair, told-fair, wanted-fair, layers-fair}
+use Rattle.bay_ber.proofs.ReadLemmas.{IsBytes}
+use Rattle.bay_initiate.proofs.InitiateLemmas.{initiate-read, initiate-back}
 use Rattle.bay_assoc.specs.declared.fault.AssocFault.{AssocFault}
+use Rattle.bay_assoc.specs.declared.hearing.Accepted.{Accepted}
 use Rattle.bay_assoc.specs.declared.hearing.AssociationTerms.{AssociationTerms}
 use Rattle.bay_assoc.specs.declared.hearing.Phase.{Phase}
-use Rattle.bay_assoc.specs.declared.hearing.Phase.TheVariants.{Idle, Open, Over}
-use Rattle.bay_assoc.specs.Session.{connect, finish, abort, transfer}
-use Rattle.bay_assoc.specs.Hearing.{Hearing, answer, mms, released, aborted, agreement, answer_text, connection_request, release_request, data_transfer, hearing}
+use Rattle.bay_assoc.specs.declared.hearing.Phase.TheVariants.{Idle, Open, Over, Failed}
+use Rattle.bay_assoc.specs.declared.presentation.Context.{Context}
+use Rattle.bay_assoc.specs.Session.{Spdu, connect, finish, abort, transfer}
 use Rattle.bay_assoc.specs.SpelledSession.{IsSpdu}
-use Rattle.bay_assoc.specs.SpelledValues.{IsUser}
-use Rattle.bay_assoc.specs.SpelledHearing.{IsAnswered, IsReleased, IsHeard}
-use Rattle.bay_initiate.proofs.InitiateLemmas.{initiate-read}
+use Rattle.bay_assoc.specs.Presentation.{Carried}
+use Rattle.bay_assoc.specs.Hearing.{Hearing, is_id, acse_value, mms_value, spdu, initiate, agreement, connection_request, release_request, data_transfer, heard_idle, heard_open, verdict}
+use Rattle.bay_assoc.proofs.MessageLemmas.{user_data-exact, user_data-keeps, request-exact, request-keeps, associate-exact, associate-keeps, release-exact}
 use Rattle.bay_assoc.proofs.SpduLemmas.{spdu-again}
-use Rattle.bay_assoc.proofs.MessageLemmas.{user-read, request-read, associate-read, release-read}
+use Rattle.bay_assoc.proofs.SpduBackLemmas.{UserBytes, spdu-back}
 
-answered : (octets text : List ℕ) (terms : AssociationTerms) → IsAnswered octets text terms
-    → hearing Idle octets ≡ Ok (answer text, Open terms)
-unfolding hearing connection_request agreement
-answered octets text terms a =
-    rw (
-      spdu-again octets (connect a.user) a.spdu,
-      request-read a.user a.request a.is_request,
-      a.contexts,
-      a.in_acse,
-      eq-eqb terms.contexts.acse terms.contexts.acse refl,
-      associate-read a.value (record { id = pos terms.contexts.mms; value = a.pdu }) a.associate,
-      eq-eqb terms.contexts.mms terms.contexts.mms refl,
-      initiate-read a.pdu a.proposal a.initiate,
-      a.is_agreed,
-    )
-    (ap with_size a.size ∙ ap with-text (sym a.is))
-  where
-    with_size : ℕ → Result (Hearing × Phase) AssocFault
-    with_size n =
-        Ok (
-          answer (answer_text a.request terms.contexts a.agreed),
-          Open (record { contexts = terms.contexts; size = n }),
-        )
+spdu-exact : ExactIn spdu
+spdu-exact = record { read = spdu-again; back = λ o s b e. (spdu-back o s b e).0 }
 
-    with-text : List ℕ → Result (Hearing × Phase) AssocFault
-    with-text t = Ok (answer t, Open terms)
+initiate-exact : ExactIn initiate
+initiate-exact = record { read = initiate-read; back = initiate-back }
 
-released-so : (octets text : List ℕ) (terms : AssociationTerms) (user : Option (List ℕ))
-    → IsReleased octets text terms user → hearing (Open terms) octets ≡ Ok (released text, Over)
-unfolding hearing release_request
-released-so octets text terms None is = rw (spdu-again octets (finish None) is.0, is.1) refl
-released-so octets text terms (Some user) is =
-    rw (
-      spdu-again octets (finish (Some user)) is.1,
-      user-read user (record { id = pos terms.contexts.acse; value = is.0 }) is.2,
-      eq-eqb terms.contexts.acse terms.contexts.acse refl,
-      release-read is.0 is.3,
-      is.4,
-    ) refl
+user-bytes : (octets : List ℕ) (s : Spdu) → IsBytes octets → IsSpdu octets s → UserBytes s
+user-bytes octets s b is = (spdu-back octets s b (spdu-again octets s is)).1
 
-data-so : (octets user pdu : List ℕ) (terms : AssociationTerms) → IsSpdu octets (transfer user)
-    → IsUser user (record { id = pos terms.contexts.mms; value = pdu })
-    → hearing (Open terms) octets ≡ Ok (mms pdu, Open terms)
-unfolding hearing data_transfer
-data-so octets user pdu terms spdu is =
-    rw (
-      spdu-again octets (transfer user) spdu,
-      user-read user (record { id = pos terms.contexts.mms; value = pdu }) is,
-      eq-eqb terms.contexts.mms terms.contexts.mms refl,
-    ) refl
+-- ---- the value in a context
 
-abort-idle : (octets : List ℕ) → IsSpdu octets abort → hearing Idle octets ≡ Ok (aborted, Over)
-unfolding hearing
-abort-idle octets is = rw (spdu-again octets abort is) refl
+value-is : (here there : Bool) (value octets : List ℕ) (e f : AssocFault)
+    → cond here (Ok value) (cond there (Err e) (Err f)) ≡ Ok octets → value ≡ octets
+value-is true there value octets e f is = cc
+value-is false true value octets e f is = absurd cc
+value-is false false value octets e f is = absurd cc
 
-abort-open : (octets : List ℕ) (terms : AssociationTerms) → IsSpdu octets abort
-    → hearing (Open terms) octets ≡ Ok (aborted, Over)
-unfolding hearing
-abort-open octets terms is = rw (spdu-again octets abort is) refl
+acse-is : (a : Accepted) (c : Carried) (octets : List ℕ) → acse_value a c ≡ Ok octets
+    → c.value ≡ octets
+acse-is a c octets is = value-is (is_id c.id a.acse) (is_id c.id a.mms) c.value octets _ _ is
 
-pub heard-so : (old new : Phase) (octets : List ℕ) (h : Hearing) → IsHeard old octets h new
-    → hearing old octets ≡ Ok (h, new)
-heard-so Idle new octets (answer text) is =
-    answered octets text is.0 is.1 ∙ ap (λ (p : Phase). Ok (answer text, p)) (sym is.2)
-heard-so Idle new octets aborted is =
-    abort-idle octets is.0 ∙ ap (λ (p : Phase). Ok (aborted, p)) (sym is.1)
-heard-so (Open terms) new octets (mms pdu) is =
-    data-so octets is.0 pdu terms is.1 is.2 ∙ ap (λ (p : Phase). Ok (mms pdu, p)) (sym is.3)
-heard-so (Open terms) new octets (released text) is =
-    released-so octets text terms is.0 is.1 ∙ ap (λ (p : Phase). Ok (released text, p)) (sym is.2)
-heard-so (Open terms) new octets aborted is =
-    abort-open octets terms is.0 ∙ ap (λ (p : Phase). Ok (aborted, p)) (sym is.1)
-heard-so old new octets h is = absurd is
+pub mms-is : (a : Accepted) (c : Carried) (octets : List ℕ) → mms_value a c ≡ Ok octets
+    → c.value ≡ octets
+mms-is a c octets is = value-is (is_id c.id a.mms) (is_id c.id a.acse) c.value octets _ _ is
 
-same-ok : (x y : Hearing × Phase) → (let r : Result (Hearing × Phase) AssocFault = Ok x in r) ≡ Ok y
-    → x ≡ y
-same-ok x y e = cc
+-- ---- layer by layer
 
-one-answer : (r : Result (Hearing × Phase) AssocFault) (h k : Hearing) (new next : Phase)
-    → r ≡ Ok (h, new) → r ≡ Ok (k, next) → (h ≡ k) × (new ≡ next)
-one-answer r h k new next a b =
-    let x : Hearing × Phase = (h, new) in
-    let y : Hearing × Phase = (k, next) in
-    let pair : x ≡ y = same-ok x y (sym a ∙ b) in
-    (ap (λ (p : Hearing × Phase). p.0) pair, ap (λ (p : Hearing × Phase). p.1) pair)
+agreement-fair : {Good : Type 0} (contexts : List Context) (user : Carried)
+    → (Good → IsBytes user.value) → Fair Good (agreement contexts user)
+unfolding agreement
+agreement-fair contexts user b =
+    layers-fair (told-fair _) (λ a are.
+    layers-fair (told-fair _) (λ value in_acse.
+    let bytes : _ → IsBytes value = λ good. subst IsBytes (acse-is a user value in_acse) (b good) in
+    layers-fair (wanted-fair _ associate-exact value bytes) (λ information is.
+    layers-fair (told-fair _) (λ pdu in_mms.
+    layers-fair (wanted-fair _ initiate-exact pdu (λ good.
+    subst IsBytes (mms-is a information pdu in_mms)
+    (associate-keeps.holds value information (bytes good) is))) (λ proposal proposes.
+    layers-fair (told-fair _) (λ agreed meets. told-fair _))))))
 
-pub one-way : (old new next : Phase) (octets : List ℕ) (h k : Hearing) → IsHeard old octets h new
-    → IsHeard old octets k next → (h ≡ k) × (new ≡ next)
+connection-fair : {Good : Type 0} (user : List ℕ) → (Good → IsBytes user)
+    → Fair Good (connection_request user)
+unfolding connection_request
+connection-fair user b =
+    layers-fair (wanted-fair _ request-exact user b) (λ r is.
+    layers-fair (agreement-fair r.contexts r.user (λ good. request-keeps.holds user r (b good) is))
+    (λ x agrees. told-fair _))
+
+release-fair : {Good : Type 0} (terms : AssociationTerms) (user : Option (List ℕ))
+    → (Good → UserBytes (finish user)) → Fair Good (release_request terms user)
+unfolding release_request
+release-fair terms None b = told-fair _
+release-fair terms (Some user) b =
+    layers-fair (wanted-fair _ user_data-exact user b) (λ c is.
+    layers-fair (told-fair _) (λ value in_acse.
+    layers-fair (wanted-fair _ release-exact value (λ good.
+    subst IsBytes (acse-is terms.contexts c value in_acse)
+    (user_data-keeps.holds user c (b good) is))) (λ content asks. told-fair _)))
+
+data-fair : {Good : Type 0} (terms : AssociationTerms) (user : List ℕ) → (Good → IsBytes user)
+    → Fair Good (data_transfer terms user)
+unfolding data_transfer
+data-fair terms user b =
+    layers-fair (wanted-fair _ user_data-exact user b) (λ c is.
+    layers-fair (told-fair _) (λ pdu in_mms. told-fair _))
+
+idle-fair : {Good : Type 0} (s : Spdu) → (Good → UserBytes s) → Fair Good (heard_idle s)
+idle-fair (connect user) b = connection-fair user b
+idle-fair abort b = told-fair _
+idle-fair s b = told-fair _
+
+open-fair : {Good : Type 0} (terms : AssociationTerms) (s : Spdu) → (Good → UserBytes s)
+    → Fair Good (heard_open terms s)
+open-fair terms (finish user) b = release-fair terms user b
+open-fair terms abort b = told-fair _
+open-fair terms (transfer user) b = data-fair terms user b
+open-fair terms s b = told-fair _
+
+pub verdict-fair : (phase : Phase) (octets : List ℕ) → Fair (IsBytes octets) (verdict phase octets)
+unfolding verdict
+verdict-fair Idle octets =
+    layers-fair (wanted-fair _ spdu-exact octets (λ b. b))
+    (λ s is. idle-fair s (λ b. user-bytes octets s b is))
+verdict-fair (Open terms) octets =
+    layers-fair (wanted-fair _ spdu-exact octets (λ b. b))
+    (λ s is. open-fair terms s (λ b. user-bytes octets s b is))
+verdict-fair Over octets = told-fair _
+verdict-fair Failed octets = told-fair _
+
+-- ---- the one meaning
+
+pub told-is : (h k : Hearing) (p q : Phase)
+    → (let r : Result (Hearing × Phase) AssocFault = Ok (h, p) in r) ≡ Ok (k, q) → (h ≡ k) × (p ≡ q)
+told-is h k p q e =
+    let x : Hearing × Phase = (h, p) in
+    let y : Hearing × Phase = (k, q) in
+    let same : x ≡ y = cc in
+    (ap (λ (z : Hearing × Phase). z.0) same, ap (λ (z : Hearing × Phase). z.1) same)
+
+pub one-way : (old new next : Phase) (octets : List ℕ) (h k : Hearing)
+    → (verdict old octets).Spells (h, new) → (verdict old octets).Spells (k, next)
+    → (h ≡ k) × (new ≡ next)
 one-way old new next octets h k a b =
-    one-answer (hearing old octets) h k new next (heard-so old new octets h a)
-    (heard-so old next octets k b)
+    let fair = verdict-fair old octets in
+    told-is h k new next (sym (fair.read (h, new) a) ∙ fair.read (k, next) b)

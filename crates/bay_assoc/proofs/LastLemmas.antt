@@ -1,5 +1,5 @@
 -- A PDU of MMS stands last in its TSDU.
-use Rattle.std.proofs.Common.{◌≡◌, ℕ, ℤ, pos, List, [], ◌∷◌, ◌++◌, Option, Some, None, Ok, IsSome, refl, sym, ap, subst, ◌∙◌}
+use Rattle.std.proofs.Common.{◌≡◌, ℕ, ℤ, List, [], ◌∷◌, ◌++◌, Option, Some, None, Ok, IsSome, refl, sym, ap, subst, ◌∙◌}
 use Rattle.std.proofs.lemmas.List.{append-nil, append_assoc}
 use Rattle.bay_ber.specs.declared.tag.Tag.{Tag}
 use Rattle.bay_ber.specs.Forms.{Form, integer, octets as bare, anything, fields, under, done, next, AreMaybe}
@@ -10,14 +10,16 @@ use Rattle.bay_ber.specs.Tags.{constructed, sequence, int_tag}
 use Rattle.bay_assoc.specs.declared.hearing.Heard.{Heard}
 use Rattle.bay_assoc.specs.declared.hearing.Heard.TheVariants as heard
 use Rattle.bay_assoc.specs.declared.hearing.Phase.{Phase}
-use Rattle.bay_assoc.specs.declared.hearing.Phase.TheVariants.{Open}
-use Rattle.bay_assoc.specs.Hearing.{mms, hearing}
+use Rattle.bay_assoc.specs.declared.hearing.AssociationTerms.{AssociationTerms}
+use Rattle.bay_assoc.specs.declared.hearing.Phase.TheVariants.{Idle, Open, Over}
+use Rattle.bay_assoc.specs.Hearing.{mms, release_request, connection_request, data_transfer, heard_idle, heard_open, verdict, hearing}
 use Rattle.bay_assoc.specs.Hears.{association_terms, StandsLast, IsOpenFor}
 use Rattle.bay_assoc.specs.Presentation.{Carried, carried_parts, pdv_list, user_part, user_data}
-use Rattle.bay_assoc.specs.SpelledHearing.{IsHeard}
+use Rattle.bay_assoc.specs.Session.{Spdu, connect, finish, abort, transfer}
+use Rattle.bay_assoc.specs.SpelledSession.{IsSpdu}
 use Rattle.bay_assoc.specs.Tags.{oid_tag, application}
 use Rattle.bay_assoc.specs.Views.{hearing_of}
-use Rattle.bay_assoc.proofs.HearingBackLemmas.{heard-is-spelled}
+use Rattle.bay_assoc.proofs.HearingLemmas.{mms-is, verdict-fair, told-is}
 
 -- The octets end with others.
 record EndsWith (octets part : List ℕ) : Type 0 where
@@ -87,27 +89,52 @@ user-last octets c is =
     (last-of outer.0 [] sequence list.0 inner.0 list.1 inner.1)
     (carried-last list.0 c list.2))
 
-heard-last : (old new : Phase) (octets pdu : List ℕ) → IsHeard old octets (mms pdu) new
-    → EndsWith octets pdu
-heard-last (Open terms) new octets pdu is =
-    ends-on octets is.0 pdu (record { front = 1 ∷ 0 ∷ 1 ∷ 0 ∷ []; is = is.1 })
-    (user-last is.0 (record { id = pos terms.contexts.mms; value = pdu }) is.2)
-heard-last old new octets pdu is = absurd is
+told-last : (terms : AssociationTerms) (octets user pdu : List ℕ) (new : Phase)
+    → octets ≡ 1 ∷ 0 ∷ 1 ∷ 0 ∷ user → (data_transfer terms user).Spells (mms pdu, new)
+    → EndsWith octets pdu × IsSome (association_terms new)
+unfolding data_transfer
+told-last terms octets user pdu new at is =
+    let heard = told-is (mms is.2.0) (mms pdu) (Open terms) new is.2.2 in
+    let mms_is = heard.0 in
+    let same : is.2.0 ≡ pdu = cc in (
+      ends-on octets user pdu (record { front = 1 ∷ 0 ∷ 1 ∷ 0 ∷ []; is = at })
+          (subst (EndsWith user) (mms-is terms.contexts is.0 is.2.0 is.2.1 ∙ same)
+          (user-last user is.0 is.1)),
+      subst (λ (p : Phase). IsSome (association_terms p)) heard.1 refl,
+    )
 
-heard_open : (old new : Phase) (octets pdu : List ℕ) → IsHeard old octets (mms pdu) new
-    → IsSome (association_terms new)
-heard_open (Open terms) new octets pdu is = rw is.3 refl
-heard_open old new octets pdu is = absurd is
+-- Nothing but data is heard as a PDU of MMS.
+open-last : (terms : AssociationTerms) (octets pdu : List ℕ) (new : Phase) (s : Spdu)
+    → IsSpdu octets s → (heard_open terms s).Spells (mms pdu, new)
+    → EndsWith octets pdu × IsSome (association_terms new)
+unfolding release_request
+open-last terms octets pdu new (transfer user) at is = told-last terms octets user pdu new at is
+open-last terms octets pdu new (finish None) at is =
+    let heard = (told-is _ (mms pdu) Over new is).0 in absurd cc
+open-last terms octets pdu new (finish (Some user)) at is =
+    let heard = (told-is _ (mms pdu) Over new is.2.2.2).0 in absurd cc
+open-last terms octets pdu new abort at is =
+    let heard = (told-is _ (mms pdu) Over new is).0 in absurd cc
+open-last terms octets pdu new s at is = absurd cc
+
+not-idle : (pdu : List ℕ) (new : Phase) (s : Spdu) → (heard_idle s).Spells (mms pdu, new) → ⊥
+unfolding connection_request
+not-idle pdu new (connect user) is =
+    let heard = (told-is _ (mms pdu) _ new is.2.2).0 in absurd cc
+not-idle pdu new abort is = let heard = (told-is _ (mms pdu) Over new is).0 in absurd cc
+not-idle pdu new s is = absurd cc
+
+heard-last : (old new : Phase) (octets pdu : List ℕ) → (verdict old octets).Spells (mms pdu, new)
+    → EndsWith octets pdu × IsSome (association_terms new)
+unfolding verdict
+heard-last Idle new octets pdu is = absurd (not-idle pdu new is.0 is.2)
+heard-last (Open terms) new octets pdu is = open-last terms octets pdu new is.0 is.1 is.2
+heard-last old new octets pdu is = absurd cc
 
 pub stands-last : (old new : Phase) (octets : List ℕ) (h : Heard) → IsBytes octets
-    → hearing old octets ≡ Ok (hearing_of h, new) → StandsLast octets h
-stands-last old new octets (heard.Mms pdu) b e = let l =
-    heard-last old new octets pdu.now (heard-is-spelled old new octets (mms pdu.now) b e) in
-    (l.front, l.is)
-stands-last old new octets h b e = tt
-
-pub open-for : (old new : Phase) (octets : List ℕ) (h : Heard) → IsBytes octets
-    → hearing old octets ≡ Ok (hearing_of h, new) → IsOpenFor h new
-open-for old new octets (heard.Mms pdu) b e =
-    heard_open old new octets pdu.now (heard-is-spelled old new octets (mms pdu.now) b e)
-open-for old new octets h b e = tt
+    → hearing old octets ≡ Ok (hearing_of h, new) → StandsLast octets h × IsOpenFor h new
+stands-last old new octets (heard.Mms pdu) b e =
+    let last = heard-last old new octets pdu.now
+    ((verdict-fair old octets).back b (mms pdu.now, new) e) in
+    ((last.0.front, last.0.is), last.1)
+stands-last old new octets h b e = (tt, tt)

@@ -1,10 +1,9 @@
 pub mod ContextLemmas
 pub mod FrontLemmas
-pub mod HearingBackLemmas
 pub mod HearingLemmas
 pub mod LastLemmas
 pub mod MessageLemmas
-pub mod RefusalLemmas
+pub mod SpduBackLemmas
 pub mod SpduLemmas
 pub mod TextLemmas
 pub mod UnitLemmas

@@ -1,13 +1,11 @@
 -- What each message is read as is what spells it.
-use Rattle.std.proofs.Common.{◌≡◌, ℕ, List, Some}
-use Rattle.bay_ber.proofs.FormLemmas.{ExactIn, ExactAs, ExactOf, exacts, Keeps, octets-keeps, made-keeps, under-keeps, one-keeps, fields-keeps, known-keeps, next-keeps, behind-keeps, behind_maybe-keeps, by_first-keeps}
+use Rattle.bay_ber.proofs.FormLemmas.{ExactIn, ExactAs, exacts, Keeps, octets-keeps, made-keeps, under-keeps, one-keeps, fields-keeps, known-keeps, next-keeps, behind-keeps, behind_maybe-keeps, by_first-keeps}
 use Rattle.bay_ber.proofs.ReadLemmas.{IsBytes}
 use Rattle.bay_ber.proofs.BackLemmas.{AllBytes}
 use Rattle.bay_ber.specs.Forms.{octets, anything, integer, such, under, next, done}
 use Rattle.bay_ber.specs.Tags.{context, constructed, int_tag}
-use Rattle.bay_ber.specs.Values.{Part}
 use Rattle.bay_assoc.specs.Tags.{oid_tag}
-use Rattle.bay_assoc.specs.Presentation.{Carried, Connect, selector_of, transfer_syntax, transfer_syntaxes, context_parts, definition, definition_list, carried_parts, pdv_list, user_part, user_data, connect_parts, normal_parts, normal, mode, mode_parts, cp, request}
+use Rattle.bay_assoc.specs.Presentation.{selector_of, transfer_syntax, transfer_syntaxes, context_parts, definition, definition_list, carried_parts, pdv_list, user_part, user_data, connect_parts, normal_parts, normal, mode, mode_parts, cp, request}
 use Rattle.bay_assoc.specs.Acse.{application_context, information, associate_parts, associate, release}
 
 definition_list-exact : ExactIn definition_list
@@ -69,40 +67,3 @@ associate-keeps =
 pub release-exact : ExactIn release
 unfolding release
 release-exact = search exacts depth 20
-
--- ---- for now
-
-pub user-read : (octets : List ℕ) (c : Carried) → user_data.Spells octets c
-    → user_data.reads octets ≡ Some c
-user-read = user_data-exact.read
-
-pub user-back : (octets : List ℕ) (c : Carried) → IsBytes octets → user_data.reads octets ≡ Some c
-    → user_data.Spells octets c × IsBytes c.value
-user-back octets c b e =
-    let is = user_data-exact.back octets c b e in (is, user_data-keeps.holds octets c b is)
-
-pub request-read : (octets : List ℕ) (c : Connect) → request.Spells octets c
-    → request.reads octets ≡ Some c
-request-read = request-exact.read
-
-pub request-back : (octets : List ℕ) (c : Connect) → IsBytes octets
-    → request.reads octets ≡ Some c → request.Spells octets c × IsBytes c.user.value
-request-back octets c b e =
-    let is = request-exact.back octets c b e in (is, request-keeps.holds octets c b is)
-
-pub associate-read : (octets : List ℕ) (c : Carried) → associate.Spells octets c
-    → associate.reads octets ≡ Some c
-associate-read = associate-exact.read
-
-pub associate-back : (octets : List ℕ) (c : Carried) → IsBytes octets
-    → associate.reads octets ≡ Some c → associate.Spells octets c × IsBytes c.value
-associate-back octets c b e =
-    let is = associate-exact.back octets c b e in (is, associate-keeps.holds octets c b is)
-
-pub release-read : (octets : List ℕ) → (r : (content : List ℕ) × release.Spells octets content)
-    → release.reads octets ≡ Some r.0
-release-read octets r = release-exact.read octets r.0 r.1
-
-pub release-back : (octets content : List ℕ) → IsBytes octets → release.reads octets ≡ Some content
-    → (content : List ℕ) × release.Spells octets content
-release-back octets content b e = (content, release-exact.back octets content b e)

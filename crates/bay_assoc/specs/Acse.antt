@@ -32,10 +32,3 @@ associate =
 -- the request for a release, whose content is not looked into (RLRQ-apdu)
 unfoldable pub release : Form (List ℕ) (List ℕ)
 release = one (under (application 2) octets)
-
--- what octets are read as
-abbrev pub associate_in : List ℕ → Option Carried
-associate_in octets = associate.reads octets
-
-abbrev pub release_in : List ℕ → Option (List ℕ)
-release_in octets = release.reads octets

@@ -1,12 +1,14 @@
 -- What an association hears of a TSDU, and in which phase it is then.
 use Rattle.std.specs.Prelude.{ℕ, ℤ, pos, negsuc, ◌==◌, Bool, false, min, List, [], ◌∷◌, find, Option, Some, None, option_map, Result, Ok, Err, if◌then◌else◌}
-use Rattle.bay_base.specs.Options.{◌>>=◌}
+use Rattle.bay_base.specs.Options.{◌>>=◌ as ◌>>◌}
+use Rattle.bay_ber.specs.Forms.{Form}
+use Rattle.bay_ber.specs.Judged.{Verdict, or_fault, wanted, told, ◌>>=◌}
 use Rattle.bay_initiate.specs.declared.initiate.Proposal.{Proposal}
 use Rattle.bay_initiate.specs.declared.initiate.Agreed.{Agreed}
 use Rattle.bay_initiate.specs.Initiate.{initiate_in}
+use Rattle.bay_initiate.specs.SpelledInitiate.{IsInitiate}
 use Rattle.bay_initiate.specs.Agreed.{agreed_text}
 use Rattle.bay_initiate.specs.Sizes.{agreed_size}
-use Rattle.bay_base.specs.Results.{◌>>=◌ as ◌>>◌}
 use Rattle.bay_assoc.specs.declared.fault.AssocFault.{AssocFault}
 use Rattle.bay_assoc.specs.declared.fault.AssocFault.TheVariants as fault
 use Rattle.bay_assoc.specs.declared.presentation.Context.{Context}
@@ -14,10 +16,10 @@ use Rattle.bay_assoc.specs.declared.hearing.Accepted.{Accepted}
 use Rattle.bay_assoc.specs.declared.hearing.AssociationTerms.{AssociationTerms}
 use Rattle.bay_assoc.specs.declared.hearing.Phase.{Phase}
 use Rattle.bay_assoc.specs.declared.hearing.Phase.TheVariants.{Idle, Open, Over, Failed}
-use Rattle.bay_assoc.specs.Results.{or_fault}
 use Rattle.bay_assoc.specs.Session.{Spdu, connect, finish, abort, transfer, spdu_in}
-use Rattle.bay_assoc.specs.Presentation.{Carried, Connect, user_in, request_in}
-use Rattle.bay_assoc.specs.Acse.{associate_in, release_in}
+use Rattle.bay_assoc.specs.SpelledSession.{IsSpdu}
+use Rattle.bay_assoc.specs.Presentation.{Carried, Connect, user_data, request}
+use Rattle.bay_assoc.specs.Acse.{associate, release}
 use Rattle.bay_assoc.specs.Texts.{accept_text, disconnect_text, user_text, connected_text, associated_text, release_text}
 
 -- what is heard: a request for an association, with its answer; an MMS PDU; a request for a
@@ -45,10 +47,9 @@ mms_of contexts = option_map (λ c. c.id) (find (λ c. c.is_mms) contexts)
 
 -- the two, where both are offered
 unfoldable pub accepted_of : List Context → Option Accepted
-accepted_of contexts = do
-  first ← acse_of contexts
-  second ← mms_of contexts
-  Some (record { acse = first; mms = second })
+accepted_of contexts =
+    acse_of contexts >> λ first. mms_of contexts >> λ second.
+    Some (record { acse = first; mms = second })
 
 -- the value in the context of ACSE; one in that of MMS is spelled as none of ACSE's, and another
 -- context was not accepted
@@ -77,7 +78,7 @@ nesting_of (negsuc n) = negsuc n
 
 -- what is agreed on a proposal, where its size is large enough
 abbrev pub agreed_of : Proposal → Option Agreed
-agreed_of p = agreed_size p.size >>= λ size. Some (record {
+agreed_of p = agreed_size p.size >> λ size. Some (record {
   size = size;
   calling = outstanding_of p.calling;
   called = outstanding_of p.called;
@@ -85,64 +86,77 @@ agreed_of p = agreed_size p.size >>= λ size. Some (record {
   parameters = p.parameters;
 })
 
--- ---- SPDUs
-
 -- the TSDU that answers a request
 abbrev pub answer_text : Connect → Accepted → Agreed → List ℕ
 answer_text c a agreed =
     accept_text (connected_text c.called c.contexts a (associated_text a.mms (agreed_text agreed)))
 
--- What is agreed on with the contexts and the user data of a request, layer by layer: ACSE, MMS.
-unfoldable pub agreement : List Context → Carried → Result (Accepted × Agreed) AssocFault
-agreement contexts user =
-    or_fault fault.NoContext (accepted_of contexts) >> λ a.
-    acse_value a user >> λ value.
-    or_fault fault.BadAcse (associate_in value) >> λ information.
-    mms_value a information >> λ pdu.
-    or_fault fault.BadAcse (initiate_in pdu) >> λ proposal.
-    or_fault fault.PduSizeTooSmall (agreed_of proposal) >> λ agreed.
-    Ok (a, agreed)
+-- ---- layer by layer
 
--- a request for a connection: presentation, and what is agreed on with what it has
-unfoldable pub connection_request : List ℕ → Result (Hearing × Phase) AssocFault
-connection_request user =
-    or_fault fault.BadPresentation (request_in user) >> λ request.
-    agreement request.contexts request.user >> λ x.
-    Ok (answer (answer_text request x.0 x.1), Open (record { contexts = x.0; size = x.1.size }))
+-- an SPDU, and an initiate of MMS
+abbrev pub spdu : Form (List ℕ) Spdu
+spdu = record { reads = spdu_in; Spells = IsSpdu }
 
--- a release, with a request of ACSE's or without user data
+abbrev pub initiate : Form (List ℕ) Proposal
+initiate = record { reads = initiate_in; Spells = IsInitiate }
+
+-- What is agreed on with the contexts and the user data of a request for a connection: in the
+-- context of ACSE they carry a request for an association, and this in that of MMS an initiate.
+unfoldable pub agreement : List Context → Carried → Verdict (Accepted × Agreed) AssocFault
+agreement contexts user = do
+  a ← told (or_fault fault.NoContext (accepted_of contexts))
+  value ← told (acse_value a user)
+  information ← wanted fault.BadAcse associate value
+  pdu ← told (mms_value a information)
+  proposal ← wanted fault.BadAcse initiate pdu
+  agreed ← told (or_fault fault.PduSizeTooSmall (agreed_of proposal))
+  told (Ok (a, agreed))
+
+-- a request for a connection
+unfoldable pub connection_request : List ℕ → Verdict (Hearing × Phase) AssocFault
+connection_request user = do
+  r ← wanted fault.BadPresentation request user
+  x ← agreement r.contexts r.user
+  told (Ok (answer (answer_text r x.0 x.1), Open (record { contexts = x.0; size = x.1.size })))
+
+-- a release, without user data, or with a request for it in the context of ACSE
 unfoldable pub release_request : AssociationTerms → Option (List ℕ)
-    → Result (Hearing × Phase) AssocFault
-release_request terms None = Ok (released (0x0A ∷ 0 ∷ []), Over)
-release_request terms (Some user) =
-    or_fault fault.BadPresentation (user_in user) >> λ c.
-    acse_value terms.contexts c >> λ value.
-    or_fault fault.BadAcse (release_in value) >> λ ignored.
-    Ok (released (disconnect_text (user_text terms.contexts.acse release_text)), Over)
+    → Verdict (Hearing × Phase) AssocFault
+release_request terms None = told (Ok (released (0x0A ∷ 0 ∷ []), Over))
+release_request terms (Some user) = do
+  c ← wanted fault.BadPresentation user_data user
+  value ← told (acse_value terms.contexts c)
+  content ← wanted fault.BadAcse release value
+  told (Ok (released (disconnect_text (user_text terms.contexts.acse release_text)), Over))
 
--- data
-unfoldable pub data_transfer : AssociationTerms → List ℕ → Result (Hearing × Phase) AssocFault
-data_transfer terms user =
-    or_fault fault.BadPresentation (user_in user) >> λ c.
-    mms_value terms.contexts c >> λ pdu.
-    Ok (mms pdu, Open terms)
+-- data: in the context of MMS a PDU
+unfoldable pub data_transfer : AssociationTerms → List ℕ → Verdict (Hearing × Phase) AssocFault
+data_transfer terms user = do
+  c ← wanted fault.BadPresentation user_data user
+  pdu ← told (mms_value terms.contexts c)
+  told (Ok (mms pdu, Open terms))
 
 -- before the association: a request for one, or an abort
-abbrev pub heard_idle : Spdu → Result (Hearing × Phase) AssocFault
+abbrev pub heard_idle : Spdu → Verdict (Hearing × Phase) AssocFault
 heard_idle (connect user) = connection_request user
-heard_idle abort = Ok (aborted, Over)
-heard_idle s = Err fault.OutOfPhase
+heard_idle abort = told (Ok (aborted, Over))
+heard_idle s = told (Err fault.OutOfPhase)
 
 -- in an open association: data, a request for a release, or an abort
-abbrev pub heard_open : AssociationTerms → Spdu → Result (Hearing × Phase) AssocFault
+abbrev pub heard_open : AssociationTerms → Spdu → Verdict (Hearing × Phase) AssocFault
 heard_open terms (finish user) = release_request terms user
-heard_open terms abort = Ok (aborted, Over)
+heard_open terms abort = told (Ok (aborted, Over))
 heard_open terms (transfer user) = data_transfer terms user
-heard_open terms s = Err fault.OutOfPhase
+heard_open terms s = told (Err fault.OutOfPhase)
 
--- what is heard of a TSDU in a phase, and the phase after it
-unfoldable pub hearing : Phase → List ℕ → Result (Hearing × Phase) AssocFault
-hearing Idle octets = or_fault fault.BadSession (spdu_in octets) >> heard_idle
-hearing (Open terms) octets = or_fault fault.BadSession (spdu_in octets) >> heard_open terms
-hearing Over octets = Err fault.OutOfPhase
-hearing Failed octets = Err fault.Failed
+-- What is heard of a TSDU in a phase, and the phase after it, or why it is refused: of the
+-- outermost layer whose spelling is wrong. After an end each is refused, and after a refusal too.
+unfoldable pub verdict : Phase → List ℕ → Verdict (Hearing × Phase) AssocFault
+verdict Idle octets = wanted fault.BadSession spdu octets >>= heard_idle
+verdict (Open terms) octets = wanted fault.BadSession spdu octets >>= heard_open terms
+verdict Over octets = told (Err fault.OutOfPhase)
+verdict Failed octets = told (Err fault.Failed)
+
+-- what is answered
+abbrev pub hearing : Phase → List ℕ → Result (Hearing × Phase) AssocFault
+hearing phase octets = (verdict phase octets).answers

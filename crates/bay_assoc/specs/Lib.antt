@@ -1,20 +1,17 @@
 -- What an association hears of a TSDU: session (X.225), presentation (ISO 8823-1), association
--- control (ISO 8650-1). It is said twice, and laws say that the two agree: what is spelled so is
--- heard so, in one way, and what is heard is spelled so.
+-- control (ISO 8650-1). A message is a form of bay_ber, which both reads it and says how it is
+-- spelled; laws say that the two agree: what is spelled so is heard so, in one way, and what is
+-- heard is spelled so, or refused for the outermost layer that is spelled wrong.
 --
--- `Hearing` is the main file: a function of a phase and a TSDU to what is heard and the phase after
--- it, or to the fault. It goes layer by layer. `Session` reads SPDUs of identifier, length and
--- content; `SessionReading` reads them in turn. `Presentation` reads the request for a connection,
--- its contexts, and user data. `Acse` reads the requests for an association and a release.
+-- `Hearing` is the main file: the verdict on a TSDU in a phase, layer by layer, is what is heard and
+-- the phase after it, or the fault. `Presentation` has the request for a connection, its contexts,
+-- and user data, `Acse` the requests for an association and a release. SPDUs of identifier, length
+-- and content are said twice: `Session` reads them, `SpelledSession` is the relation;
+-- `SessionReading` reads them in turn.
 --
--- `SpelledHearing` is the relation, by cases over nested spellings: `SpelledSession` for SPDUs,
--- `SpelledValues` for the rest. `SpelledRefusals` says why a TSDU is refused: the outermost layer
--- that is spelled wrong decides.
---
--- `Texts`: what is sent. `Hears`: what a call answers and which phase it leaves. `Results`: what is
--- wanted of a TSDU. `Sized`: how long PDUs and answers are. `TakesMemory`: which TSDUs take memory.
--- `Tags`: tags and object identifiers. `Code` numbers the faults; `Views` and `SessionViews` map
--- the code's values to plain data.
+-- `Texts`: what is sent. `Hears`: what a call answers and which phase it leaves. `Sized`: how long
+-- PDUs and answers are. `TakesMemory`: which TSDUs take memory. `Tags`: tags and object identifiers.
+-- `Code` numbers the faults; `Views` and `SessionViews` map the code's values to plain data.
 
 -- What public clauses cite of the crates below.
 pub use Rattle.bay_ber.specs.Octets
@@ -25,15 +22,11 @@ pub mod Code
 pub mod Hearing
 pub mod Hears
 pub mod Presentation
-pub mod Results
 pub mod Session
 pub mod SessionReading
 pub mod SessionViews
 pub mod Sized
-pub mod SpelledHearing
-pub mod SpelledRefusals
 pub mod SpelledSession
-pub mod SpelledValues
 pub mod Tags
 pub mod TakesMemory
 pub mod Texts

@@ -149,13 +149,3 @@ request = cp normal
 -- one whose parameters are not looked at
 abbrev pub request_mode : Form (List ℕ) Part
 request_mode = cp whole
-
--- what octets are read as
-abbrev pub user_in : List ℕ → Option Carried
-user_in octets = user_data.reads octets
-
-abbrev pub request_in : List ℕ → Option Connect
-request_in octets = request.reads octets
-
-abbrev pub mode_in : List ℕ → Option Part
-mode_in octets = request_mode.reads octets

@@ -2,12 +2,12 @@
 use Rattle.std.specs.Prelude.{Option, Some, IsSome}
 use Rattle.bay_assoc.specs.declared.hearing.Phase.{Phase}
 use Rattle.bay_assoc.specs.declared.hearing.Phase.TheVariants.{Idle, Open}
-use Rattle.bay_assoc.specs.Presentation.{mode_in}
+use Rattle.bay_assoc.specs.Presentation.{request_mode}
 use Rattle.bay_assoc.specs.Session.{Spdu, connect, finish}
 
 -- A request for a connection of the normal mode, which is answered.
 abbrev pub IsConnect : Spdu → Type 0
-IsConnect (connect user) = IsSome (mode_in user)
+IsConnect (connect user) = IsSome (request_mode.reads user)
 IsConnect s = ⊥
 
 -- A request for a release, which is answered.

@@ -5,7 +5,7 @@ ghost use Rattle.bay_base.specs.Results.{IsRead};
 ghost use Rattle.bay_initiate.specs.Sizes.{IsPduSize};
 ghost use Rattle.bay_assoc.specs.Hearing.{answer_text, hearing};
 ghost use Rattle.bay_assoc.specs.Hearing as spec;
-ghost use Rattle.bay_assoc.specs.Presentation.{mode_in};
+ghost use Rattle.bay_assoc.specs.Presentation.{request_mode};
 ghost use Rattle.bay_assoc.specs.Session.{spdu_in};
 ghost use Rattle.bay_assoc.specs.Sized.{IsSized, IsShort};
 ghost use Rattle.bay_assoc.specs.TakesMemory.{TakesMemory};
@@ -185,7 +185,7 @@ fn answer(
 #[tactic(auto, unfolding(crate::specs::Hearing::agreement))]
 fn agreement(contexts: &[Context], user: Carried<'_>) -> Result<(Accepted, Agreed), AssocFault>
     ensures agreement { IsRead (λ x. (x.0, x.1)) result
-        (spec.agreement contexts.now (carried_view user.entry)) }
+        (spec.agreement contexts.now (carried_view user.entry)).answers }
     ensures sized { IfOk result (λ x. IsPduSize x.1.size) }
 {
     let contexts = accepted_of(contexts).ok_or(AssocFault::NoContext)?;
@@ -201,8 +201,8 @@ fn agreement(contexts: &[Context], user: Carried<'_>) -> Result<(Accepted, Agree
 #[tactic(auto, unfolding(crate::specs::Hearing::connection_request))]
 fn connected<'a>(alloc: Global, user: &'a [u8]) -> Result<(Heard<'a>, Phase), AssocFault>
     ensures heard { Gives AssocFault.OutOfMemory (λ x. (hearing_of x.0, x.1)) result
-        (spec.connection_request user.now) }
-    ensures memory { IsErrOf result AssocFault.OutOfMemory → IsSome (mode_in user.now) }
+        (spec.connection_request user.now).answers }
+    ensures memory { IsErrOf result AssocFault.OutOfMemory → IsSome (request_mode.reads user.now) }
     ensures short { IfOk result (λ x. IsShort x.0) }
     ensures sized { IfOk result (λ x. IsSized x.1) }
 {
@@ -234,7 +234,7 @@ fn finished<'a>(
     user: Option<&'a [u8]>,
 ) -> Result<(Heard<'a>, Phase), AssocFault>
     ensures heard { Gives AssocFault.OutOfMemory (λ x. (hearing_of x.0, x.1)) result
-        (spec.release_request terms (option_map (λ octets. octets.now) user.entry)) }
+        (spec.release_request terms (option_map (λ octets. octets.now) user.entry)).answers }
     ensures short { IfOk result (λ x. IsShort x.0) }
     ensures sized { IfOk result (λ x. IsSized x.1) }
 {
@@ -257,7 +257,8 @@ fn transferred<'a>(
     user: &'a [u8],
 ) -> Result<(Heard<'a>, Phase), AssocFault>
     requires { IsPduSize terms.size }
-    ensures heard { IsRead (λ x. (hearing_of x.0, x.1)) result (spec.data_transfer terms user.now) }
+    ensures heard { IsRead (λ x. (hearing_of x.0, x.1)) result
+        (spec.data_transfer terms user.now).answers }
     ensures memory { IsErrOf result AssocFault.OutOfMemory → ⊥ }
     ensures short { IfOk result (λ x. IsShort x.0) }
     ensures sized { IfOk result (λ x. IsSized x.1) }
@@ -270,7 +271,7 @@ fn transferred<'a>(
 // What is heard of an SPDU before the association.
 fn heard_idle<'a>(alloc: Global, spdu: Spdu<'a>) -> Result<(Heard<'a>, Phase), AssocFault>
     ensures heard { Gives AssocFault.OutOfMemory (λ x. (hearing_of x.0, x.1)) result
-        (spec.heard_idle (spdu_view spdu.entry)) }
+        (spec.heard_idle (spdu_view spdu.entry)).answers }
     ensures memory { IsErrOf result AssocFault.OutOfMemory
         → TakesMemory Phase.Idle (Some (spdu_view spdu.entry)) }
     ensures short { IfOk result (λ x. IsShort x.0) }
@@ -293,7 +294,7 @@ fn heard_open<'a>(
 ) -> Result<(Heard<'a>, Phase), AssocFault>
     requires { IsPduSize terms.size }
     ensures heard { Gives AssocFault.OutOfMemory (λ x. (hearing_of x.0, x.1)) result
-        (spec.heard_open terms (spdu_view spdu.entry)) }
+        (spec.heard_open terms (spdu_view spdu.entry)).answers }
     ensures memory { IsErrOf result AssocFault.OutOfMemory
         → TakesMemory (Phase.Open terms) (Some (spdu_view spdu.entry)) }
     ensures short { IfOk result (λ x. IsShort x.0) }
@@ -308,7 +309,7 @@ fn heard_open<'a>(
 }
 
 /// Returns the meaning of a TSDU in a phase, and the next phase.
-#[tactic(auto, unfolding(crate::specs::Hearing::hearing))]
+#[tactic(auto, unfolding(crate::specs::Hearing::verdict))]
 pub(crate) fn hear<'a>(
     alloc: Global,
     phase: Phase,

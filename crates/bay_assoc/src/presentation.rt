@@ -4,7 +4,7 @@ ghost use Rattle.bay_base.specs.Exact.{Gives};
 ghost use Rattle.bay_ber.specs.Forms.{octets as any_content, one, under, each, whole};
 ghost use Rattle.bay_ber.specs.Values.{part_of};
 ghost use Rattle.bay_assoc.specs.declared.fault.AssocFault.TheVariants.{BadPresentation};
-ghost use Rattle.bay_assoc.specs.Results.{or_fault};
+ghost use Rattle.bay_ber.specs.Judged.{or_fault};
 ghost use Rattle.bay_assoc.specs.Presentation.{transfer_syntax, transfer_syntaxes, context_parts, definition, definition_list, carried_parts, pdv_list, user_part, user_data, connect_parts, normal_parts, normal, mode, mode_parts, request, request_mode};
 ghost use Rattle.bay_assoc.specs.Presentation as spec;
 ghost use Rattle.bay_assoc.specs.Views.{carried_view, connect_view};

@@ -16,10 +16,10 @@ use Rattle.bay_assoc.specs.declared.hearing.AssociationTerms.{AssociationTerms}
 use Rattle.bay_assoc.specs.declared.hearing.Phase.{Phase}
 use Rattle.bay_assoc.specs.declared.hearing.Phase.TheVariants as phases
 use Rattle.bay_assoc.specs.declared.presentation.Context.{Context}
-use Rattle.bay_assoc.specs.Acse.{associate_in, release_in}
-use Rattle.bay_assoc.specs.Hearing.{Hearing, answer, mms, released, aborted, accepted_of, acse_value, agreed_of, agreement, connection_request, release_request, heard_idle, heard_open, hearing, mms_value, data_transfer}
-use Rattle.bay_assoc.specs.Presentation.{Carried, user_in, request_in}
-use Rattle.bay_assoc.specs.Results.{or_fault}
+use Rattle.bay_ber.specs.Judged.{or_fault}
+use Rattle.bay_assoc.specs.Acse.{associate, release}
+use Rattle.bay_assoc.specs.Hearing.{Hearing, answer, mms, released, aborted, accepted_of, acse_value, agreed_of, agreement, connection_request, release_request, heard_idle, heard_open, verdict, hearing, mms_value, data_transfer}
+use Rattle.bay_assoc.specs.Presentation.{Carried, user_data, request}
 use Rattle.bay_assoc.specs.Session.{Spdu, connect, accept, finish, disconnect, abort, transfer, spdu_in}
 use Rattle.bay_initiate.specs.Sizes.{IsPduSize, agreed_size}
 use Rattle.bay_assoc.specs.Sized.{IsSized}
@@ -67,13 +67,13 @@ agreed-sized : (p : Proposal)
 agreed-sized p = agreed-by (agreed_size p.size) _ (λ n. refl) (size-is p.size)
 
 agreement-sized : (contexts : List Context) (user : Carried)
-    → OkIs (λ (x : Accepted × Agreed). IsPduSize x.1.size) (agreement contexts user)
+    → OkIs (λ (x : Accepted × Agreed). IsPduSize x.1.size) (agreement contexts user).answers
 unfolding agreement
 agreement-sized contexts user =
     let P : Accepted × Agreed → Type 0 = λ x. IsPduSize x.1.size in
     bound P (or_fault fault.NoContext (accepted_of contexts)) _ (λ a.
     bound P (acse_value a user) _ (λ value.
-    bound P (or_fault fault.BadAcse (associate_in value)) _ (λ information.
+    bound P (or_fault fault.BadAcse (associate.reads value)) _ (λ information.
     bound P (mms_value a information) _ (λ pdu.
     bound P (or_fault fault.BadAcse (initiate_in pdu)) _ (λ proposal.
     bound-by (λ (x : Agreed). IsPduSize x.size) P
@@ -96,31 +96,31 @@ HeardOpen aborted phase = Unit {0}
 abbrev IsHeard : Hearing × Phase → Type 0
 IsHeard x = IsSized x.1 × HeardOpen x.0 x.1
 
-connected-sized : (user : List ℕ) → OkIs IsHeard (connection_request user)
+connected-sized : (user : List ℕ) → OkIs IsHeard (connection_request user).answers
 unfolding connection_request
 connected-sized user =
-    bound IsHeard (or_fault fault.BadPresentation (request_in user)) _ (λ request.
+    bound IsHeard (or_fault fault.BadPresentation (request.reads user)) _ (λ r.
     bound-by (λ (x : Accepted × Agreed). IsPduSize x.1.size) IsHeard
-    (agreement request.contexts request.user) _ (agreement-sized request.contexts request.user)
+    (agreement r.contexts r.user).answers _ (agreement-sized r.contexts r.user)
     (λ x is. (is, tt)))
 
 finished-sized : (terms : AssociationTerms) (user : Option (List ℕ))
-    → OkIs IsHeard (release_request terms user)
+    → OkIs IsHeard (release_request terms user).answers
 unfolding release_request
 finished-sized terms None = (tt, tt)
 finished-sized terms (Some user) =
-    bound IsHeard (or_fault fault.BadPresentation (user_in user)) _ (λ c.
+    bound IsHeard (or_fault fault.BadPresentation (user_data.reads user)) _ (λ c.
     bound IsHeard (acse_value terms.contexts c) _ (λ value.
-    bound IsHeard (or_fault fault.BadAcse (release_in value)) _ (λ ignored. (tt, tt))))
+    bound IsHeard (or_fault fault.BadAcse (release.reads value)) _ (λ ignored. (tt, tt))))
 
 transferred-sized : (terms : AssociationTerms) (user : List ℕ) → IsPduSize terms.size
-    → OkIs IsHeard (data_transfer terms user)
+    → OkIs IsHeard (data_transfer terms user).answers
 unfolding data_transfer
 transferred-sized terms user is =
-    bound IsHeard (or_fault fault.BadPresentation (user_in user)) _ (λ c.
+    bound IsHeard (or_fault fault.BadPresentation (user_data.reads user)) _ (λ c.
     bound IsHeard (mms_value terms.contexts c) _ (λ pdu. (is, is)))
 
-idle-sized : (s : Spdu) → OkIs IsHeard (heard_idle s)
+idle-sized : (s : Spdu) → OkIs IsHeard (heard_idle s).answers
 idle-sized (connect user) = connected-sized user
 idle-sized accept = tt
 idle-sized (finish user) = tt
@@ -129,7 +129,7 @@ idle-sized abort = (tt, tt)
 idle-sized (transfer user) = tt
 
 open-sized : (terms : AssociationTerms) (s : Spdu) → IsPduSize terms.size
-    → OkIs IsHeard (heard_open terms s)
+    → OkIs IsHeard (heard_open terms s).answers
 open-sized terms (connect user) is = tt
 open-sized terms accept is = tt
 open-sized terms (finish user) is = finished-sized terms user
@@ -138,11 +138,11 @@ open-sized terms abort is = (tt, tt)
 open-sized terms (transfer user) is = transferred-sized terms user is
 
 hearing-sized : (phase : Phase) (tsdu : List ℕ) → IsSized phase → OkIs IsHeard (hearing phase tsdu)
-unfolding hearing
+unfolding verdict
 hearing-sized phases.Idle tsdu is =
-    bound IsHeard (or_fault fault.BadSession (spdu_in tsdu)) heard_idle idle-sized
+    bound IsHeard (or_fault fault.BadSession (spdu_in tsdu)) (λ s. (heard_idle s).answers) idle-sized
 hearing-sized (phases.Open terms) tsdu is =
-    bound IsHeard (or_fault fault.BadSession (spdu_in tsdu)) (heard_open terms)
+    bound IsHeard (or_fault fault.BadSession (spdu_in tsdu)) (λ s. (heard_open terms s).answers)
     (λ s. open-sized terms s is)
 hearing-sized phases.Over tsdu is = tt
 hearing-sized phases.Failed tsdu is = tt

@@ -1,15 +1,15 @@
+use Rattle.bay_assoc.proofs.MessageLemmas.{user_data-exact, request-exact, associate-exact}
 use Rattle.bay_assoc.proofs.SpduLemmas.{spdu-again}
-use Rattle.bay_assoc.proofs.MessageLemmas.{user-read, request-read, associate-read}
 use Rattle.bay_assoc.proofs.laws.one_spelling.Goals as goal
 
 pub returns-clause-spdu : goal.returns-clause-spdu
 returns-clause-spdu c = spdu-again
 
 pub returns-clause-user : goal.returns-clause-user
-returns-clause-user c = user-read
+returns-clause-user c = user_data-exact.read
 
 pub returns-clause-request : goal.returns-clause-request
-returns-clause-request c = request-read
+returns-clause-request c = request-exact.read
 
 pub returns-clause-associate : goal.returns-clause-associate
-returns-clause-associate c = associate-read
+returns-clause-associate c = associate-exact.read

@@ -1,7 +1,7 @@
 use Rattle.std.proofs.Common.{sym, ap, inr}
 use Rattle.bay_ber.specs.Values.{part_of}
 use Rattle.bay_ber.proofs.ListingLemmas.{passed-more, passed-bad}
-use Rattle.bay_assoc.specs.Results.{or_fault}
+use Rattle.bay_ber.specs.Judged.{or_fault}
 use Rattle.bay_assoc.specs.declared.fault.AssocFault.TheVariants.{BadPresentation}
 use Rattle.bay_assoc.specs.Presentation.{definition}
 use Rattle.bay_assoc.proofs.presentation.read_contexts.Goals as goal
