@@ -18,7 +18,8 @@ pub record Flags (whole rest : List ℕ) (found : Bool) : Type 0 where
   pub is : found ≡ list_any (λ b. b) done
 
 pub flags-first : (whole : List ℕ) → Flags whole whole false
-flags-first whole = record { done = []; passed = passed-first transfer_syntax.reads whole; is = refl }
+flags-first whole =
+    record { done = []; passed = passed-first transfer_syntax.reads whole; is = refl }
 
 any-more : (done : List Bool) (one : Bool)
     → list_any (λ b. b) (done ++ one ∷ []) ≡ (list_any (λ b. b) done || one)
@@ -43,7 +44,8 @@ pub flags-end : (whole rest : List ℕ) (found : Bool) → Flags whole rest foun
     → values_in rest ≡ Some [] → transfer_syntaxes.reads whole ≡ Some found
 unfolding transfer_syntaxes
 flags-end whole rest found f last =
-    ap any_of (passed-end transfer_syntax.reads whole rest f.done f.passed last) ∙ ap Some (sym f.is)
+    ap any_of (passed-end transfer_syntax.reads whole rest f.done f.passed last)
+    ∙ ap Some (sym f.is)
 
 pub flags-bad : (whole rest new : List ℕ) (found : Bool) (part : Part) → Flags whole rest found
     → values_in rest ≡ onto (part ∷ []) (values_in new) → transfer_syntax.reads part ≡ None
@@ -55,7 +57,8 @@ flags-bad whole rest new found part f step bad =
 pub flags-stop : (whole rest : List ℕ) (found : Bool) → Flags whole rest found
     → values_in rest ≡ None → transfer_syntaxes.reads whole ≡ None
 unfolding transfer_syntaxes
-flags-stop whole rest found f stop = ap any_of (passed-stop transfer_syntax.reads whole rest f.done f.passed stop)
+flags-stop whole rest found f stop =
+    ap any_of (passed-stop transfer_syntax.reads whole rest f.done f.passed stop)
 
 -- ---- identifiers
 

@@ -130,7 +130,8 @@ front-is id carried listed inner list value is few begun most =
     let third : inner ++ value ≡ number ++ held =
     ap (λ (ys : List ℕ). ys ++ value) is
     ∙ append_assoc number (0xA0 ∷ length_octets (length value)) value
-    ∙ ap (λ (ys : List ℕ). number ++ ys) (sym (spelled-so (constructed 0) value (length value) refl))
+    ∙ ap (λ (ys : List ℕ). number ++ ys)
+    (sym (spelled-so (constructed 0) value (length value) refl))
     in
     let second : list ++ value ≡ element sequence (number ++ held) =
     ap (λ (ys : List ℕ). ys ++ value) begun

@@ -11,21 +11,13 @@ use Rattle.bay_assoc.specs.declared.hearing.Phase.{Phase}
 use Rattle.bay_assoc.specs.declared.hearing.Phase.TheVariants.{Idle, Open, Over, Failed}
 use Rattle.bay_assoc.specs.declared.presentation.Context.{Context}
 use Rattle.bay_assoc.specs.Session.{Spdu, connect, finish, abort, transfer}
-use Rattle.bay_assoc.specs.SpelledSession.{IsSpdu}
 use Rattle.bay_assoc.specs.Presentation.{Carried}
-use Rattle.bay_assoc.specs.Hearing.{Hearing, is_id, acse_value, mms_value, spdu, initiate, agreement, connection_request, release_request, data_transfer, heard_idle, heard_open, verdict}
+use Rattle.bay_assoc.specs.Hearing.{Hearing, is_id, acse_value, mms_value, initiate, agreement, connection_request, release_request, data_transfer, heard_idle, heard_open, verdict}
 use Rattle.bay_assoc.proofs.MessageLemmas.{user_data-exact, user_data-keeps, request-exact, request-keeps, associate-exact, associate-keeps, release-exact}
-use Rattle.bay_assoc.proofs.SpduLemmas.{spdu-again}
-use Rattle.bay_assoc.proofs.SpduBackLemmas.{UserBytes, spdu-back}
-
-spdu-exact : ExactIn spdu
-spdu-exact = record { read = spdu-again; back = λ o s b e. (spdu-back o s b e).0 }
+use Rattle.bay_assoc.proofs.SpduLemmas.{UserBytes, spdu-exact, spdu-keeps}
 
 initiate-exact : ExactIn initiate
 initiate-exact = record { read = initiate-read; back = initiate-back }
-
-user-bytes : (octets : List ℕ) (s : Spdu) → IsBytes octets → IsSpdu octets s → UserBytes s
-user-bytes octets s b is = (spdu-back octets s b (spdu-again octets s is)).1
 
 -- ---- the value in a context
 
@@ -101,10 +93,10 @@ pub verdict-fair : (phase : Phase) (octets : List ℕ) → Fair (IsBytes octets)
 unfolding verdict
 verdict-fair Idle octets =
     layers-fair (wanted-fair _ spdu-exact octets (λ b. b))
-    (λ s is. idle-fair s (λ b. user-bytes octets s b is))
+    (λ s is. idle-fair s (λ b. spdu-keeps.holds octets s b is))
 verdict-fair (Open terms) octets =
     layers-fair (wanted-fair _ spdu-exact octets (λ b. b))
-    (λ s is. open-fair terms s (λ b. user-bytes octets s b is))
+    (λ s is. open-fair terms s (λ b. spdu-keeps.holds octets s b is))
 verdict-fair Over octets = told-fair _
 verdict-fair Failed octets = told-fair _
 

@@ -15,10 +15,10 @@ use Rattle.bay_assoc.specs.declared.hearing.Phase.TheVariants.{Idle, Open, Over}
 use Rattle.bay_assoc.specs.Hearing.{mms, release_request, connection_request, data_transfer, heard_idle, heard_open, verdict, hearing}
 use Rattle.bay_assoc.specs.Hears.{association_terms, StandsLast, IsOpenFor}
 use Rattle.bay_assoc.specs.Presentation.{Carried, carried_parts, pdv_list, user_part, user_data}
-use Rattle.bay_assoc.specs.Session.{Spdu, connect, finish, abort, transfer}
-use Rattle.bay_assoc.specs.SpelledSession.{IsSpdu}
+use Rattle.bay_assoc.specs.Session.{Spdu, connect, finish, abort, transfer, spdu}
 use Rattle.bay_assoc.specs.Tags.{oid_tag, application}
 use Rattle.bay_assoc.specs.Views.{hearing_of}
+use Rattle.bay_assoc.proofs.SpduLemmas.{transfer-front}
 use Rattle.bay_assoc.proofs.HearingLemmas.{mms-is, verdict-fair, told-is}
 
 -- The octets end with others.
@@ -105,17 +105,18 @@ told-last terms octets user pdu new at is =
 
 -- Nothing but data is heard as a PDU of MMS.
 open-last : (terms : AssociationTerms) (octets pdu : List ℕ) (new : Phase) (s : Spdu)
-    → IsSpdu octets s → (heard_open terms s).Spells (mms pdu, new)
+    → IsBytes octets → spdu.Spells octets s → (heard_open terms s).Spells (mms pdu, new)
     → EndsWith octets pdu × IsSome (association_terms new)
 unfolding release_request
-open-last terms octets pdu new (transfer user) at is = told-last terms octets user pdu new at is
-open-last terms octets pdu new (finish None) at is =
+open-last terms octets pdu new (transfer user) b at is =
+    told-last terms octets user pdu new (transfer-front octets user b at) is
+open-last terms octets pdu new (finish None) b at is =
     let heard = (told-is _ (mms pdu) Over new is).0 in absurd cc
-open-last terms octets pdu new (finish (Some user)) at is =
+open-last terms octets pdu new (finish (Some user)) b at is =
     let heard = (told-is _ (mms pdu) Over new is.2.2.2).0 in absurd cc
-open-last terms octets pdu new abort at is =
+open-last terms octets pdu new abort b at is =
     let heard = (told-is _ (mms pdu) Over new is).0 in absurd cc
-open-last terms octets pdu new s at is = absurd cc
+open-last terms octets pdu new s b at is = absurd cc
 
 not-idle : (pdu : List ℕ) (new : Phase) (s : Spdu) → (heard_idle s).Spells (mms pdu, new) → ⊥
 unfolding connection_request
@@ -124,17 +125,19 @@ not-idle pdu new (connect user) is =
 not-idle pdu new abort is = let heard = (told-is _ (mms pdu) Over new is).0 in absurd cc
 not-idle pdu new s is = absurd cc
 
-heard-last : (old new : Phase) (octets pdu : List ℕ) → (verdict old octets).Spells (mms pdu, new)
+heard-last : (old new : Phase) (octets pdu : List ℕ) → IsBytes octets
+    → (verdict old octets).Spells (mms pdu, new)
     → EndsWith octets pdu × IsSome (association_terms new)
 unfolding verdict
-heard-last Idle new octets pdu is = absurd (not-idle pdu new is.0 is.2)
-heard-last (Open terms) new octets pdu is = open-last terms octets pdu new is.0 is.1 is.2
-heard-last old new octets pdu is = absurd cc
+heard-last Idle new octets pdu b is = absurd (not-idle pdu new is.0 is.2)
+heard-last (Open terms) new octets pdu b is =
+    open-last terms octets pdu new is.0 b is.1 is.2
+heard-last old new octets pdu b is = absurd cc
 
 pub stands-last : (old new : Phase) (octets : List ℕ) (h : Heard) → IsBytes octets
     → hearing old octets ≡ Ok (hearing_of h, new) → StandsLast octets h × IsOpenFor h new
 stands-last old new octets (heard.Mms pdu) b e =
-    let last = heard-last old new octets pdu.now
+    let last = heard-last old new octets pdu.now b
     ((verdict-fair old octets).back b (mms pdu.now, new) e) in
     ((last.0.front, last.0.is), last.1)
 stands-last old new octets h b e = (tt, tt)

@@ -3,7 +3,6 @@ pub mod FrontLemmas
 pub mod HearingLemmas
 pub mod LastLemmas
 pub mod MessageLemmas
-pub mod SpduBackLemmas
 pub mod SpduLemmas
 pub mod TextLemmas
 pub mod UnitLemmas

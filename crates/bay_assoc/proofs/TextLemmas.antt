@@ -159,7 +159,8 @@ connected_within called cs a value few most short =
 
 pub associated_within : (mms : ℕ) (pdu : List ℕ) → length pdu ≤ 200
     → within 271 (associated_text mms pdu) ≡ Some (associated_text mms pdu)
-associated_within mms pdu short = fits 271 (associated_text mms pdu) (associated_short mms pdu short)
+associated_within mms pdu short =
+    fits 271 (associated_text mms pdu) (associated_short mms pdu short)
 
 pub released_within : (acse : ℕ)
     → within 41 (user_text acse release_text) ≡ Some (user_text acse release_text)

@@ -1,12 +1,12 @@
 -- The units that octets are, read in turn (X.225 8.2).
-use Rattle.std.proofs.Common.{◌≡◌, ℕ, zero, suc, ◌<◌, ◌≤◌, Bool, true, false, cond, eqb, ltb, List, [], ◌∷◌, ◌++◌, length, filter, take, drop, Option, Some, None, refl, sym, ap, ◌∙◌, append_assoc, arith}
+use Rattle.std.proofs.Common.{◌≡◌, ℕ, zero, suc, ◌<◌, ◌≤◌, Bool, true, false, cond, eqb, ltb, List, [], ◌∷◌, ◌++◌, length, filter, take, drop, Option, Some, None, option_map, refl, sym, ap, ◌∙◌, append_assoc, arith}
 use Rattle.std.proofs.lemmas.Option.{same_Some}
 use Rattle.std.proofs.lemmas.Bool.{eqb-true}
 use Rattle.std.proofs.lemmas.List.{length-drop, append-nil}
 use Rattle.std.proofs.lemmas.List.Elements.{filter-append}
 use Rattle.bay_base.specs.Options.{◌>>=◌}
 use Rattle.bay_ber.proofs.BackLemmas.{bind-some, unguarded}
-use Rattle.bay_assoc.specs.Session.{Unit, long_size, size_at, counted_at, unit_at, onto, with_front, units_within, units_in, only_one, unit_in, is_user, Users, missing, users_of, users_in}
+use Rattle.bay_assoc.specs.Session.{Unit, long_size, size_at, counted_at, unit_at, onto, with_front, units_within, units_in, only_one, unit, is_user, Users, missing, users_of, parameters}
 use Rattle.bay_assoc.specs.SessionReading.{then_user, with_user}
 
 -- ---- what is read leaves less
@@ -108,7 +108,7 @@ units-end (octet ∷ octets) none =
 -- ---- the one unit
 
 pub one-is : (octets : List ℕ) (x : Unit × List ℕ) → unit_at octets ≡ Some x
-    → true ≡ eqb (length x.1) 0 → unit_in octets ≡ Some x.0
+    → true ≡ eqb (length x.1) 0 → unit.reads octets ≡ Some x.0
 one-is octets x e none =
     ap (λ (o : Option (List Unit)). o >>= only_one)
     (units-step octets x e ∙ ap (onto (x.0 ∷ [])) (units-end x.1 none))
@@ -135,19 +135,19 @@ not-one first (Some []) some = absurd (some refl)
 not-one first (Some (next ∷ later)) some = refl
 
 pub one-more : (octets : List ℕ) (x : Unit × List ℕ) → unit_at octets ≡ Some x
-    → false ≡ eqb (length x.1) 0 → unit_in octets ≡ None
+    → false ≡ eqb (length x.1) 0 → unit.reads octets ≡ None
 one-more octets x e more =
     ap (λ (o : Option (List Unit)). o >>= only_one) (units-step octets x e)
     ∙ not-one x.0 (units_in x.1) (with-some x.1 (unit_at x.1) refl more)
 
 stop-one : (octets : List ℕ) (b : Bool) → b ≡ eqb (length octets) 0 → unit_at octets ≡ None
-    → unit_in octets ≡ None
+    → unit.reads octets ≡ None
 stop-one octets true none e =
     ap (λ (o : Option (List Unit)). o >>= only_one) (units-end octets none)
 stop-one octets false some e =
     ap (λ (o : Option (List Unit)). o >>= only_one) (units-stop octets some e)
 
-pub one-stop : (octets : List ℕ) → unit_at octets ≡ None → unit_in octets ≡ None
+pub one-stop : (octets : List ℕ) → unit_at octets ≡ None → unit.reads octets ≡ None
 one-stop octets e = stop-one octets (eqb (length octets) 0) refl e
 
 -- ---- user data
@@ -198,17 +198,17 @@ found-more whole rest new users more u f step is = record {
 }
 
 abbrev judged : Option (List Unit) → Option Users
-judged o = o >>= λ units. Some (users_of (filter is_user units))
+judged o = option_map (λ us. users_of (filter is_user us)) o
 
 pub found-end : (whole rest : List ℕ) (users : Users) → Found whole rest users
-    → units_in rest ≡ Some [] → users_in whole ≡ Some users
-unfolding users_in
+    → units_in rest ≡ Some [] → parameters.reads whole ≡ Some users
+unfolding parameters
 found-end whole rest users f last =
     ap judged (f.read ∙ ap (onto f.front) last)
     ∙ ap (λ (us : List Unit). Some (users_of (filter is_user us))) (append-nil f.front)
     ∙ ap Some (sym f.is)
 
 pub found-stop : (whole rest : List ℕ) (users : Users) → Found whole rest users
-    → units_in rest ≡ None → users_in whole ≡ None
-unfolding users_in
+    → units_in rest ≡ None → parameters.reads whole ≡ None
+unfolding parameters
 found-stop whole rest users f stop = ap judged (f.read ∙ ap (onto f.front) stop)

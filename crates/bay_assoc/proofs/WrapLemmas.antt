@@ -19,7 +19,7 @@ use Rattle.bay_assoc.specs.declared.hearing.AssociationTerms.{AssociationTerms}
 use Rattle.bay_assoc.specs.declared.hearing.Phase.{Phase}
 use Rattle.bay_assoc.specs.declared.hearing.Phase.TheVariants.{Open}
 use Rattle.bay_assoc.specs.Presentation.{carried_parts, pdv_list, user_part, user_data}
-use Rattle.bay_assoc.specs.Session.{spdu_in}
+use Rattle.bay_assoc.specs.Session.{spdu}
 use Rattle.bay_assoc.specs.Texts.{user_text, transfer_text}
 use Rattle.bay_assoc.specs.Hearing.{mms, data_transfer, verdict, hearing}
 
@@ -97,7 +97,7 @@ pub transfer-heard : (terms : AssociationTerms) (pdu : List ℕ)
     ≡ Some (record { id = pos terms.contexts.mms; value = pdu })
     → hearing (Open terms) (transfer_text (user_text terms.contexts.mms pdu))
     ≡ Ok (mms pdu, Open terms)
-unfolding verdict spdu_in data_transfer
+unfolding verdict spdu data_transfer
 transfer-heard terms pdu read = rw (read, eq-eqb terms.contexts.mms terms.contexts.mms refl) refl
 
 pub sent-is-heard : (phase : Phase) (terms : AssociationTerms) (front pdu : List ℕ)

@@ -16,8 +16,7 @@ use Rattle.bay_assoc.specs.declared.hearing.Accepted.{Accepted}
 use Rattle.bay_assoc.specs.declared.hearing.AssociationTerms.{AssociationTerms}
 use Rattle.bay_assoc.specs.declared.hearing.Phase.{Phase}
 use Rattle.bay_assoc.specs.declared.hearing.Phase.TheVariants.{Idle, Open, Over, Failed}
-use Rattle.bay_assoc.specs.Session.{Spdu, connect, finish, abort, transfer, spdu_in}
-use Rattle.bay_assoc.specs.SpelledSession.{IsSpdu}
+use Rattle.bay_assoc.specs.Session.{Spdu, connect, finish, abort, transfer, spdu}
 use Rattle.bay_assoc.specs.Presentation.{Carried, Connect, user_data, request}
 use Rattle.bay_assoc.specs.Acse.{associate, release}
 use Rattle.bay_assoc.specs.Texts.{accept_text, disconnect_text, user_text, connected_text, associated_text, release_text}
@@ -93,10 +92,7 @@ answer_text c a agreed =
 
 -- ---- layer by layer
 
--- an SPDU, and an initiate of MMS
-abbrev pub spdu : Form (List ℕ) Spdu
-spdu = record { reads = spdu_in; Spells = IsSpdu }
-
+-- an initiate of MMS
 abbrev pub initiate : Form (List ℕ) Proposal
 initiate = record { reads = initiate_in; Spells = IsInitiate }
 

@@ -1,7 +1,8 @@
 -- Session protocol data units (X.225 8): an identifier, a length, and parameters, which are spelled
 -- likewise.
-use Rattle.std.specs.Prelude.{ℕ, zero, suc, ◌+◌, ◌*◌, ◌==◌, ◌&&◌, Bool, false, List, [], ◌∷◌, ◌++◌, length, take, drop, filter, Option, Some, None, option_map, nat_lt, if◌then◌else◌}
+use Rattle.std.specs.Prelude.{ℕ, zero, suc, ◌≡◌, ◌≢◌, ◌<◌, ◌⊎◌, ◌+◌, ◌*◌, ◌==◌, ◌&&◌, Bool, false, List, [], ◌∷◌, ◌++◌, length, take, drop, filter, Option, Some, None, option_map, nat_lt, if◌then◌else◌}
 use Rattle.bay_base.specs.Options.{◌>>=◌}
+use Rattle.bay_ber.specs.Forms.{Form, made, such}
 
 -- an identifier and the octets that the length behind it counts: an SPDU, a parameter or a group of
 -- parameters
@@ -54,14 +55,54 @@ units_within (suc most) (octet ∷ octets) = with_front (unit_at (octet ∷ octe
 unfoldable pub units_in : List ℕ → Option (List Unit)
 units_in octets = units_within (length octets) octets
 
--- the one unit of a list
+-- ---- how they are spelled
+
+-- A length is one octet below 255, or 255 and two octets, the higher first (X.225 8.2.5).
+abbrev pub IsSize : List ℕ → ℕ → Type 0
+IsSize (first ∷ []) n = (first < 255) × (n ≡ first)
+IsSize (first ∷ high ∷ low ∷ []) n = (first ≡ 255) × (n ≡ high * 256 + low)
+IsSize octets n = ⊥
+
+-- The octets are these units and nothing else, one after another: of each its identifier, a length,
+-- and so many octets.
+abbrev pub SpellUnits : List ℕ → List Unit → Type 0
+SpellUnits octets [] = octets ≡ []
+SpellUnits octets (u ∷ units) =
+    (size : List ℕ) × (rest : List ℕ) × (octets ≡ u.identifier ∷ (size ++ (u.content ++ rest)))
+    × IsSize size (length u.content) × SpellUnits rest units
+
+-- ---- forms of units
+
+-- units one after another
+abbrev pub units : Form (List ℕ) (List Unit)
+units = record { reads = units_in; Spells = SpellUnits }
+
 abbrev pub only_one : List Unit → Option Unit
 only_one (u ∷ []) = Some u
 only_one units = None
 
--- the one unit that the octets are
-abbrev pub unit_in : List ℕ → Option Unit
-unit_in octets = units_in octets >>= only_one
+-- one unit
+abbrev pub unit : Form (List ℕ) Unit
+unit = such only_one units
+
+-- the content of a unit of this identifier, or a unit of any other as another form has it
+abbrev pub coded : {A : Type 0} → ℕ → Form (List ℕ) A → Form Unit A → Form Unit A
+coded identifier f g = record {
+  reads = λ u. if u.identifier == identifier then f.reads u.content else g.reads u;
+  Spells = λ u x. ((u.identifier ≡ identifier) × f.Spells u.content x)
+      ⊎ ((u.identifier ≢ identifier) × g.Spells u x);
+}
+
+-- no unit
+abbrev pub uncoded : {A : Type 0} → Form Unit A
+uncoded = record { reads = λ u. None; Spells = λ u x. ⊥ }
+
+-- of what f reads what g reads
+abbrev pub through : {S A B : Type 0} → Form S A → Form A B → Form S B
+through {A = A} f g = record {
+  reads = λ s. f.reads s >>= g.reads;
+  Spells = λ s y. (x : A) × f.Spells s x × g.Spells x y;
+}
 
 -- ---- user data
 
@@ -81,9 +122,9 @@ users_of [] = missing
 users_of (u ∷ []) = once u.content
 users_of (u ∷ v ∷ units) = several
 
--- the user data among the parameters that the octets are
-unfoldable pub users_in : List ℕ → Option Users
-users_in octets = units_in octets >>= λ units. Some (users_of (filter is_user units))
+-- parameters, of which the user data are looked at
+unfoldable pub parameters : Form (List ℕ) Users
+parameters = made (λ us. users_of (filter is_user us)) units
 
 -- ---- SPDUs
 
@@ -109,16 +150,13 @@ finish_of missing = Some (finish None)
 finish_of (once user) = Some (finish (Some user))
 finish_of several = None
 
--- The SPDU of a unit, by its identifier (X.225 8.3), of which the parameters of the last three are
--- not looked into.
-unfoldable pub spdu_of : Unit → Option Spdu
-spdu_of u =
-    if u.identifier == 0x0D then users_in u.content >>= connect_of
-    else (if u.identifier == 0x09 then users_in u.content >>= finish_of
-    else (if u.identifier == 0x0E then users_in u.content >>= (λ users. Some accept)
-    else (if u.identifier == 0x0A then users_in u.content >>= (λ users. Some disconnect)
-    else (if u.identifier == 0x19 then users_in u.content >>= (λ users. Some abort)
-    else None))))
+-- the SPDU of a unit, by its identifier (X.225 8.3): a CONNECT, a FINISH, or, with any parameters,
+-- an ACCEPT, a DISCONNECT or an ABORT
+unfoldable pub by_identifier : Form Unit Spdu
+by_identifier =
+    coded 0x0D (such connect_of parameters) (coded 0x09 (such finish_of parameters)
+    (coded 0x0E (made (λ x. accept) parameters) (coded 0x0A (made (λ x. disconnect) parameters)
+    (coded 0x19 (made (λ x. abort) parameters) uncoded))))
 
 -- whether octets begin with an empty GIVE TOKENS and the front of a DATA TRANSFER: 01 00 01 00
 abbrev pub is_transfer : List ℕ → Bool
@@ -126,6 +164,14 @@ is_transfer (a ∷ b ∷ c ∷ d ∷ user) = (a == 1) && ((b == 0) && ((c == 1) 
 is_transfer octets = false
 
 -- the SPDU that a TSDU is; all behind the front of a DATA TRANSFER is user data
-unfoldable pub spdu_in : List ℕ → Option Spdu
-spdu_in octets =
-    if is_transfer octets then Some (transfer (drop 4 octets)) else unit_in octets >>= spdu_of
+unfoldable pub spdu : Form (List ℕ) Spdu
+spdu = record {
+  reads = λ octets. if is_transfer octets then Some (transfer (drop 4 octets))
+      else (through unit by_identifier).reads octets;
+  Spells = λ octets s. ((user : List ℕ) × (octets ≡ 1 ∷ 0 ∷ 1 ∷ 0 ∷ user) × (transfer user ≡ s))
+      ⊎ ((is_transfer octets ≡ false) × (through unit by_identifier).Spells octets s);
+}
+
+-- what it is read as
+abbrev pub spdu_in : List ℕ → Option Spdu
+spdu_in octets = spdu.reads octets

@@ -1,6 +1,7 @@
 // Session protocol data units (X.225 8): an identifier, a length, and parameters, which are spelled
 // likewise.
 ghost use Rattle.std.specs.Prelude.{◌≡◌, ◌+◌, ◌≤◌, length, option_map, IfSome};
+ghost use Rattle.bay_assoc.specs.Session.{unit, parameters, by_identifier, spdu};
 ghost use Rattle.bay_assoc.specs.Session as spec;
 ghost use Rattle.bay_assoc.specs.SessionReading.{NextUnit};
 ghost use Rattle.bay_assoc.specs.SessionReading as spec_session_reading;
@@ -178,7 +179,7 @@ fn with_user<'a>(found: UserData<'a>, unit: Unit<'a>) -> UserData<'a>
 
 // The user data among the parameters that octets are; None where they are no parameters.
 fn users_in(octets: &[u8]) -> Option<UserData<'_>>
-    ensures { option_map users_of result ≡ spec.users_in octets.now }
+    ensures { option_map users_of result ≡ parameters.reads octets.now }
 {
     let mut found = UserData::Missing;
     let mut units = Units::new(octets);
@@ -213,9 +214,9 @@ fn finish_of(users: UserData<'_>) -> Option<Spdu<'_>>
 }
 
 // The SPDU that a unit is.
-#[tactic(auto, unfolding(crate::specs::Session::spdu_of))]
+#[tactic(auto, unfolding(crate::specs::Session::by_identifier))]
 fn spdu_of(unit: Unit<'_>) -> Option<Spdu<'_>>
-    ensures { option_map spdu_view result ≡ spec.spdu_of (unit_of unit.entry) }
+    ensures { option_map spdu_view result ≡ by_identifier.reads (unit_of unit.entry) }
 {
     let users = users_in(unit.content)?;
     match unit.identifier {
@@ -230,7 +231,7 @@ fn spdu_of(unit: Unit<'_>) -> Option<Spdu<'_>>
 
 // The unit that octets are.
 fn unit_in(octets: &[u8]) -> Option<Unit<'_>>
-    ensures { option_map unit_of result ≡ spec.unit_in octets.now }
+    ensures { option_map unit_of result ≡ unit.reads octets.now }
 {
     match unit_at(octets) {
         Some((unit, rest)) => { if rest.is_empty() { Some(unit) } else { None } }
@@ -239,9 +240,9 @@ fn unit_in(octets: &[u8]) -> Option<Unit<'_>>
 }
 
 /// Reads a TSDU as an SPDU.
-#[tactic(auto, unfolding(crate::specs::Session::spdu_in))]
+#[tactic(auto, unfolding(crate::specs::Session::spdu))]
 pub(crate) fn spdu_in(tsdu: &[u8]) -> Option<Spdu<'_>>
-    ensures { option_map spdu_view result ≡ spec.spdu_in tsdu.now }
+    ensures { option_map spdu_view result ≡ spdu.reads tsdu.now }
 {
     match tsdu {
         [1, 0, 1, 0, user @ ..] => Some(Spdu::Transfer(user)),

@@ -13,7 +13,7 @@ use Rattle.bay_transport.specs.Doings.{Run}
 use Rattle.bay_transport.specs.Wrap.{full_before, tpdus_of}
 use Rattle.bay_transport.proofs.WrapLemmas.{run-data_frames}
 use Rattle.bay_assoc.specs.Hears.{association_terms}
-use Rattle.bay_assoc.specs.Session.{Spdu, spdu_in, transfer}
+use Rattle.bay_assoc.specs.Session.{Spdu, spdu, spdu_in, transfer}
 use Rattle.bay_assoc.specs.Tags.{application}
 use Rattle.bay_assoc.specs.Texts.{transfer_text, user_text}
 use Rattle.bay_assoc.specs.declared.hearing.Phase.{Phase}
@@ -31,7 +31,7 @@ tsdu-read size tsdu few =
     (run-data_frames 0 0 (size - 3) (full_before (size - 3) tsdu) [] tsdu few)
 
 spdu-read : (user : List ℕ) → spdu_in (transfer_text user) ≡ Some (transfer user)
-unfolding spdu_in
+unfolding spdu
 spdu-read user = refl
 
 one-value : (tag : Tag) (content : List ℕ) → tag.number < 31 → length content < 4294967296

@@ -140,7 +140,8 @@ open-sized terms (transfer user) is = transferred-sized terms user is
 hearing-sized : (phase : Phase) (tsdu : List ℕ) → IsSized phase → OkIs IsHeard (hearing phase tsdu)
 unfolding verdict
 hearing-sized phases.Idle tsdu is =
-    bound IsHeard (or_fault fault.BadSession (spdu_in tsdu)) (λ s. (heard_idle s).answers) idle-sized
+    bound IsHeard (or_fault fault.BadSession (spdu_in tsdu)) (λ s. (heard_idle s).answers)
+    idle-sized
 hearing-sized (phases.Open terms) tsdu is =
     bound IsHeard (or_fault fault.BadSession (spdu_in tsdu)) (λ s. (heard_open terms s).answers)
     (λ s. open-sized terms s is)

@@ -1,9 +1,9 @@
 use Rattle.bay_assoc.proofs.MessageLemmas.{user_data-exact, request-exact, associate-exact}
-use Rattle.bay_assoc.proofs.SpduLemmas.{spdu-again}
+use Rattle.bay_assoc.proofs.SpduLemmas.{spdu-exact}
 use Rattle.bay_assoc.proofs.laws.one_spelling.Goals as goal
 
 pub returns-clause-spdu : goal.returns-clause-spdu
-returns-clause-spdu c = spdu-again
+returns-clause-spdu c = spdu-exact.read
 
 pub returns-clause-user : goal.returns-clause-user
 returns-clause-user c = user_data-exact.read
