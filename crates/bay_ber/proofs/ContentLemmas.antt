@@ -1,5 +1,5 @@
 -- The contents of the simple types.
-use Rattle.std.proofs.Common.{◌≡◌, ℕ, ℤ, ◌+◌, ◌*◌, ◌^◌, ◌<◌, ◌≤◌, ◌-◌, pos, negsuc, ◌-ℤ◌, ◌&&◌, Bool, true, false, FitsSigned, Some, None, option_map, List, [], ◌∷◌, length, get_or, take, drop, Result, Ok, Err, IfOk, refl, sym, ap, subst, ◌∙◌, arith}
+use Rattle.std.proofs.Common.{◌≡◌, ℕ, ℤ, ◌+◌, ◌*◌, ◌^◌, ◌<◌, ◌≤◌, ◌-◌, pos, negsuc, ◌-ℤ◌, true, FitsSigned, Some, None, option_map, List, [], ◌∷◌, length, get_or, take, drop, Result, Ok, Err, IfOk, refl, sym, ap, subst, ◌∙◌, arith}
 use Rattle.std.specs.Prelude.{IfErr, IsOkAnd}
 use Rattle.std.specs.Int.{w64}
 use Rattle.std.specs.Result.{result_ok}
