@@ -1,22 +1,12 @@
--- How the request that opens an association is read (ISO 9506-2, InitiateRequestPDU), by the values
--- that octets are.
+-- How the request that opens an association is spelled (ISO 9506-2, InitiateRequestPDU), as forms.
 use Rattle.std.specs.Prelude.{ℕ, zero, suc, ℤ, pos, negsuc, ◌*◌, ◌/◌, Option, Some, None, List, [], ◌∷◌, nat_lt, if◌then◌else◌}
-use Rattle.bay_base.specs.Options.{◌>>=◌}
-use Rattle.bay_ber.specs.declared.tag.Tag.{Tag}
-use Rattle.bay_ber.specs.Content.{BitString, bits_in}
-use Rattle.bay_ber.specs.Tags.{same_tag, context, constructed}
-use Rattle.bay_ber.specs.Values.{Part, value_in, few_in, known_in, under, integer_under}
+use Rattle.bay_ber.specs.Content.{BitString}
+use Rattle.bay_ber.specs.Forms.{Form, made, such, integer, bits, one, fields, known, under, done, next, maybe}
+use Rattle.bay_ber.specs.Tags.{context, constructed}
+use Rattle.bay_ber.specs.Values.{Part}
 use Rattle.bay_initiate.specs.declared.initiate.Proposal.{Proposal}
 
--- one or more
-abbrev pub some_of : ℤ → Option ℤ
-some_of (pos zero) = None
-some_of (pos (suc n)) = Some (pos (suc n))
-some_of (negsuc n) = None
-
--- how many requests may be outstanding, under a tag
-unfoldable pub outstanding_as : Tag → Part → Option ℤ
-outstanding_as tag part = integer_under tag part >>= some_of
+-- ---- initRequestDetail
 
 -- the first three bits of octets
 abbrev pub three_bits : List ℕ → Option ℕ
@@ -27,65 +17,70 @@ three_bits (first ∷ octets) = Some (first / 32 * 32)
 abbrev pub parameters_of : BitString → Option ℕ
 parameters_of b = if nat_lt b.count 3 then None else three_bits b.octets
 
--- the first three parameter conformance blocks
-unfoldable pub parameters_as : Part → Option ℕ
-parameters_as part = under (context 1) part >>= bits_in >>= parameters_of
+-- proposedParameterCBB: the first three parameter conformance blocks
+unfoldable pub parameters : Form Part ℕ
+parameters = under (context 1) (such parameters_of bits)
 
--- the services that the other side supports
-unfoldable pub services_as : Part → Option BitString
-services_as part = under (context 2) part >>= bits_in
+-- servicesSupportedCalling
+unfoldable pub services : Form Part BitString
+services = under (context 2) bits
 
--- a version, the parameter conformance blocks and the services
-abbrev pub detail_of : List Part → Option ℕ
-detail_of (version ∷ parameters ∷ services ∷ []) = do
-  z ← integer_under (context 0) version
-  first ← parameters_as parameters
-  bits ← services_as services
-  Some first
-detail_of parts = None
+-- proposedVersionNumber, proposedParameterCBB and servicesSupportedCalling
+unfoldable pub detail_parts : Form (List Part) (ℤ × (ℕ × (BitString × Unit {0})))
+detail_parts = next (under (context 0) integer) (next parameters (next services done))
 
 -- the three fields that are known stand in their order, others anywhere
-unfoldable pub detail_in : List ℕ → Option ℕ
-detail_in octets = known_in (context 0 ∷ context 1 ∷ context 2 ∷ []) octets >>= detail_of
+unfoldable pub detail : Form (List ℕ) ℕ
+detail = made (λ x. x.1.0) (known (context 0 ∷ context 1 ∷ context 2 ∷ []) detail_parts)
 
--- the integer under a tag, where one is proposed
-abbrev pub proposed_under : Tag → Option Part → Option (Option ℤ)
-proposed_under tag None = Some None
-proposed_under tag (Some part) = integer_under tag part >>= λ z. Some (Some z)
+-- ---- the request
 
--- a proposal out of its fields: the size of a PDU, the requests outstanding on either side, how
--- deep data may nest, and the detail
-unfoldable pub proposal_of : Option Part → Part → Part → Option Part → Part → Option Proposal
-proposal_of first second third fourth fifth = do
-  size ← proposed_under (context 0) first
-  calling ← outstanding_as (context 1) second
-  called ← outstanding_as (context 2) third
-  nesting ← proposed_under (context 3) fourth
-  octets ← under (constructed 4) fifth
-  parameters ← detail_in octets
-  Some (record {
-    size = size;
-    calling = calling;
-    called = called;
-    nesting = nesting;
-    parameters = parameters;
-  })
+-- one or more
+abbrev pub some_of : ℤ → Option ℤ
+some_of (pos zero) = None
+some_of (pos (suc n)) = Some (pos (suc n))
+some_of (negsuc n) = None
 
--- the size may be left out, and so may the nesting
-abbrev pub initiate_of : List Part → Option Proposal
-initiate_of (calling ∷ called ∷ detail ∷ []) = proposal_of None calling called None detail
-initiate_of (first ∷ second ∷ third ∷ detail ∷ []) =
-    if same_tag first.tag (context 0)
-    then proposal_of (Some first) second third None detail
-    else proposal_of None first second (Some third) detail
-initiate_of (size ∷ calling ∷ called ∷ nesting ∷ detail ∷ []) =
-    proposal_of (Some size) calling called (Some nesting) detail
-initiate_of parts = None
+-- how many requests may be outstanding, under a tag
+unfoldable pub outstanding : ℕ → Form Part ℤ
+outstanding number = under (context number) (such some_of integer)
 
--- the proposal that octets are
-abbrev pub proposal_in : List ℕ → Option Proposal
-proposal_in octets = few_in octets >>= initiate_of
+-- how deep data may nest, and the detail
+abbrev pub Nested : Type 0
+Nested = Option ℤ × (ℕ × Unit {0})
 
--- the proposal of an initiate that octets are
-unfoldable pub initiate_in : List ℕ → Option Proposal
-initiate_in octets = value_in octets >>= under (constructed 8) >>= proposal_in
+-- proposedDataStructureNestingLevel, which may be left out, and initRequestDetail
+unfoldable pub nested_parts : Form (List Part) Nested
+nested_parts = maybe (context 3) integer (next (under (constructed 4) detail) done)
+
+-- behind proposedMaxServOutstandingCalling and proposedMaxServOutstandingCalled
+unfoldable pub outstanding_parts : Form (List Part) (ℤ × (ℤ × Nested))
+outstanding_parts = next (outstanding 1) (next (outstanding 2) nested_parts)
+
+-- behind localDetailCalling, the size of a PDU, which may be left out
+unfoldable pub proposal_parts : Form (List Part) (Option ℤ × (ℤ × (ℤ × Nested)))
+proposal_parts = maybe (context 0) integer outstanding_parts
+
+abbrev pub proposal_by : Option ℤ × (ℤ × (ℤ × Nested)) → Proposal
+proposal_by x = record {
+  size = x.0;
+  calling = x.1.0;
+  called = x.1.1.0;
+  nesting = x.1.1.1.0;
+  parameters = x.1.1.1.1.0;
+}
+
+-- what an initiate proposes, by its content
+unfoldable pub proposal : Form (List ℕ) Proposal
+proposal = made proposal_by (fields proposal_parts)
+
+-- InitiateRequestPDU
+unfoldable pub initiate : Form (List ℕ) Proposal
+initiate = one (under (constructed 8) proposal)
+
+-- the proposal that octets are read as, and how it is spelled
+abbrev pub initiate_in : List ℕ → Option Proposal
+initiate_in octets = initiate.reads octets
+
+abbrev pub IsInitiate : List ℕ → Proposal → Type 0
+IsInitiate octets p = initiate.Spells octets p

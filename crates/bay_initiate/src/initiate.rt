@@ -1,18 +1,19 @@
 // The request that opens an association, and its answer (ISO 9506-2, InitiateRequestPDU and
 // InitiateResponsePDU).
 ghost use Rattle.std.specs.Prelude.{◌≡◌, ◌≤◌, ◌<◌, length, map, option_map, pos, IfOk, IfSome};
-ghost use Rattle.std.specs.Option.{option_copied};
 ghost use Rattle.bay_ber.specs.Content.{bits_of};
 ghost use Rattle.bay_ber.specs.Sheets.{sheet_with};
-ghost use Rattle.bay_ber.specs.Tags.{context};
+ghost use Rattle.bay_ber.specs.Forms.{under, next, done};
+ghost use Rattle.bay_ber.specs.Tags.{context, constructed};
 ghost use Rattle.bay_ber.specs.Values.{part_of};
 ghost use Rattle.bay_ber.specs.Writing.{element, integer_octets};
 ghost use Rattle.bay_initiate.specs.Agreed.{agreed_text, detail_text, limits_text, nesting_text, parameters_text, services_text};
+ghost use Rattle.bay_initiate.specs.Initiate.{parameters, services, detail_parts, detail, outstanding, nested_parts, outstanding_parts, proposal_parts, proposal_by, initiate_in};
 ghost use Rattle.bay_initiate.specs.Initiate as spec;
 ghost use Rattle.bay_initiate.specs.Sizes.{IsPduSize};
 ghost use Rattle.bay_initiate.specs.Sizes as sizes;
 
-use bay_ber::content::{Bits, bits_of};
+use bay_ber::content::{Bits, bits_of, int_of};
 use bay_ber::known::known_values;
 use bay_ber::outgoing::Outgoing;
 use bay_ber::tag::Tag;
@@ -43,11 +44,11 @@ fn some_of(number: i64) -> Option<i64>
 }
 
 // How many requests may be outstanding.
-#[tactic(auto, unfolding(crate::specs::Initiate::outstanding_as))]
-fn outstanding_as(tag: Tag, value: &Value<'_>) -> Option<i64>
-    ensures { result ≡ spec.outstanding_as tag (part_of value.now) }
+#[tactic(auto, unfolding(crate::specs::Initiate::outstanding, bay_ber::specs::Values::integer_under))]
+fn outstanding_as(number: u8, value: &Value<'_>) -> Option<i64>
+    ensures { result ≡ (outstanding number).reads (part_of value.now) }
 {
-    some_of(value.integer_under(tag)?)
+    some_of(value.integer_under(Tag::context(number))?)
 }
 
 // The first three of the bits.
@@ -64,25 +65,26 @@ fn parameters_of(bits: Bits<'_>) -> Option<u8>
 }
 
 // The first three parameter conformance blocks.
-#[tactic(auto, unfolding(crate::specs::Initiate::parameters_as))]
+#[tactic(auto, unfolding(crate::specs::Initiate::parameters))]
 fn parameters_as(value: &Value<'_>) -> Option<u8>
-    ensures { result ≡ spec.parameters_as (part_of value.now) }
+    ensures { result ≡ parameters.reads (part_of value.now) }
 {
     let bits = bits_of(value.under(Tag::context(1))?).ok()?;
     parameters_of(bits)
 }
 
 // The services that the one who calls has.
-#[tactic(auto, unfolding(crate::specs::Initiate::services_as))]
+#[tactic(auto, unfolding(crate::specs::Initiate::services))]
 fn services_as<'a>(value: &Value<'a>) -> Option<Bits<'a>>
-    ensures { option_map bits_of result ≡ spec.services_as (part_of value.now) }
+    ensures { option_map bits_of result ≡ services.reads (part_of value.now) }
 {
     bits_of(value.under(Tag::context(2))?).ok()
 }
 
 // The parameters of the three parts of an InitRequestDetail.
+#[tactic(auto, unfolding(crate::specs::Initiate::detail_parts, bay_ber::specs::Values::integer_under))]
 fn detail_of(parts: &[Value<'_>]) -> Option<u8>
-    ensures { result ≡ spec.detail_of (map part_of parts.now) }
+    ensures { result ≡ option_map (λ x. x.1.0) (detail_parts.reads (map part_of parts.now)) }
 {
     match parts {
         [version, parameters, services] => {
@@ -96,76 +98,81 @@ fn detail_of(parts: &[Value<'_>]) -> Option<u8>
 }
 
 // The version, the parameters and the services (ISO 9506-2, InitRequestDetail), among other fields.
-#[tactic(auto, unfolding(crate::specs::Initiate::detail_in))]
+#[tactic(auto, unfolding(crate::specs::Initiate::detail))]
 fn detail_in(octets: &[u8]) -> Option<u8>
-    ensures { result ≡ spec.detail_in octets.now }
+    ensures { result ≡ detail.reads octets.now }
 {
     let tags = [Tag::context(0), Tag::context(1), Tag::context(2)];
     let known = known_values(octets, &tags)?;
     detail_of(known.as_slice())
 }
 
-// The integer with this tag that is proposed, if one is.
-fn proposed_under(tag: Tag, value: Option<&Value<'_>>) -> Option<Option<i64>>
-    ensures { result ≡ spec.proposed_under tag (option_map part_of (option_copied value.entry)) }
+// The parameters of the detail, which stands last.
+fn last_of(parts: &[Value<'_>]) -> Option<u8>
+    ensures { result ≡ option_map (λ x. x.0)
+        ((next (under (constructed 4) detail) done).reads (map part_of parts.now)) }
 {
-    match value {
-        Some(value) => Some(Some(value.integer_under(tag)?)),
-        None => Some(None),
+    match parts {
+        [detail] => detail_in(detail.under(Tag::context_constructed(4))?),
+        _ => None,
     }
 }
 
-// What an initiate proposes, by its fields: a size, how many requests are outstanding either way, a
-// nesting, and the detail.
-#[tactic(auto, unfolding(crate::specs::Initiate::proposal_of))]
-fn proposal_of(
-    size: Option<&Value<'_>>,
-    calling: &Value<'_>,
-    called: &Value<'_>,
-    nesting: Option<&Value<'_>>,
-    detail: &Value<'_>,
-) -> Option<Proposal>
-    ensures { result ≡ spec.proposal_of (option_map part_of (option_copied size.entry))
-        (part_of calling.now) (part_of called.now)
-        (option_map part_of (option_copied nesting.entry)) (part_of detail.now) }
-{
-    let size = proposed_under(Tag::context(0), size)?;
-    let calling = outstanding_as(Tag::context(1), calling)?;
-    let called = outstanding_as(Tag::context(2), called)?;
-    let nesting = proposed_under(Tag::context(3), nesting)?;
-    let parameters = detail_in(detail.under(Tag::context_constructed(4))?)?;
-    Some(Proposal {
-        size,
-        calling,
-        called,
-        nesting,
-        parameters,
-    })
-}
-
-// What values propose.
-fn initiate_of(parts: &[Value<'_>]) -> Option<Proposal>
-    ensures { result ≡ spec.initiate_of (map part_of parts.now) }
+// The nesting, where it is proposed, and the parameters.
+#[tactic(auto, unfolding(crate::specs::Initiate::nested_parts))]
+fn nested_of(parts: &[Value<'_>]) -> Option<(Option<i64>, u8)>
+    ensures { result ≡ option_map (λ x. (x.0, x.1.0)) (nested_parts.reads (map part_of parts.now)) }
 {
     match parts {
-        [calling, called, detail] => proposal_of(None, calling, called, None, detail),
-        [first, second, third, detail] => {
-            if first.tag.is(Tag::context(0)) {
-                proposal_of(Some(first), second, third, None, detail)
-            } else {
-                proposal_of(None, first, second, Some(third), detail)
-            }
+        [nesting, parts @ ..] if nesting.tag.is(Tag::context(3)) => {
+            let nesting = int_of(nesting.content).ok()?;
+            Some((Some(nesting), last_of(parts)?))
         }
-        [size, calling, called, nesting, detail] => {
-            proposal_of(Some(size), calling, called, Some(nesting), detail)
+        _ => Some((None, last_of(parts)?)),
+    }
+}
+
+// What values behind the size of a PDU propose.
+#[tactic(auto, unfolding(crate::specs::Initiate::outstanding_parts))]
+fn proposal_of(size: Option<i64>, parts: &[Value<'_>]) -> Option<Proposal>
+    ensures { result ≡ option_map (λ x. proposal_by (size, x))
+        (outstanding_parts.reads (map part_of parts.now)) }
+{
+    match parts {
+        [calling, called, parts @ ..] => {
+            let calling = outstanding_as(1, calling)?;
+            let called = outstanding_as(2, called)?;
+            let (nesting, parameters) = nested_of(parts)?;
+            Some(Proposal {
+                size,
+                calling,
+                called,
+                nesting,
+                parameters,
+            })
         }
         _ => None,
     }
 }
 
+// What values propose.
+#[tactic(auto, unfolding(crate::specs::Initiate::proposal_parts))]
+fn initiate_of(parts: &[Value<'_>]) -> Option<Proposal>
+    ensures { result ≡ option_map proposal_by (proposal_parts.reads (map part_of parts.now)) }
+{
+    match parts {
+        [size, parts @ ..] if size.tag.is(Tag::context(0)) => {
+            let size = int_of(size.content).ok()?;
+            proposal_of(Some(size), parts)
+        }
+        _ => proposal_of(None, parts),
+    }
+}
+
 /// Reads the content of an initiate as its proposal.
+#[tactic(auto, unfolding(crate::specs::Initiate::proposal))]
 pub fn proposal_in(content: &[u8]) -> Option<Proposal>
-    ensures { result ≡ spec.proposal_in content.now }
+    ensures { result ≡ spec.proposal.reads content.now }
 {
     let parts = few_values(content)?;
     initiate_of(parts.as_slice())
@@ -173,9 +180,9 @@ pub fn proposal_in(content: &[u8]) -> Option<Proposal>
 
 /// Reads octets as an initiate and returns its proposal (ISO 9506-2, InitiateRequestPDU). `None` if
 /// they are no initiate. Does not allocate.
-#[tactic(auto, unfolding(crate::specs::Initiate::initiate_in))]
+#[tactic(auto, unfolding(crate::specs::Initiate::initiate))]
 pub fn read_initiate(octets: &[u8]) -> Option<Proposal>
-    ensures { result ≡ spec.initiate_in octets.now }
+    ensures { result ≡ initiate_in octets.now }
 {
     let value = whole_value(octets)?;
     proposal_in(value.under(Tag::context_constructed(8))?)

@@ -9,7 +9,7 @@ use Rattle.bay_ber.specs.Writing.{bit_string_octets}
 use Rattle.bay_ber.proofs.BackLemmas.{bind-some}
 use Rattle.bay_ber.proofs.ReadLemmas.{chosen}
 use Rattle.bay_mms.specs.declared.control.Check.{Check}
-use Rattle.bay_mms.specs.Data.{Datum, Data, structure, truth, bits, integer, unsigned, octets, text, utc, other, no_data, datum, datum_text}
+use Rattle.bay_mms.specs.Data.{Datum, Data, structure, truth, bits, integer, unsigned, octets, utc, no_data, datum, datum_text}
 use Rattle.bay_mms.specs.Views.{data_before}
 use Rattle.bay_mms.specs.Controls.{Origin, Control, Operate, origin_datum, control_before, operate_datum, cancel_datum, AreChecks, IsOperate, truth_as, integer_as, unsigned_as, octets_as, moment_as, check_octet, checks, check_by, first_check, check_as, list_of, parts_as, origin_of, origin_as, control_of, cancel_of, operate_of, cancel_as, operate_as, is_category, is_number, is_in_range, operate_in}
 use Rattle.bay_mms.specs.Laws.{IsHeld, IsPlain}

@@ -1,9 +1,8 @@
-pub mod AccessLemmas
 pub mod AnswerLemmas
 pub mod AskLemmas
-pub mod ConfirmedLemmas
 pub mod ControlLemmas
 pub mod DataLemmas
+pub mod GrammarLemmas
 pub mod LawLemmas
 pub mod MarkLemmas
 pub mod NodeLemmas
@@ -13,6 +12,4 @@ pub mod ReceivedLemmas
 pub mod ReportLemmas
 pub mod RequestLemmas
 pub mod ResponseLemmas
-pub mod ServiceBackLemmas
-pub mod ServiceLemmas
 pub mod ShortLemmas

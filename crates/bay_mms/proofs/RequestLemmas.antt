@@ -6,7 +6,8 @@ use Rattle.std.proofs.lemmas.List.{length-map, map-append}
 use Rattle.std.proofs.lemmas.List.Folds.{list_any-append}
 use Rattle.bay_base.specs.Exact.{Gives}
 use Rattle.bay_base.specs.Options.{◌>>=◌}
-use Rattle.bay_base.specs.Results.{◌>>=◌ as ◌>>◌}
+use Rattle.bay_ber.specs.Forms.{answer, or_bad, made, each}
+use Rattle.bay_ber.specs.Judged.{or_fault}
 use Rattle.bay_ber.specs.Tags.{same_tag, constructed}
 use Rattle.bay_ber.specs.Values.{Part, values_in, onto, all_of, each_in}
 use Rattle.bay_ber.proofs.ListingLemmas.{Passed, passed-more, bind-some}
@@ -15,14 +16,13 @@ use Rattle.bay_mms.specs.Data as mms
 use Rattle.bay_mms.specs.Data.{Datum}
 use Rattle.bay_mms.specs.Views.{data_before, datum_of, data_in}
 use Rattle.bay_mms.specs.declared.data.Data as given
-use Rattle.bay_mms.specs.Spelled.{or_misspelled}
 use Rattle.bay_mms.specs.Requests.{Naming, VariableSpecification, variables}
-use Rattle.bay_mms.specs.RequestViews.{naming, variable}
+use Rattle.bay_mms.specs.RequestViews.{naming, variable as view}
 use Rattle.bay_mms.specs.declared.access.VariableSpecification as code
 use Rattle.bay_mms.specs.declared.request.ObjectName.{ObjectName}
 use Rattle.bay_mms.specs.declared.fault.Refusal.{Refusal}
 use Rattle.bay_mms.specs.declared.fault.Refusal.TheVariants.{Bad, Unknown, Many, OutOfMemory}
-use Rattle.bay_mms.specs.Grammar.{variable_as, any_alternate, are_as_many, counted_names, names_asked, listed_in, datum_as, simple_as}
+use Rattle.bay_mms.specs.Grammar.{variable, any_alternate, are_as_many, counted_names, names_asked, datum_as, simple_as}
 
 -- ---- lists of variables
 
@@ -30,23 +30,23 @@ use Rattle.bay_mms.specs.Grammar.{variable_as, any_alternate, are_as_many, count
 pub record Listing (octets rest : List ℕ) (names : List ObjectName) (alternate : Bool)
     : Type 0 where
   pub vs : List VariableSpecification
-  pub passed : Passed variable_as octets rest vs
+  pub passed : Passed variable.reads octets rest vs
   pub are : map naming names ≡ map (λ v. v.name) vs
   pub any : alternate ≡ any_alternate vs
 
 pub listing-more : (octets rest new : List ℕ) (names more : List ObjectName) (alternate both : Bool)
     (part : Part) (one : code.VariableSpecification) → Listing octets rest names alternate
-    → values_in rest ≡ onto (part ∷ []) (values_in new) → variable_as part ≡ Some (variable one)
+    → values_in rest ≡ onto (part ∷ []) (values_in new) → variable.reads part ≡ Some (view one)
     → map naming more ≡ map naming names ++ naming one.name ∷ []
     → both ≡ (alternate || one.is_alternate) → Listing octets new more both
 listing-more octets rest new names more alternate both part one l step is are any = record {
-  vs = l.vs ++ variable one ∷ [];
-  passed = passed-more variable_as octets rest new l.vs part (variable one) l.passed step is;
+  vs = l.vs ++ view one ∷ [];
+  passed = passed-more variable.reads octets rest new l.vs part (view one) l.passed step is;
   are = are ∙ ap (λ (ns : List Naming). ns ++ naming one.name ∷ []) l.are
-      ∙ sym (map-append (λ (v : VariableSpecification). v.name) l.vs (variable one ∷ []));
+      ∙ sym (map-append (λ (v : VariableSpecification). v.name) l.vs (view one ∷ []));
   any = any ∙ ap (λ (b : Bool). b || one.is_alternate) l.any
       ∙ sym (list_any-append (λ (v : VariableSpecification). v.is_alternate) l.vs
-      (variable one ∷ []) ∙ one-any (any_alternate l.vs) one.is_alternate);
+      (view one ∷ []) ∙ one-any (any_alternate l.vs) one.is_alternate);
 }
   where
     one-any : (a b : Bool) → (a || (b || false)) ≡ (a || b)
@@ -54,8 +54,8 @@ listing-more octets rest new names more alternate both part one l step is are an
     one-any false true = refl
     one-any false false = refl
 
-pub listing-bad : (count : Option ℕ) (octets : List ℕ) → each_in variable_as octets ≡ None
-    → listed_in count octets ≡ Err Bad
+pub listing-bad : (count : Option ℕ) (octets : List ℕ) → each_in variable.reads octets ≡ None
+    → answer Bad (made (λ vs. names_asked count (variables vs)) (each variable)) octets ≡ Err Bad
 listing-bad count octets bad = rw bad refl
 
 pub counted_is : (count : Option ℕ) (names : List ObjectName) (alternate : Bool)
@@ -98,34 +98,36 @@ names-some (v ∷ vs) count some = pick (are_as_many count (suc (length (map (λ
     pick true false false = refl
 
 pub listing-some : (count : Option ℕ) (octets : List ℕ)
-    → (each_in variable_as octets ≡ Some [] → ⊥) → names_none (listed_in count octets) ≡ false
-listing-some count octets some = pick (each_in variable_as octets) refl
+    → (each_in variable.reads octets ≡ Some [] → ⊥)
+    → names_none (answer Bad (made (λ vs. names_asked count (variables vs)) (each variable))
+    octets) ≡ false
+listing-some count octets some = pick (each_in variable.reads octets) refl
   where
-    pick : (o : Option (List VariableSpecification)) → each_in variable_as octets ≡ o
-        → names_none (or_misspelled o >> λ vs. names_asked count (variables vs)) ≡ false
+    pick : (o : Option (List VariableSpecification)) → each_in variable.reads octets ≡ o
+        → names_none (or_bad Bad (option_map (λ vs. names_asked count (variables vs)) o)) ≡ false
     pick None e = refl
     pick (Some vs) e = names-some vs count (λ none. some (e ∙ ap Some none))
 
 -- ---- where a list of values stops
 
 pub gives-option : {A B : Type 0} (view : A → B) (r : Option A) (o : Option B)
-    → option_map view r ≡ o → Gives OutOfMemory view (ok_or r Bad) (or_misspelled o)
-gives-option view None o is = inr (ap or_misspelled (sym is))
-gives-option view (Some x) o is = ap or_misspelled (sym is)
+    → option_map view r ≡ o → Gives OutOfMemory view (ok_or r Bad) (or_fault Bad o)
+gives-option view None o is = inr (ap (or_fault Bad) (sym is))
+gives-option view (Some x) o is = ap (or_fault Bad) (sym is)
 
-spelled-err : {A : Type 0} (o : Option A) (e : Refusal) → or_misspelled o ≡ Err e
+spelled-err : {A : Type 0} (o : Option A) (e : Refusal) → or_fault Bad o ≡ Err e
     → (o ≡ None) × (e ≡ Bad)
 spelled-err None e is = (refl, let same : Bad ≡ e = cc in sym same)
 spelled-err (Some x) e is = absurd cc
 
-pub spelled-ok : {A : Type 0} (o : Option A) (x : A) → or_misspelled o ≡ Ok x → o ≡ Some x
+pub spelled-ok : {A : Type 0} (o : Option A) (x : A) → or_fault Bad o ≡ Ok x → o ≡ Some x
 spelled-ok None x is = absurd cc
 spelled-ok (Some y) x is = let same : y ≡ x = cc in ap Some same
 
 -- one that is not read stops all
 pub gives-stop : {A B : Type 0} (e : Refusal) (one : Option A) (all : Option B)
-    → (e ≡ OutOfMemory) ⊎ (or_misspelled one ≡ Err e) → (one ≡ None → all ≡ None)
-    → (e ≡ OutOfMemory) ⊎ (or_misspelled all ≡ Err e)
+    → (e ≡ OutOfMemory) ⊎ (or_fault Bad one ≡ Err e) → (one ≡ None → all ≡ None)
+    → (e ≡ OutOfMemory) ⊎ (or_fault Bad all ≡ Err e)
 gives-stop e one all (inl memory) stop = inl memory
 gives-stop e one all (inr is) stop = let p = spelled-err one e is in inr (rw (stop p.0, p.1) refl)
 
@@ -155,17 +157,17 @@ simple-is depth part some not =
 
 pub structure-ok : (depth : ℕ) (part : Part) (ds : List Datum) → 0 < depth
     → same_tag part.tag (constructed 2) ≡ true
-    → or_misspelled (each_in (datum_as (depth - 1)) part.content) ≡ Ok ds
-    → or_misspelled (datum_as depth part) ≡ Ok (mms.structure (data_before ds mms.no_data))
+    → or_fault Bad (each_in (datum_as (depth - 1)) part.content) ≡ Ok ds
+    → or_fault Bad (datum_as depth part) ≡ Ok (mms.structure (data_before ds mms.no_data))
 structure-ok depth part ds some is read =
-    ap or_misspelled (structure-is depth part some is
+    ap (or_fault Bad) (structure-is depth part some is
     ∙ ap (λ (o : Option (List Datum)). o
     >>= (λ xs. Some (mms.structure (data_before xs mms.no_data)))) (spelled-ok _ ds read))
 
 pub structure-err : (depth : ℕ) (part : Part) (e : Refusal) → 0 < depth
     → same_tag part.tag (constructed 2) ≡ true
-    → (e ≡ OutOfMemory) ⊎ (or_misspelled (each_in (datum_as (depth - 1)) part.content) ≡ Err e)
-    → (e ≡ OutOfMemory) ⊎ (or_misspelled (datum_as depth part) ≡ Err e)
+    → (e ≡ OutOfMemory) ⊎ (or_fault Bad (each_in (datum_as (depth - 1)) part.content) ≡ Err e)
+    → (e ≡ OutOfMemory) ⊎ (or_fault Bad (datum_as depth part) ≡ Err e)
 structure-err depth part e some is given =
     gives-stop e (each_in (datum_as (depth - 1)) part.content) (datum_as depth part) given
     (λ none. structure-is depth part some is
@@ -177,6 +179,6 @@ pub view-structure : (parts : Vec given.Data Global)
     ≡ mms.structure (data_before (data_in parts.items) mms.no_data)
 view-structure parts = search (rules, given.the_lemmas)
 
-pub too_deep : (depth : ℕ) (part : Part) → depth ≡ 0 → or_misspelled (datum_as depth part) ≡ Err Bad
+pub too_deep : (depth : ℕ) (part : Part) → depth ≡ 0 → or_fault Bad (datum_as depth part) ≡ Err Bad
 unfolding datum_as
 too_deep depth part none = rw none refl

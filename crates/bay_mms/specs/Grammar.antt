@@ -1,72 +1,59 @@
--- How requests are spelled (ISO 9506-2, with the profile of IEC 61850-8-1), by the values that
--- octets are.
-use Rattle.std.specs.Prelude.{ℕ, zero, suc, ℤ, pos, negsuc, ◌==◌, ◌&&◌, ◌||◌, Bool, true, false, not, Option, Some, None, Result, Ok, Err, List, [], ◌∷◌, length, map, nat_lt, if◌then◌else◌}
+-- How requests are spelled (ISO 9506-2, with the profile of IEC 61850-8-1), as forms: each is read
+-- as what spells it.
+use Rattle.std.specs.Prelude.{ℕ, zero, suc, ℤ, pos, negsuc, ◌≤◌, ◌==◌, ◌&&◌, ◌||◌, Bool, true, false, not, Option, Some, None, Result, Ok, Err, List, length, map, nat_lt, if◌then◌else◌}
 use Rattle.std.specs.List.{list_any}
-use Rattle.bay_ber.specs.declared.fault.BerFault.{BerFault}
+use Rattle.bay_base.specs.Options.{◌>>=◌}
+use Rattle.bay_base.specs.Results.{◌>>=◌ as ◌>>◌}
 use Rattle.bay_ber.specs.declared.tag.Class.TheVariants.{ContextSpecific}
 use Rattle.bay_ber.specs.declared.tag.Tag.{Tag}
 use Rattle.bay_ber.specs.Tags.{same_class, same_tag, context, constructed, sequence, int_tag, visible_tag}
-use Rattle.bay_base.specs.Options.{◌>>=◌}
 use Rattle.bay_ber.specs.Content.{integer_in, bits_in, truth_in}
-use Rattle.bay_ber.specs.Reading.{Reading, tlv_at}
-use Rattle.bay_ber.specs.Values.{Part, part_in, value_in, one_or_two_in, few_in, each_in, under}
-use Rattle.bay_initiate.specs.Initiate.{proposal_in}
+use Rattle.bay_ber.specs.Values.{Part, each_in}
+use Rattle.bay_ber.specs.Forms.{Form, made, such, integer, octets, anything, empty, one, front, fields, each, whole, under, choice, done, next, maybe}
+use Rattle.bay_initiate.specs.Initiate.{proposal}
 use Rattle.bay_mms.specs.Data as mms
 use Rattle.bay_mms.specs.Data.{Datum}
 use Rattle.bay_mms.specs.Views.{data_before}
-use Rattle.bay_base.specs.Results.{◌>>=◌ as ◌>>◌}
-use Rattle.bay_mms.specs.Spelled.{or_misspelled}
-use Rattle.bay_mms.specs.Requests.{Naming, vmd, domain, association, Place, whole_vmd, in_domain, of_association, VariableSpecification, Access, variables, named_list, Asking, identify, names, attributes, read, write, Message, initiate, conclude, confirmed}
+use Rattle.bay_mms.specs.SpelledData.{IsDatum, depth_of}
+use Rattle.bay_mms.specs.Requests.{Naming, vmd, domain, association, Place, whole_vmd, in_domain, of_association, VariableSpecification, Access, variables, named_list, Asking, identify, names, attributes, read, write, Message, initiate, conclude, confirmed, Denial, unknown, many}
 use Rattle.bay_mms.specs.declared.fault.Refusal.{Refusal}
-use Rattle.bay_mms.specs.declared.fault.Refusal.TheVariants.{Bad, Unknown, Many, OutOfMemory}
+use Rattle.bay_mms.specs.declared.fault.Refusal.TheVariants.{Bad, Unknown, Many}
 use Rattle.bay_mms.specs.declared.fault.MmsFault.{MmsFault}
 use Rattle.bay_mms.specs.declared.fault.MmsFault.TheVariants as fault
 
--- a content that is empty
-abbrev pub nothing : {A : Type 0} → List ℕ → A → Option A
-nothing [] x = Some x
-nothing (octet ∷ octets) x = None
-
 -- ---- names and variables
 
--- two visible strings: a domain, and an item of it
-abbrev pub domain_name : Part → Option Part → Option Naming
-domain_name first second = do
-  d ← under visible_tag first
-  part ← second
-  item ← under visible_tag part
-  Some (domain d item)
+-- domain-specific: a domain, and an item of it
+unfoldable pub domain_parts : Form (List Part) (List ℕ × (List ℕ × Unit {0}))
+domain_parts = next (under visible_tag octets) (next (under visible_tag octets) done)
 
--- the name of an object that a value is
-unfoldable pub name_as : Part → Option Naming
-name_as part =
-    if same_tag part.tag (context 0) then Some (vmd part.content)
-    else (if same_tag part.tag (constructed 1) then one_or_two_in part.content
-    >>= (λ parts. domain_name parts.0 parts.1)
-    else (if same_tag part.tag (context 2) then Some (association part.content)
-    else None))
+-- ObjectName: vmd-specific, domain-specific or aa-specific
+unfoldable pub name : Form Part Naming
+name =
+    choice (context 0) (made vmd octets)
+    (choice (constructed 1) (made (λ x. domain x.0 x.1.0) (fields domain_parts))
+    (under (context 2) (made association octets)))
 
--- the name of an object that octets are
-unfoldable pub name_in : List ℕ → Option Naming
-name_in octets = value_in octets >>= name_as
+abbrev pub is_there : Option (Unit {0}) → Bool
+is_there (Some x) = true
+is_there None = false
 
--- whether a part of a variable is asked for, whose content is not looked at
-abbrev pub is_partial : Option Part → Option Bool
-is_partial None = Some false
-is_partial (Some access) = under (constructed 5) access >>= λ content. Some true
+abbrev pub variable_by : Naming × (Option (Unit {0}) × Unit {0}) → VariableSpecification
+variable_by x = record { name = x.0; is_alternate = is_there x.1.0 }
 
--- a variable: its name, and what may follow it
-abbrev pub variable_of : Part → Option Part → Option VariableSpecification
-variable_of name access = do
-  alternate ← is_partial access
-  octets ← under (constructed 0) name
-  n ← name_in octets
-  Some (record { name = n; is_alternate = alternate })
+-- variableSpecification, a name, and alternateAccess, which is not looked at
+unfoldable pub variable_parts : Form (List Part) (Naming × (Option (Unit {0}) × Unit {0}))
+variable_parts = next (under (constructed 0) (one name)) (maybe (constructed 5) anything done)
 
--- the variable that a value is
-unfoldable pub variable_as : Part → Option VariableSpecification
-variable_as part =
-    under sequence part >>= one_or_two_in >>= (λ parts. variable_of parts.0 parts.1)
+-- an item of listOfVariable
+unfoldable pub variable : Form Part VariableSpecification
+variable = under sequence (made variable_by (fields variable_parts))
+
+-- VariableAccessSpecification: listOfVariable, or variableListName
+unfoldable pub access : Form Part Access
+access =
+    choice (constructed 0) (made variables (each variable))
+    (under (constructed 1) (made (λ n. named_list) (one name)))
 
 -- whether of one of them only a part is asked for
 abbrev pub any_alternate : List VariableSpecification → Bool
@@ -92,19 +79,6 @@ counted_names count ns alternate =
 abbrev pub names_asked : Option ℕ → Access → Result (List Naming) Refusal
 names_asked count named_list = Err Unknown
 names_asked count (variables vs) = counted_names count (map (λ v. v.name) vs) (any_alternate vs)
-
--- the names of the variables that octets are
-abbrev pub listed_in : Option ℕ → List ℕ → Result (List Naming) Refusal
-listed_in count octets =
-    or_misspelled (each_in variable_as octets) >> λ vs. names_asked count (variables vs)
-
--- the names that a list of variables asks for, or the name of a list
-unfoldable pub names_as : Option ℕ → Part → Result (List Naming) Refusal
-names_as count part =
-    if same_tag part.tag (constructed 0) then listed_in count part.content
-    else (if same_tag part.tag (constructed 1)
-    then or_misspelled (name_in part.content) >> (λ n. names_asked count named_list)
-    else Err Bad)
 
 -- ---- data
 
@@ -143,77 +117,62 @@ datum_as (suc depth) part =
     >>= (λ ds. Some (mms.structure (data_before ds mms.no_data)))
     else simple_as part
 
+-- Data that are written, at most 10 deep.
+unfoldable pub written : Form Part Datum
+written = record {
+  reads = datum_as 10;
+  Spells = λ part d. IsDatum part d × (depth_of d ≤ 10);
+}
+
 -- ---- services
 
--- the one value inside a value under a tag
-abbrev pub inner_value : Tag → Part → Option Part
-inner_value tag part = under tag part >>= value_in
+-- objectScope: vmdSpecific, domainSpecific or aaSpecific
+unfoldable pub scope : Form Part Place
+scope =
+    choice (context 0) (made (λ x. whole_vmd) empty)
+    (choice (context 1) (made in_domain octets)
+    (under (context 2) (made (λ x. of_association) empty)))
 
--- the scope that a value is
-unfoldable pub place_as : Part → Option Place
-place_as part =
-    if same_tag part.tag (context 0) then nothing part.content whole_vmd
-    else (if same_tag part.tag (context 1) then Some (in_domain part.content)
-    else (if same_tag part.tag (context 2) then nothing part.content of_association
-    else None))
+-- objectClass, and objectScope, each under its tag
+unfoldable pub class_part : Form Part ℤ
+class_part = under (constructed 0) (one (under (context 0) integer))
 
--- a class of objects, the scope, and the name after which names are asked for
-unfoldable pub class_as : Part → Option ℤ
-class_as part = under (constructed 0) part >>= value_in >>= under (context 0) >>= integer_in
+unfoldable pub scope_part : Form Part Place
+scope_part = under (constructed 1) (one scope)
 
--- the scope of a listing, under its tag
-unfoldable pub scope_as : Part → Option Place
-scope_as part = under (constructed 1) part >>= value_in >>= place_as
+abbrev pub names_by : ℤ × (Place × (Option (List ℕ) × Unit {0})) → Asking
+names_by x = names x.0 x.1.0 x.1.1.0
 
--- the parts of GetNameList: the class, the scope, and behind which name
-abbrev pub names_of : List Part → Option Asking
-names_of (class ∷ scope ∷ []) = do
-  z ← class_as class
-  place ← scope_as scope
-  Some (names z place None)
-names_of (class ∷ scope ∷ after ∷ []) = do
-  z ← class_as class
-  place ← scope_as scope
-  name ← under (context 2) after
-  Some (names z place (Some name))
-names_of parts = None
+-- objectClass, objectScope, and continueAfter, which may be left out
+unfoldable pub listing_parts : Form (List Part) (ℤ × (Place × (Option (List ℕ) × Unit {0})))
+listing_parts = next class_part (next scope_part (maybe (context 2) octets done))
 
--- the GetNameList that octets are
-abbrev pub listing_in : List ℕ → Option Asking
-listing_in octets = few_in octets >>= names_of
+-- GetNameList-Request
+unfoldable pub listing : Form (List ℕ) Asking
+listing = made names_by (fields listing_parts)
 
--- GetVariableAccessAttributes by a name; by the name of a list it is not served
-unfoldable pub attributes_as : Part → Result Asking Refusal
-attributes_as part =
-    if same_tag part.tag (constructed 0)
-    then or_misspelled (name_in part.content) >> (λ n. Ok (attributes n))
-    else (if same_tag part.tag (constructed 1)
-    then or_misspelled (name_in part.content) >> (λ n. Err Unknown)
-    else Err Bad)
+-- GetVariableAccessAttributes-Request: by a name; by the name of a list it is not served
+unfoldable pub attributes_by : Form Part (Result Asking Refusal)
+attributes_by =
+    choice (constructed 0) (made (λ n. Ok (attributes n)) (one name))
+    (under (constructed 1) (made (λ n. Err Unknown) (one name)))
 
--- a read by its specification of access
-unfoldable pub read_as : Part → Result Asking Refusal
-read_as part =
-    or_misspelled (under (constructed 1) part >>= value_in) >> λ spec.
-    names_as None spec >> λ ns.
-    Ok (read ns)
+-- the variables that are read
+unfoldable pub reading : Access → Result Asking Refusal
+reading vs = names_asked None vs >> λ ns. Ok (read ns)
 
--- whether results are asked for with their specification, which is not looked at, and the variables
-abbrev pub read_of : Part → Option Part → Result Asking Refusal
-read_of spec None = read_as spec
-read_of flag (Some spec) = or_misspelled (under (context 0) flag) >> λ ignored. read_as spec
+-- Read-Request: specificationWithResult, which is not looked at and may be left out, and
+-- variableAccessSpecification
+unfoldable pub read_parts : Form (List Part) (Option (Unit {0}) × (Access × Unit {0}))
+read_parts = maybe (context 0) anything (next (under (constructed 1) (one access)) done)
 
--- the octets of the data that are written
-abbrev pub data_octets : Option Part → Option (List ℕ)
-data_octets list = list >>= under (constructed 0)
+-- the variables that are written, and as many data
+unfoldable pub writing : Access × (List Datum × Unit {0}) → Result Asking Refusal
+writing x = names_asked (Some (length x.1.0)) x.0 >> λ ns. Ok (write ns x.1.0)
 
--- the variables, and as many data, at most 10 deep
-abbrev pub write_of : Part → Option Part → Result Asking Refusal
-write_of spec list =
-    or_misspelled (data_octets list) >> λ octets.
-    or_misspelled (each_in (datum_as 10) octets) >> λ ds.
-    names_as (Some (length ds)) spec >> λ ns.
-    Ok (write ns ds)
+-- Write-Request: variableAccessSpecification and listOfData
+unfoldable pub write_parts : Form (List Part) (Access × (List Datum × Unit {0}))
+write_parts = next access (next (under (constructed 0) (each written)) done)
 
 -- the service's tag is context-specific, and its number is of no service that is listed
 abbrev pub is_unlisted : Tag → Bool
@@ -222,22 +181,19 @@ is_unlisted tag =
     && not ((tag.number == 1)
     || ((tag.number == 2) || ((tag.number == 4) || ((tag.number == 5) || (tag.number == 6)))))
 
--- a service that is not listed, and what is no service
-unfoldable pub other_as : Part → Result Asking Refusal
-other_as part = if is_unlisted part.tag then Err Unknown else Err Bad
+-- a service that is not listed is not served
+abbrev pub unlisted : Part → Option (Result Asking Refusal)
+unlisted part = if is_unlisted part.tag then Some (Err Unknown) else None
 
--- the service that a value is, by its tag
-unfoldable pub service_as : Part → Result Asking Refusal
-service_as part =
-    if same_tag part.tag (constructed 1) then or_misspelled (listing_in part.content)
-    else (if same_tag part.tag (context 2) then or_misspelled (nothing part.content identify)
-    else (if same_tag part.tag (constructed 4) then or_misspelled (one_or_two_in part.content)
-    >> (λ parts. read_of parts.0 parts.1)
-    else (if same_tag part.tag (constructed 5) then or_misspelled (one_or_two_in part.content)
-    >> (λ parts. write_of parts.0 parts.1)
-    else (if same_tag part.tag (constructed 6)
-    then or_misspelled (value_in part.content) >> attributes_as
-    else other_as part))))
+-- ConfirmedServiceRequest: getNameList, identify, read, write, getVariableAccessAttributes, and
+-- others
+unfoldable pub service_request : Form Part (Result Asking Refusal)
+service_request =
+    choice (constructed 1) (made (λ x. Ok x) listing)
+    (choice (context 2) (made (λ x. Ok identify) empty)
+    (choice (constructed 4) (made (λ x. reading x.1.0) (fields read_parts))
+    (choice (constructed 5) (made writing (fields write_parts))
+    (choice (constructed 6) (one attributes_by) (such unlisted whole)))))
 
 -- ---- the request
 
@@ -246,57 +202,45 @@ abbrev pub id_of : ℤ → Option ℕ
 id_of (pos n) = if nat_lt n 4294967296 then Some n else None
 id_of (negsuc n) = None
 
--- the invoke id that a value is
-unfoldable pub id_as : Part → Option ℕ
-id_as part = under int_tag part >>= integer_in >>= id_of
+-- invokeID
+unfoldable pub invoke_id : Form Part ℕ
+invoke_id = under int_tag (such id_of integer)
 
--- The fault of a refusal: the invoke id of the request, and the one that can be read in any case.
-abbrev pub fault_of : Option ℕ → ℕ → Refusal → MmsFault
-fault_of known id Bad = fault.BadPdu known
-fault_of known id Unknown = fault.UnknownService id
-fault_of known id Many = fault.TooMany id
-fault_of known id OutOfMemory = fault.OutOfMemory
+-- invokeID and ConfirmedServiceRequest
+unfoldable pub confirmed_parts : Form (List Part) (ℕ × (Result Asking Refusal × Unit {0}))
+confirmed_parts = next invoke_id (next service_request done)
 
--- the request of a service that was read, or its fault
-abbrev pub with_id : Option ℕ → ℕ → Result Asking Refusal → Result Message MmsFault
-with_id known id (Ok asking) = Ok (confirmed id asking)
-with_id known id (Err refusal) = Err (fault_of known id refusal)
+-- the request of a service under an invoke id, or why it is denied; a bad one is none
+abbrev pub under_id : ℕ → Result Asking Refusal → Option (Result Message Denial)
+under_id id (Ok asking) = Some (Ok (confirmed id asking))
+under_id id (Err Unknown) = Some (Err (unknown id))
+under_id id (Err Many) = Some (Err (many id))
+under_id id (Err refusal) = None
 
--- what is not there makes a bad PDU
-abbrev pub or_bad : {A : Type 0} → Option ℕ → Option A → Result A MmsFault
-or_bad known (Some x) = Ok x
-or_bad known None = Err (fault.BadPdu known)
+-- MMSpdu: confirmed-RequestPDU, initiate-RequestPDU or conclude-RequestPDU
+unfoldable pub pdu : Form Part (Result Message Denial)
+pdu =
+    choice (constructed 0) (such (λ x. under_id x.0 x.1.0) (fields confirmed_parts))
+    (choice (constructed 8) (made (λ p. Ok (initiate p)) proposal)
+    (under (context 11) (made (λ x. Ok conclude) empty)))
 
--- a confirmed request out of its invoke id and its service
-abbrev pub confirmed_of : Option ℕ → Part → Option Part → Result Message MmsFault
-confirmed_of known first second =
-    or_bad known second >> λ service.
-    or_bad known (id_as first) >> λ id.
-    with_id known id (service_as service)
-
--- the request that a value is, by its tag
-unfoldable pub message_as : Option ℕ → Part → Result Message MmsFault
-message_as known part =
-    if same_tag part.tag (constructed 0)
-    then or_bad known (one_or_two_in part.content)
-    >> (λ parts. confirmed_of known parts.0 parts.1)
-    else (if same_tag part.tag (constructed 8)
-    then or_bad known (proposal_in part.content) >> (λ p. Ok (initiate p))
-    else (if same_tag part.tag (context 11) then or_bad known (nothing part.content conclude)
-    else Err (fault.BadPdu known)))
-
--- the value at the front
-abbrev pub front_of : Result Reading BerFault → Option Part
-front_of (Ok r) = Some (part_in r)
-front_of (Err e) = None
+-- a request
+unfoldable pub request : Form (List ℕ) (Result Message Denial)
+request = one pdu
 
 -- the invoke id, where a value of a confirmed request stands at the front, and an id at the front
 -- of its content
-unfoldable pub id_in : List ℕ → Option ℕ
-id_in octets =
-    front_of (tlv_at octets) >>= under (constructed 0) >>= λ content. front_of (tlv_at content)
-    >>= id_as
+unfoldable pub front_id : Form (List ℕ) ℕ
+front_id = front (under (constructed 0) (front invoke_id))
+
+-- what is answered of a request that was read, or of none, with the invoke id that can be read in
+-- any case
+abbrev pub told : Option ℕ → Option (Result Message Denial) → Result Message MmsFault
+told known (Some (Ok message)) = Ok message
+told known (Some (Err (unknown id))) = Err (fault.UnknownService id)
+told known (Some (Err (many id))) = Err (fault.TooMany id)
+told known None = Err (fault.BadPdu known)
 
 -- the request that octets are, or why they are none
 unfoldable pub answer_to : List ℕ → Result Message MmsFault
-answer_to octets = or_bad (id_in octets) (value_in octets) >> message_as (id_in octets)
+answer_to octets = told (front_id.reads octets) (request.reads octets)

@@ -1,16 +1,15 @@
 -- MMS requests and answers (ISO 9506-2, with the profile of IEC 61850-8-1). Requests are plain
--- data; how they are spelled is said twice, and laws say that the two agree, so bytes ask at most
--- one request.
+-- data; how they are spelled is a form (`Forms` of bay_ber), of which what is read and what is
+-- spelled follow, and laws say that the two agree, so bytes ask at most one request.
 --
 -- `Requests`: what a client asks, which is an initiate, a conclude, or a service under an invoke
--- id. `Grammar` is the function: it works on the values that bytes are (`Values` of bay_ber), part
--- by part: a value's tag says what it is, and its content is read as values again. `Asks` is the
--- relation: a request, a service that is not served, too many variables, the invoke id in front, or
--- none of these. Its parts are `SpelledNames`, `SpelledData` and `SpelledServices`, and the initiate
--- is that of bay_initiate; `Spelled` has their common words.
+-- id. `Grammar` has the forms, one for each production of the standard: names, variables, services
+-- and the request; the initiate is that of bay_initiate. `SpelledData`: how data are spelled.
+-- `Asks`: the octets ask a request, a service that is not served, too many variables, or none of
+-- these, with the invoke id in front.
 --
--- `Answers` joins them: the request that some bytes ask, or their fault. Memory may run out only
--- for a read or a write that names a variable or has data.
+-- `Answers`: the request that some bytes ask, or their fault. Memory may run out only for a read or
+-- a write that names a variable or has data.
 --
 -- `Data`, `Types` and `Utc`: data and types of named variables as trees with their canonical texts,
 -- and the eight bytes of a time. `Nodes`: what stands below a row of the tree, as data and as a
@@ -25,6 +24,7 @@
 
 -- What public clauses cite of the crates below.
 pub use Rattle.bay_base.specs.Exact
+pub use Rattle.bay_ber.specs.Forms
 pub use Rattle.bay_ber.specs.Octets
 pub use Rattle.bay_ber.specs.Spelling
 pub use Rattle.bay_ber.specs.Values
@@ -46,10 +46,7 @@ pub mod Reports
 pub mod RequestViews
 pub mod Requests
 pub mod Responses
-pub mod Spelled
 pub mod SpelledData
-pub mod SpelledNames
-pub mod SpelledServices
 pub mod Types
 pub mod Utc
 pub mod Views

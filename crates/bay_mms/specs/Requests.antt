@@ -38,3 +38,9 @@ pub data Message : Type 0 where
   initiate : Proposal → Message
   conclude : Message
   confirmed : ℕ → Asking → Message
+
+-- why a request that is well spelled is denied, with its invoke id: it asks for what is not served,
+-- or names too many variables
+pub data Denial : Type 0 where
+  unknown : ℕ → Denial
+  many : ℕ → Denial

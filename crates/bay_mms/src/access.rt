@@ -2,15 +2,18 @@
 ghost use Rattle.std.specs.Prelude.{◌≡◌, false, [], ◌∷◌, ◌++◌, map, option_map, IsErrOf, OnOk};
 ghost use Rattle.bay_base.specs.Exact.{Gives};
 ghost use Rattle.bay_base.specs.Results.{IsRead};
+ghost use Rattle.bay_ber.specs.Forms.{answer, made, one, each};
 ghost use Rattle.bay_ber.specs.Values.{part_of};
 ghost use Rattle.bay_mms.specs.Answers.{names_none};
 ghost use Rattle.bay_mms.specs.Grammar as spec;
-ghost use Rattle.bay_mms.specs.RequestViews.{naming, variable};
+ghost use Rattle.bay_mms.specs.Grammar.{domain_parts, name, variable_by, variable_parts, variable, access, names_asked};
+ghost use Rattle.bay_mms.specs.Requests.{domain, variables};
+ghost use Rattle.bay_mms.specs.RequestViews.{naming, variable as view};
 
 use crate::fault::Refusal;
 use crate::request::ObjectName;
 use bay_ber::tag::Tag;
-use bay_ber::values::{Value, Values, one_or_two, whole_value};
+use bay_ber::values::{Value, Values, few_values, whole_value};
 use std::alloc::{AllocError, Global};
 
 // A request names at most so many variables.
@@ -24,25 +27,31 @@ pub struct VariableSpecification<'a> {
 }
 
 // The name of an item in a domain.
-fn domain_name<'a>(domain: Value<'a>, item: Option<Value<'a>>) -> Option<ObjectName<'a>>
+#[tactic(auto, unfolding(crate::specs::Grammar::domain_parts))]
+fn domain_name<'a>(parts: &[Value<'a>]) -> Option<ObjectName<'a>>
     ensures { option_map naming result
-        ≡ spec.domain_name (part_of domain.entry) (option_map part_of item.entry) }
+        ≡ option_map (λ x. domain x.0 x.1.0) (domain_parts.reads (map part_of parts.now)) }
 {
-    let domain = domain.under(Tag::universal(26))?;
-    let item = item?.under(Tag::universal(26))?;
-    Some(ObjectName::Domain { domain, item })
+    match parts {
+        [domain, item] => {
+            let domain = domain.under(Tag::universal(26))?;
+            let item = item.under(Tag::universal(26))?;
+            Some(ObjectName::Domain { domain, item })
+        }
+        _ => None,
+    }
 }
 
 // The name that a value is.
-#[tactic(auto, unfolding(crate::specs::Grammar::name_as))]
+#[tactic(auto, unfolding(crate::specs::Grammar::name))]
 fn name_as<'a>(value: &Value<'a>) -> Option<ObjectName<'a>>
-    ensures { option_map naming result ≡ spec.name_as (part_of value.now) }
+    ensures { option_map naming result ≡ name.reads (part_of value.now) }
 {
     if value.tag.is(Tag::context(0)) {
         Some(ObjectName::Vmd(value.content))
     } else if value.tag.is(Tag::context_constructed(1)) {
-        let (domain, item) = one_or_two(value.content)?;
-        domain_name(domain, item)
+        let parts = few_values(value.content)?;
+        domain_name(parts.as_slice())
     } else if value.tag.is(Tag::context(2)) {
         Some(ObjectName::Association(value.content))
     } else {
@@ -51,44 +60,38 @@ fn name_as<'a>(value: &Value<'a>) -> Option<ObjectName<'a>>
 }
 
 /// Reads octets as a name.
-#[tactic(auto, unfolding(crate::specs::Grammar::name_in))]
 pub(crate) fn name_in(octets: &[u8]) -> Option<ObjectName<'_>>
-    ensures { option_map naming result ≡ spec.name_in octets.now }
+    ensures { option_map naming result ≡ (one name).reads octets.now }
 {
     let value = whole_value(octets)?;
     name_as(&value)
 }
 
-// Whether a part of a variable is asked for.
-fn is_partial(access: Option<Value<'_>>) -> Option<bool>
-    ensures { result ≡ spec.is_partial (option_map part_of access.entry) }
-{
-    match access {
-        Some(access) => {
-            access.under(Tag::context_constructed(5))?;
-            Some(true)
-        }
-        None => Some(false),
-    }
-}
-
 // The variable of a name, and of what may follow it.
-fn variable_of<'a>(name: Value<'a>, access: Option<Value<'a>>) -> Option<VariableSpecification<'a>>
-    ensures { option_map variable result
-        ≡ spec.variable_of (part_of name.entry) (option_map part_of access.entry) }
+#[tactic(auto, unfolding(crate::specs::Grammar::variable_parts))]
+fn variable_of<'a>(parts: &[Value<'a>]) -> Option<VariableSpecification<'a>>
+    ensures { option_map view result
+        ≡ option_map variable_by (variable_parts.reads (map part_of parts.now)) }
 {
-    let is_alternate = is_partial(access)?;
+    let (name, is_alternate) = match parts {
+        [name] => (name, false),
+        [name, access] => {
+            access.under(Tag::context_constructed(5))?;
+            (name, true)
+        }
+        _ => return None,
+    };
     let name = name_in(name.under(Tag::context_constructed(0))?)?;
     Some(VariableSpecification { name, is_alternate })
 }
 
 // The variable of a list that a value is.
-#[tactic(auto, unfolding(crate::specs::Grammar::variable_as))]
+#[tactic(auto, unfolding(crate::specs::Grammar::variable))]
 fn variable_as<'a>(value: &Value<'a>) -> Option<VariableSpecification<'a>>
-    ensures { option_map variable result ≡ spec.variable_as (part_of value.now) }
+    ensures { option_map view result ≡ variable.reads (part_of value.now) }
 {
-    let (name, access) = one_or_two(value.under(Tag::sequence())?)?;
-    variable_of(name, access)
+    let parts = few_values(value.under(Tag::sequence())?)?;
+    variable_of(parts.as_slice())
 }
 
 // Keeps one name more, with room for as many as are served.
@@ -142,9 +145,11 @@ fn listed<'a>(
     octets: &'a [u8],
 ) -> Result<Vec<ObjectName<'a>>, Refusal>
     ensures asked { Gives Refusal.OutOfMemory (λ v. map naming v.items) result
-        (spec.listed_in count octets.now) }
+        (answer Refusal.Bad (made (λ vs. names_asked count (variables vs)) (each variable))
+        octets.now) }
     ensures memory { IsErrOf result Refusal.OutOfMemory
-        → names_none (spec.listed_in count octets.now) ≡ false }
+        → names_none (answer Refusal.Bad
+        (made (λ vs. names_asked count (variables vs)) (each variable)) octets.now) ≡ false }
 {
     let mut names = Vec::new(alloc);
     let mut is_alternate = false;
@@ -166,16 +171,17 @@ fn listed<'a>(
 
 /// Reads the names of the variables that a value asks for. There must be `count` of them if `count`
 /// is given. Does not allocate for no variables.
-#[tactic(auto, unfolding(crate::specs::Grammar::names_as))]
+#[tactic(auto, unfolding(crate::specs::Grammar::access))]
 pub(crate) fn names_as<'a>(
     alloc: Global,
     count: Option<usize>,
     value: &Value<'a>,
 ) -> Result<Vec<ObjectName<'a>>, Refusal>
     ensures asked { Gives Refusal.OutOfMemory (λ v. map naming v.items) result
-        (spec.names_as count (part_of value.now)) }
+        (answer Refusal.Bad (made (names_asked count) access) (part_of value.now)) }
     ensures memory { IsErrOf result Refusal.OutOfMemory
-        → names_none (spec.names_as count (part_of value.now)) ≡ false }
+        → names_none (answer Refusal.Bad (made (names_asked count) access) (part_of value.now))
+        ≡ false }
 {
     if value.tag.is(Tag::context_constructed(0)) {
         listed(alloc, count, value.content)

@@ -1,8 +1,8 @@
 // Data that is received (ISO 9506-2, Data).
 ghost use Rattle.std.specs.Prelude.{◌≡◌, ◌<◌, [], option_map, length, Some, None, IfSome, IfNone, IsErrOf};
 ghost use Rattle.bay_base.specs.Exact.{Gives};
+ghost use Rattle.bay_ber.specs.Judged.{or_fault};
 ghost use Rattle.bay_ber.specs.Values.{part_of, each_in};
-ghost use Rattle.bay_mms.specs.Spelled.{or_misspelled};
 ghost use Rattle.bay_mms.specs.Views.{datum_of, data_in};
 ghost use Rattle.bay_mms.specs.Grammar.{datum_as};
 ghost use Rattle.bay_mms.specs.Grammar as spec;
@@ -80,7 +80,7 @@ fn simple_as<'a>(value: &Value<'a>) -> Option<Data<'a>>
 #[cycle(received)]
 fn read_datum<'a>(alloc: Global, value: &Value<'a>, depth: u8) -> Result<Data<'a>, Refusal>
     ensures { Gives Refusal.OutOfMemory datum_of result
-        (or_misspelled (datum_as depth (part_of value.now))) }
+        (or_fault Refusal.Bad (datum_as depth (part_of value.now))) }
 {
     if depth == 0 {
         return Err(Refusal::Bad);
@@ -101,7 +101,7 @@ pub(crate) fn read_data<'a>(
     depth: u8,
 ) -> Result<Vec<Data<'a>>, Refusal>
     ensures asked { Gives Refusal.OutOfMemory (λ v. data_in v.items) result
-        (or_misspelled (each_in (datum_as depth) octets.now)) }
+        (or_fault Refusal.Bad (each_in (datum_as depth) octets.now)) }
     ensures memory { IsErrOf result Refusal.OutOfMemory
         → each_in (datum_as depth) octets.now ≡ Some [] → ⊥ }
 {

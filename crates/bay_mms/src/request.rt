@@ -1,13 +1,14 @@
 // Requests of clients.
-ghost use Rattle.std.specs.Prelude.{◌≡◌, IsTrue, IsErrOf, option_map};
+ghost use Rattle.std.specs.Prelude.{◌≡◌, IsSome, IsErrOf, map, option_map};
 ghost use Rattle.bay_base.specs.Exact.{Gives};
+ghost use Rattle.bay_ber.specs.Forms.{such, one};
+ghost use Rattle.bay_ber.specs.Forms as forms;
 ghost use Rattle.bay_ber.specs.Reading.{tlv_at};
-ghost use Rattle.bay_ber.specs.Values.{part_of, value_in};
-ghost use Rattle.bay_mms.specs.Answers.{IsAnswer, takes_list, lists_of, lists_as, lists_at};
-ghost use Rattle.bay_mms.specs.Requests as asked;
-ghost use Rattle.bay_mms.specs.Grammar.{or_bad, nothing};
+ghost use Rattle.bay_ber.specs.Values.{part_of};
+ghost use Rattle.bay_mms.specs.Answers.{IsAnswer, list_of, list_parts, list_pdu};
+ghost use Rattle.bay_mms.specs.Grammar.{service_request, invoke_id, confirmed_parts, under_id, pdu, front_id, told};
 ghost use Rattle.bay_mms.specs.Grammar as spec;
-ghost use Rattle.bay_mms.specs.RequestViews.{asking, message};
+ghost use Rattle.bay_mms.specs.RequestViews.{message};
 
 use crate::data::Data;
 use crate::fault::{MmsFault, Refusal};
@@ -15,7 +16,7 @@ use crate::service::service_as;
 use bay_ber::content::int_of;
 use bay_ber::tag::Tag;
 use bay_ber::tlv::read_tlv;
-use bay_ber::values::{Value, few_values, one_or_two, whole_value};
+use bay_ber::values::{Value, few_values, whole_value};
 use bay_initiate::initiate::{Proposal, proposal_in};
 use std::alloc::Global;
 
@@ -79,9 +80,9 @@ fn id_of(number: i64) -> Option<u32>
 }
 
 // The invoke id that a value is.
-#[tactic(auto, unfolding(crate::specs::Grammar::id_as))]
+#[tactic(auto, unfolding(crate::specs::Grammar::invoke_id))]
 fn id_as(value: &Value<'_>) -> Option<u32>
-    ensures { result ≡ spec.id_as (part_of value.now) }
+    ensures { result ≡ invoke_id.reads (part_of value.now) }
 {
     let number = int_of(value.under(Tag::universal(2))?).ok()?;
     id_of(number)
@@ -89,7 +90,7 @@ fn id_as(value: &Value<'_>) -> Option<u32>
 
 // The value at the front of octets.
 fn front_of(octets: &[u8]) -> Option<Value<'_>>
-    ensures { option_map part_of result ≡ spec.front_of (tlv_at octets.now) }
+    ensures { option_map part_of result ≡ forms.front_of (tlv_at octets.now) }
 {
     let tlv = read_tlv(octets).ok()?;
     Some(Value {
@@ -99,9 +100,9 @@ fn front_of(octets: &[u8]) -> Option<Value<'_>>
 }
 
 // The invoke id at the front of octets, where one can be read.
-#[tactic(auto, unfolding(crate::specs::Grammar::id_in))]
+#[tactic(auto, unfolding(crate::specs::Grammar::front_id))]
 fn id_in(octets: &[u8]) -> Option<u32>
-    ensures { result ≡ spec.id_in octets.now }
+    ensures { result ≡ front_id.reads octets.now }
 {
     let pdu = front_of(octets)?;
     let id = front_of(pdu.under(Tag::context_constructed(0))?)?;
@@ -110,21 +111,9 @@ fn id_in(octets: &[u8]) -> Option<u32>
 
 // The fault of octets that are no request.
 fn bad_pdu(octets: &[u8]) -> MmsFault
-    ensures { result ≡ MmsFault.BadPdu (spec.id_in octets.now) }
+    ensures { result ≡ MmsFault.BadPdu (front_id.reads octets.now) }
 {
     MmsFault::BadPdu(id_in(octets))
-}
-
-// Why a request is refused, with the invoke id that the answer is to have.
-fn fault_of(octets: &[u8], id: u32, refusal: Refusal) -> MmsFault
-    ensures { result ≡ spec.fault_of (spec.id_in octets.now) id refusal }
-{
-    match refusal {
-        Refusal::Bad => bad_pdu(octets),
-        Refusal::Unknown => MmsFault::UnknownService(id),
-        Refusal::Many => MmsFault::TooMany(id),
-        Refusal::OutOfMemory => MmsFault::OutOfMemory,
-    }
 }
 
 // The request for a service under an invoke id.
@@ -134,78 +123,72 @@ fn with_id<'a>(
     id: u32,
     service: &Value<'a>,
 ) -> Result<Request<'a>, MmsFault>
-    ensures asked { Gives MmsFault.OutOfMemory message result
-        (spec.with_id (spec.id_in octets.now) id (spec.service_as (part_of service.now))) }
-    ensures memory { IsErrOf result MmsFault.OutOfMemory
-        → IsTrue (takes_list (part_of service.now)) }
+    ensures asked { Gives MmsFault.OutOfMemory message result (told (front_id.reads octets.now)
+        ((such (under_id id) service_request).reads (part_of service.now))) }
+    ensures memory { IsErrOf result MmsFault.OutOfMemory → IsSome (list_of (part_of service.now)) }
 {
     match service_as(alloc, service) {
         Ok(call) => Ok(Request::Confirmed { id, call }),
-        Err(refusal) => Err(fault_of(octets, id, refusal)),
+        Err(Refusal::Bad) => Err(bad_pdu(octets)),
+        Err(Refusal::Unknown) => Err(MmsFault::UnknownService(id)),
+        Err(Refusal::Many) => Err(MmsFault::TooMany(id)),
+        Err(Refusal::OutOfMemory) => Err(MmsFault::OutOfMemory),
     }
 }
 
 // A request with an invoke id.
+#[tactic(auto, unfolding(crate::specs::Grammar::confirmed_parts, crate::specs::Answers::list_parts))]
 fn confirmed_of<'a>(
     alloc: Global,
     octets: &[u8],
-    id: &Value<'a>,
-    service: Option<Value<'a>>,
+    parts: &[Value<'a>],
 ) -> Result<Request<'a>, MmsFault>
-    ensures asked { Gives MmsFault.OutOfMemory message result
-        (spec.confirmed_of (spec.id_in octets.now) (part_of id.now)
-        (option_map part_of service.entry)) }
+    ensures asked { Gives MmsFault.OutOfMemory message result (told (front_id.reads octets.now)
+        ((such (λ x. under_id x.0 x.1.0) confirmed_parts).reads (map part_of parts.now))) }
     ensures memory { IsErrOf result MmsFault.OutOfMemory
-        → IsTrue (lists_of (option_map part_of service.entry)) }
+        → IsSome (list_parts.reads (map part_of parts.now)) }
 {
-    let service = service.ok_or_else(|| bad_pdu(octets))?;
-    let id = id_as(id).ok_or_else(|| bad_pdu(octets))?;
-    with_id(alloc, octets, id, &service)
+    match parts {
+        [id, service] => {
+            let id = id_as(id).ok_or_else(|| bad_pdu(octets))?;
+            with_id(alloc, octets, id, service)
+        }
+        _ => Err(bad_pdu(octets)),
+    }
 }
 
-// A conclude, which has no content.
-fn conclude<'a>(octets: &[u8], content: &'a [u8]) -> Result<Request<'a>, MmsFault>
+// The request that a PDU is, by its tag: confirmed, initiate or conclude.
+#[tactic(auto, unfolding(crate::specs::Grammar::pdu, crate::specs::Answers::list_pdu))]
+fn pdu_as<'a>(alloc: Global, octets: &[u8], value: &Value<'a>) -> Result<Request<'a>, MmsFault>
     ensures asked { Gives MmsFault.OutOfMemory message result
-        (or_bad (spec.id_in octets.now) (nothing content.now asked.conclude)) }
-    ensures memory { IsErrOf result MmsFault.OutOfMemory → ⊥ }
+        (told (front_id.reads octets.now) (pdu.reads (part_of value.now))) }
+    ensures memory { IsErrOf result MmsFault.OutOfMemory
+        → IsSome (list_pdu.reads (part_of value.now)) }
 {
-    if content.is_empty() {
+    if value.tag.is(Tag::context_constructed(0)) {
+        let parts = few_values(value.content).ok_or_else(|| bad_pdu(octets))?;
+        confirmed_of(alloc, octets, parts.as_slice())
+    } else if value.tag.is(Tag::context_constructed(8)) {
+        match proposal_in(value.content) {
+            Some(proposal) => Ok(Request::Initiate(proposal)),
+            None => Err(bad_pdu(octets)),
+        }
+    } else if value.tag.is(Tag::context(11)) && value.content.is_empty() {
         Ok(Request::Conclude)
     } else {
         Err(bad_pdu(octets))
     }
 }
 
-// The request that a PDU is, by its tag: confirmed, initiate or conclude.
-#[tactic(auto, unfolding(crate::specs::Grammar::message_as))]
-fn message_as<'a>(alloc: Global, octets: &[u8], value: &Value<'a>) -> Result<Request<'a>, MmsFault>
-    ensures asked { Gives MmsFault.OutOfMemory message result
-        (spec.message_as (spec.id_in octets.now) (part_of value.now)) }
-    ensures memory { IsErrOf result MmsFault.OutOfMemory → IsTrue (lists_as (part_of value.now)) }
-{
-    if value.tag.is(Tag::context_constructed(0)) {
-        let (id, service) = one_or_two(value.content).ok_or_else(|| bad_pdu(octets))?;
-        confirmed_of(alloc, octets, &id, service)
-    } else if value.tag.is(Tag::context_constructed(8)) {
-        match proposal_in(value.content) {
-            Some(proposal) => Ok(Request::Initiate(proposal)),
-            None => Err(bad_pdu(octets)),
-        }
-    } else if value.tag.is(Tag::context(11)) {
-        conclude(octets, value.content)
-    } else {
-        Err(bad_pdu(octets))
-    }
-}
-
 // The request that octets are, as it is read.
-#[tactic(auto, unfolding(crate::specs::Grammar::answer_to))]
+#[tactic(auto, unfolding(crate::specs::Grammar::request, crate::specs::Grammar::answer_to))]
 fn answer_to<'a>(alloc: Global, octets: &'a [u8]) -> Result<Request<'a>, MmsFault>
     ensures asked { Gives MmsFault.OutOfMemory message result (spec.answer_to octets.now) }
-    ensures memory { IsErrOf result MmsFault.OutOfMemory → IsTrue (lists_at (value_in octets.now)) }
+    ensures memory { IsErrOf result MmsFault.OutOfMemory
+        → IsSome ((one list_pdu).reads octets.now) }
 {
     let value = whole_value(octets).ok_or_else(|| bad_pdu(octets))?;
-    message_as(alloc, octets, &value)
+    pdu_as(alloc, octets, &value)
 }
 
 /// Reads octets as a request (ISO 9506-2, in the profile of IEC 61850-8-1). Its names, texts and

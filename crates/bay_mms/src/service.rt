@@ -1,10 +1,12 @@
 // The services that are asked for (ISO 9506-2, ConfirmedServiceRequest).
-ghost use Rattle.std.specs.Prelude.{◌≡◌, false, IsTrue, IsErrOf, map, option_map};
+ghost use Rattle.std.specs.Prelude.{◌≡◌, false, [], ◌∷◌, IsSome, IsErrOf, map, option_map};
 ghost use Rattle.bay_base.specs.Exact.{Gives};
+ghost use Rattle.bay_ber.specs.Forms.{answer, made, such, empty, one, whole, under};
+ghost use Rattle.bay_ber.specs.Tags.{constructed};
 ghost use Rattle.bay_ber.specs.Values.{part_of};
-ghost use Rattle.bay_mms.specs.Answers.{is_empty, takes_list};
+ghost use Rattle.bay_mms.specs.Answers.{is_empty, list_of};
 ghost use Rattle.bay_mms.specs.Requests as asked;
-ghost use Rattle.bay_mms.specs.Grammar.{nothing, listing_in};
+ghost use Rattle.bay_mms.specs.Grammar.{access, scope, class_part, scope_part, names_by, listing_parts, attributes_by, reading, read_parts, writing, write_parts, service_request};
 ghost use Rattle.bay_mms.specs.Grammar as spec;
 ghost use Rattle.bay_mms.specs.RequestViews.{place, asking};
 
@@ -13,7 +15,7 @@ use crate::fault::Refusal;
 use crate::received::read_data;
 use crate::request::{Call, Scope};
 use bay_ber::tag::{Class, Tag};
-use bay_ber::values::{Value, few_values, one_or_two, whole_value};
+use bay_ber::values::{Value, few_values, whole_value};
 use std::alloc::Global;
 
 // Data nests at most so deep.
@@ -21,15 +23,15 @@ const DEPTH_MAX: u8 = 10;
 
 // The one value inside a value of this tag.
 fn inner_value<'a>(tag: Tag, value: &Value<'a>) -> Option<Value<'a>>
-    ensures { option_map part_of result ≡ spec.inner_value tag (part_of value.now) }
+    ensures { option_map part_of result ≡ (under tag (one whole)).reads (part_of value.now) }
 {
     whole_value(value.under(tag)?)
 }
 
 // Where names are asked for, by its tag: of the device (VMD), of a domain, or of the association.
-#[tactic(auto, unfolding(crate::specs::Grammar::place_as))]
-fn place_as<'a>(value: &Value<'a>) -> Option<Scope<'a>>
-    ensures { option_map place result ≡ spec.place_as (part_of value.now) }
+#[tactic(auto, unfolding(crate::specs::Grammar::scope))]
+fn scope_as<'a>(value: &Value<'a>) -> Option<Scope<'a>>
+    ensures { option_map place result ≡ scope.reads (part_of value.now) }
 {
     if value.tag.is(Tag::context(0)) {
         if value.content.is_empty() {
@@ -51,34 +53,36 @@ fn place_as<'a>(value: &Value<'a>) -> Option<Scope<'a>>
 }
 
 // The number of the class of objects whose names are asked for.
-#[tactic(auto, unfolding(crate::specs::Grammar::class_as, bay_ber::specs::Values::integer_under))]
-fn class_as(value: &Value<'_>) -> Option<i64>
-    ensures { result ≡ spec.class_as (part_of value.now) }
+#[tactic(auto, unfolding(crate::specs::Grammar::class_part, bay_ber::specs::Values::integer_under))]
+fn class_of(value: &Value<'_>) -> Option<i64>
+    ensures { result ≡ class_part.reads (part_of value.now) }
 {
     let class = inner_value(Tag::context_constructed(0), value)?;
     class.integer_under(Tag::context(0))
 }
 
 // Where names are asked for, under its tag.
-#[tactic(auto, unfolding(crate::specs::Grammar::scope_as))]
-fn scope_as<'a>(value: &Value<'a>) -> Option<Scope<'a>>
-    ensures { option_map place result ≡ spec.scope_as (part_of value.now) }
+#[tactic(auto, unfolding(crate::specs::Grammar::scope_part))]
+fn scope_of<'a>(value: &Value<'a>) -> Option<Scope<'a>>
+    ensures { option_map place result ≡ scope_part.reads (part_of value.now) }
 {
     let scope = inner_value(Tag::context_constructed(1), value)?;
-    place_as(&scope)
+    scope_as(&scope)
 }
 
 // The names that are asked for (ISO 9506-2, GetNameList).
+#[tactic(auto, unfolding(crate::specs::Grammar::listing_parts))]
 fn names_of<'a>(parts: &[Value<'a>]) -> Option<Call<'a>>
-    ensures { option_map asking result ≡ spec.names_of (map part_of parts.now) }
+    ensures { option_map asking result
+        ≡ option_map names_by (listing_parts.reads (map part_of parts.now)) }
 {
     let (class, scope, after) = match parts {
         [class, scope] => (class, scope, None),
         [class, scope, after] => (class, scope, Some(after.under(Tag::context(2))?)),
         _ => return None,
     };
-    let class = class_as(class)?;
-    let scope = scope_as(scope)?;
+    let class = class_of(class)?;
+    let scope = scope_of(scope)?;
     Some(Call::Names {
         class,
         scope,
@@ -87,10 +91,10 @@ fn names_of<'a>(parts: &[Value<'a>]) -> Option<Call<'a>>
 }
 
 // The variable whose type is asked for (ISO 9506-2, GetVariableAccessAttributes).
-#[tactic(auto, unfolding(crate::specs::Grammar::attributes_as))]
+#[tactic(auto, unfolding(crate::specs::Grammar::attributes_by))]
 fn attributes_as<'a>(value: &Value<'a>) -> Result<Call<'a>, Refusal>
     ensures asked { Gives Refusal.OutOfMemory asking result
-        (spec.attributes_as (part_of value.now)) }
+        (answer Refusal.Bad attributes_by (part_of value.now)) }
     ensures memory { IsErrOf result Refusal.OutOfMemory → ⊥ }
 {
     match name_in(value.content) {
@@ -101,11 +105,14 @@ fn attributes_as<'a>(value: &Value<'a>) -> Result<Call<'a>, Refusal>
 }
 
 // The variables that are read, by the specification of their access.
-#[tactic(auto, unfolding(crate::specs::Grammar::read_as))]
+#[tactic(auto, unfolding(crate::specs::Grammar::reading))]
 fn read_as<'a>(alloc: Global, value: &Value<'a>) -> Result<Call<'a>, Refusal>
-    ensures asked { Gives Refusal.OutOfMemory asking result (spec.read_as (part_of value.now)) }
+    ensures asked { Gives Refusal.OutOfMemory asking result
+        (answer Refusal.Bad (made reading (under (constructed 1) (one access)))
+        (part_of value.now)) }
     ensures memory { IsErrOf result Refusal.OutOfMemory
-        → is_empty (spec.read_as (part_of value.now)) ≡ false }
+        → is_empty (answer Refusal.Bad (made reading (under (constructed 1) (one access)))
+        (part_of value.now)) ≡ false }
 {
     let spec = inner_value(Tag::context_constructed(1), value).ok_or(Refusal::Bad)?;
     let names = names_as(alloc, None, &spec)?;
@@ -113,52 +120,48 @@ fn read_as<'a>(alloc: Global, value: &Value<'a>) -> Result<Call<'a>, Refusal>
 }
 
 // The variables that are read.
-fn read_of<'a>(
-    alloc: Global,
-    first: Value<'a>,
-    second: Option<Value<'a>>,
-) -> Result<Call<'a>, Refusal>
+#[tactic(auto, unfolding(crate::specs::Grammar::read_parts))]
+fn read_of<'a>(alloc: Global, parts: &[Value<'a>]) -> Result<Call<'a>, Refusal>
     ensures asked { Gives Refusal.OutOfMemory asking result
-        (spec.read_of (part_of first.entry) (option_map part_of second.entry)) }
+        (answer Refusal.Bad (made (λ x. reading x.1.0) read_parts) (map part_of parts.now)) }
     ensures memory { IsErrOf result Refusal.OutOfMemory
-        → is_empty (spec.read_of (part_of first.entry) (option_map part_of second.entry)) ≡ false }
+        → is_empty (answer Refusal.Bad (made (λ x. reading x.1.0) read_parts)
+        (map part_of parts.now)) ≡ false }
 {
-    match second {
-        None => read_as(alloc, &first),
-        Some(spec) => {
-            if first.tag.is(Tag::context(0)) {
-                read_as(alloc, &spec)
-            } else {
-                Err(Refusal::Bad)
-            }
-        }
+    match parts {
+        [spec] => read_as(alloc, spec),
+        [flag, spec] if flag.tag.is(Tag::context(0)) => read_as(alloc, spec),
+        _ => Err(Refusal::Bad),
     }
 }
 
-// The data that are written.
-fn data_of<'a>(list: Option<Value<'a>>) -> Option<&'a [u8]>
-    ensures { option_map (λ octets. octets.now) result
-        ≡ spec.data_octets (option_map part_of list.entry) }
+// The variables that are written, and as many data.
+#[tactic(auto, unfolding(crate::specs::Grammar::write_parts, crate::specs::Grammar::writing, crate::specs::Grammar::written))]
+fn write_as<'a>(alloc: Global, spec: &Value<'a>, list: &Value<'a>) -> Result<Call<'a>, Refusal>
+    ensures asked { Gives Refusal.OutOfMemory asking result (answer Refusal.Bad
+        (made writing write_parts) (part_of spec.now ∷ part_of list.now ∷ [])) }
+    ensures memory { IsErrOf result Refusal.OutOfMemory → is_empty (answer Refusal.Bad
+        (made writing write_parts) (part_of spec.now ∷ part_of list.now ∷ [])) ≡ false }
 {
-    list?.under(Tag::context_constructed(0))
+    let octets = list.under(Tag::context_constructed(0)).ok_or(Refusal::Bad)?;
+    let values = read_data(alloc, octets, DEPTH_MAX)?;
+    let names = names_as(alloc, Some(values.len()), spec)?;
+    Ok(Call::Write { names, values })
 }
 
-// The variables that are written, and as many data.
-fn write_of<'a>(
-    alloc: Global,
-    variables: Value<'a>,
-    list: Option<Value<'a>>,
-) -> Result<Call<'a>, Refusal>
+// The same of the parts of a write.
+#[tactic(auto, unfolding(crate::specs::Grammar::write_parts))]
+fn write_of<'a>(alloc: Global, parts: &[Value<'a>]) -> Result<Call<'a>, Refusal>
     ensures asked { Gives Refusal.OutOfMemory asking result
-        (spec.write_of (part_of variables.entry) (option_map part_of list.entry)) }
+        (answer Refusal.Bad (made writing write_parts) (map part_of parts.now)) }
     ensures memory { IsErrOf result Refusal.OutOfMemory
-        → is_empty (spec.write_of (part_of variables.entry) (option_map part_of list.entry))
+        → is_empty (answer Refusal.Bad (made writing write_parts) (map part_of parts.now))
         ≡ false }
 {
-    let octets = data_of(list).ok_or(Refusal::Bad)?;
-    let values = read_data(alloc, octets, DEPTH_MAX)?;
-    let names = names_as(alloc, Some(values.len()), &variables)?;
-    Ok(Call::Write { names, values })
+    match parts {
+        [spec, list] => write_as(alloc, spec, list),
+        _ => Err(Refusal::Bad),
+    }
 }
 
 // Whether this is the tag of another service than those that are read here.
@@ -172,9 +175,9 @@ fn is_unlisted(tag: Tag) -> bool
 }
 
 // A service that is not offered is unknown; anything else is no service.
-#[tactic(auto, unfolding(crate::specs::Grammar::other_as))]
 fn other_as<'a>(value: &Value<'a>) -> Result<Call<'a>, Refusal>
-    ensures asked { Gives Refusal.OutOfMemory asking result (spec.other_as (part_of value.now)) }
+    ensures asked { Gives Refusal.OutOfMemory asking result
+        (answer Refusal.Bad (such spec.unlisted whole) (part_of value.now)) }
     ensures memory { IsErrOf result Refusal.OutOfMemory → ⊥ }
 {
     if is_unlisted(value.tag) {
@@ -186,7 +189,7 @@ fn other_as<'a>(value: &Value<'a>) -> Result<Call<'a>, Refusal>
 
 // An identify, which has no content.
 fn identify(content: &[u8]) -> Option<Call<'_>>
-    ensures { option_map asking result ≡ nothing content.now asked.identify }
+    ensures { option_map asking result ≡ (made (λ x. asked.identify) empty).reads content.now }
 {
     if content.is_empty() {
         Some(Call::Identify)
@@ -196,8 +199,9 @@ fn identify(content: &[u8]) -> Option<Call<'_>>
 }
 
 // A request for names by its content.
+#[tactic(auto, unfolding(crate::specs::Grammar::listing))]
 fn listing(content: &[u8]) -> Option<Call<'_>>
-    ensures { option_map asking result ≡ listing_in content.now }
+    ensures { option_map asking result ≡ spec.listing.reads content.now }
 {
     let parts = few_values(content)?;
     names_of(parts.as_slice())
@@ -205,21 +209,22 @@ fn listing(content: &[u8]) -> Option<Call<'_>>
 
 /// Reads the service that a value asks for. Allocates only for a read or a write, and not for one
 /// of no variables.
-#[tactic(auto, unfolding(crate::specs::Grammar::service_as))]
+#[tactic(auto, unfolding(crate::specs::Grammar::service_request))]
 pub(crate) fn service_as<'a>(alloc: Global, value: &Value<'a>) -> Result<Call<'a>, Refusal>
-    ensures asked { Gives Refusal.OutOfMemory asking result (spec.service_as (part_of value.now)) }
-    ensures memory { IsErrOf result Refusal.OutOfMemory → IsTrue (takes_list (part_of value.now)) }
+    ensures asked { Gives Refusal.OutOfMemory asking result
+        (answer Refusal.Bad service_request (part_of value.now)) }
+    ensures memory { IsErrOf result Refusal.OutOfMemory → IsSome (list_of (part_of value.now)) }
 {
     if value.tag.is(Tag::context_constructed(1)) {
         listing(value.content).ok_or(Refusal::Bad)
     } else if value.tag.is(Tag::context(2)) {
         identify(value.content).ok_or(Refusal::Bad)
     } else if value.tag.is(Tag::context_constructed(4)) {
-        let (first, second) = one_or_two(value.content).ok_or(Refusal::Bad)?;
-        read_of(alloc, first, second)
+        let parts = few_values(value.content).ok_or(Refusal::Bad)?;
+        read_of(alloc, parts.as_slice())
     } else if value.tag.is(Tag::context_constructed(5)) {
-        let (variables, list) = one_or_two(value.content).ok_or(Refusal::Bad)?;
-        write_of(alloc, variables, list)
+        let parts = few_values(value.content).ok_or(Refusal::Bad)?;
+        write_of(alloc, parts.as_slice())
     } else if value.tag.is(Tag::context_constructed(6)) {
         let spec = whole_value(value.content).ok_or(Refusal::Bad)?;
         attributes_as(&spec)

@@ -1,0 +1,46 @@
+-- What each part of a request is read as is what spells it.
+use Rattle.bay_ber.proofs.FormLemmas.{ExactIn, ExactAs, exacts, front-exact}
+use Rattle.bay_initiate.proofs.InitiateLemmas.{proposal-exact}
+use Rattle.bay_mms.specs.Grammar.{domain_parts, name, variable_parts, variable, access, written, scope, class_part, scope_part, listing_parts, listing, attributes_by, read_parts, write_parts, service_request, invoke_id, confirmed_parts, pdu, request, front_id}
+use Rattle.bay_mms.specs.Answers.{list_parts, list_pdu}
+use Rattle.bay_ber.specs.Forms.{one}
+use Rattle.bay_mms.proofs.ReceivedLemmas.{datum-read, datum-back}
+
+name-exact : ExactAs name
+unfolding name domain_parts
+name-exact = search exacts depth 20
+
+access-exact : ExactAs access
+unfolding access variable variable_parts
+access-exact = search (exacts, name-exact) depth 20
+
+listing-exact : ExactIn listing
+unfolding listing listing_parts class_part scope_part scope
+listing-exact = search exacts depth 20
+
+written-exact : ExactAs written
+unfolding written
+written-exact = record {
+  read = λ part d is. datum-read d part 10 is.0 is.1;
+  back = λ part d b is. datum-back 10 part d b is;
+}
+
+service-exact : ExactAs service_request
+unfolding service_request attributes_by read_parts write_parts
+service-exact = search (exacts, name-exact, access-exact, listing-exact, written-exact) depth 20
+
+id-exact : ExactAs invoke_id
+unfolding invoke_id
+id-exact = search exacts depth 20
+
+pub request-exact : ExactIn request
+unfolding request pdu confirmed_parts
+request-exact = search (exacts, id-exact, service-exact, proposal-exact) depth 20
+
+pub front_id-exact : ExactIn front_id
+unfolding front_id
+front_id-exact = search (exacts, id-exact, front-exact) depth 20
+
+pub list_pdu-exact : ExactIn (one list_pdu)
+unfolding list_pdu list_parts
+list_pdu-exact = search exacts depth 20
