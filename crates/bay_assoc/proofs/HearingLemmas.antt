@@ -1,9 +1,8 @@
 -- What is heard of a TSDU, or why it is refused, is what is spelled or refused so.
 use Rattle.std.proofs.Common.{◌≡◌, ℕ, Bool, true, false, cond, List, Option, Some, None, Result, Ok, Err, sym, ap, subst, ◌∙◌}
-use Rattle.bay_ber.proofs.FormLemmas.{ExactIn}
 use Rattle.bay_ber.proofs.JudgedLemmas.{Fair, told-fair, wanted-fair, layers-fair}
 use Rattle.bay_ber.proofs.ReadLemmas.{IsBytes}
-use Rattle.bay_initiate.proofs.InitiateLemmas.{initiate-read, initiate-back}
+use Rattle.bay_initiate.proofs.InitiateLemmas.{initiate-exact}
 use Rattle.bay_assoc.specs.declared.fault.AssocFault.{AssocFault}
 use Rattle.bay_assoc.specs.declared.hearing.Accepted.{Accepted}
 use Rattle.bay_assoc.specs.declared.hearing.AssociationTerms.{AssociationTerms}
@@ -12,12 +11,9 @@ use Rattle.bay_assoc.specs.declared.hearing.Phase.TheVariants.{Idle, Open, Over,
 use Rattle.bay_assoc.specs.declared.presentation.Context.{Context}
 use Rattle.bay_assoc.specs.Session.{Spdu, connect, finish, abort, transfer}
 use Rattle.bay_assoc.specs.Presentation.{Carried}
-use Rattle.bay_assoc.specs.Hearing.{Hearing, is_id, acse_value, mms_value, initiate, agreement, connection_request, release_request, data_transfer, heard_idle, heard_open, verdict}
+use Rattle.bay_assoc.specs.Hearing.{Hearing, is_id, acse_value, mms_value, agreement, connection_request, release_request, data_transfer, heard_idle, heard_open, verdict}
 use Rattle.bay_assoc.proofs.MessageLemmas.{user_data-exact, user_data-keeps, request-exact, request-keeps, associate-exact, associate-keeps, release-exact}
 use Rattle.bay_assoc.proofs.SpduLemmas.{UserBytes, spdu-exact, spdu-keeps}
-
-initiate-exact : ExactIn initiate
-initiate-exact = record { read = initiate-read; back = initiate-back }
 
 -- ---- the value in a context
 

@@ -1,12 +1,10 @@
 -- What an association hears of a TSDU, and in which phase it is then.
 use Rattle.std.specs.Prelude.{ℕ, ℤ, pos, negsuc, ◌==◌, Bool, false, min, List, [], ◌∷◌, find, Option, Some, None, option_map, Result, Ok, Err, if◌then◌else◌}
 use Rattle.bay_base.specs.Options.{◌>>=◌ as ◌>>◌}
-use Rattle.bay_ber.specs.Forms.{Form}
 use Rattle.bay_ber.specs.Judged.{Verdict, or_fault, wanted, told, ◌>>=◌}
 use Rattle.bay_initiate.specs.declared.initiate.Proposal.{Proposal}
 use Rattle.bay_initiate.specs.declared.initiate.Agreed.{Agreed}
-use Rattle.bay_initiate.specs.Initiate.{initiate_in}
-use Rattle.bay_initiate.specs.SpelledInitiate.{IsInitiate}
+use Rattle.bay_initiate.specs.Initiate.{initiate}
 use Rattle.bay_initiate.specs.Agreed.{agreed_text}
 use Rattle.bay_initiate.specs.Sizes.{agreed_size}
 use Rattle.bay_assoc.specs.declared.fault.AssocFault.{AssocFault}
@@ -91,10 +89,6 @@ answer_text c a agreed =
     accept_text (connected_text c.called c.contexts a (associated_text a.mms (agreed_text agreed)))
 
 -- ---- layer by layer
-
--- an initiate of MMS
-abbrev pub initiate : Form (List ℕ) Proposal
-initiate = record { reads = initiate_in; Spells = IsInitiate }
 
 -- What is agreed on with the contexts and the user data of a request for a connection: in the
 -- context of ACSE they carry a request for an association, and this in that of MMS an initiate.
