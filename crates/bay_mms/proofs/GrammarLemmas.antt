@@ -1,10 +1,10 @@
 -- What each part of a request is read as is what spells it.
-use Rattle.bay_ber.proofs.FormLemmas.{ExactIn, ExactAs, exacts, front-exact}
+use Rattle.std.proofs.Common.{ℕ, zero, suc}
+use Rattle.bay_ber.proofs.FormLemmas.{ExactIn, ExactAs, none-exact, made-exact, each-exact, choice-exact, front-exact, exacts}
 use Rattle.bay_initiate.proofs.InitiateLemmas.{proposal-exact}
-use Rattle.bay_mms.specs.Grammar.{domain_parts, name, variable_parts, variable, access, written, scope, class_part, scope_part, listing_parts, listing, attributes_by, read_parts, write_parts, service_request, invoke_id, confirmed_parts, pdu, request, front_id}
+use Rattle.bay_mms.specs.Grammar.{domain_parts, name, variable_parts, variable, access, string, simple, datum_at, scope, class_part, scope_part, listing_parts, listing, attributes_by, read_parts, write_parts, service_request, invoke_id, confirmed_parts, pdu, request, front_id}
 use Rattle.bay_mms.specs.Answers.{list_parts, list_pdu}
 use Rattle.bay_ber.specs.Forms.{one}
-use Rattle.bay_mms.proofs.ReceivedLemmas.{datum-read, datum-back}
 
 name-exact : ExactAs name
 unfolding name domain_parts
@@ -18,16 +18,19 @@ listing-exact : ExactIn listing
 unfolding listing listing_parts class_part scope_part scope
 listing-exact = search exacts depth 20
 
-written-exact : ExactAs written
-unfolding written
-written-exact = record {
-  read = λ part d is. datum-read d part 10 is.0 is.1;
-  back = λ part d b is. datum-back 10 part d b is;
-}
+simple-exact : ExactAs simple
+unfolding simple string
+simple-exact = search exacts depth 20
+
+datum-exact : (depth : ℕ) → ExactAs (datum_at depth)
+unfolding datum_at
+datum-exact zero = none-exact
+datum-exact (suc depth) =
+    choice-exact _ (made-exact _ (each-exact (datum-exact depth))) simple-exact
 
 service-exact : ExactAs service_request
 unfolding service_request attributes_by read_parts write_parts
-service-exact = search (exacts, name-exact, access-exact, listing-exact, written-exact) depth 20
+service-exact = search (exacts, name-exact, access-exact, listing-exact, datum-exact) depth 20
 
 id-exact : ExactAs invoke_id
 unfolding invoke_id

@@ -8,7 +8,6 @@ pub mod MarkLemmas
 pub mod NodeLemmas
 pub mod PageLemmas
 pub mod PlainLemmas
-pub mod ReceivedLemmas
 pub mod ReportLemmas
 pub mod RequestLemmas
 pub mod ResponseLemmas

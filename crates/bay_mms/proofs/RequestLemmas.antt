@@ -22,7 +22,7 @@ use Rattle.bay_mms.specs.declared.access.VariableSpecification as code
 use Rattle.bay_mms.specs.declared.request.ObjectName.{ObjectName}
 use Rattle.bay_mms.specs.declared.fault.Refusal.{Refusal}
 use Rattle.bay_mms.specs.declared.fault.Refusal.TheVariants.{Bad, Unknown, Many, OutOfMemory}
-use Rattle.bay_mms.specs.Grammar.{variable, any_alternate, are_as_many, counted_names, names_asked, datum_as, simple_as}
+use Rattle.bay_mms.specs.Grammar.{variable, any_alternate, are_as_many, counted_names, names_asked, simple, datum_at}
 
 -- ---- lists of variables
 
@@ -133,52 +133,54 @@ gives-stop e one all (inr is) stop = let p = spelled-err one e is in inr (rw (st
 
 -- ---- data
 
-pub datum-is : (depth : ℕ) (part : Part)
-    → datum_as (suc depth) part
+-- the data of parts
+abbrev pub structure_of : List Datum → Datum
+structure_of ds = mms.structure (data_before ds mms.no_data)
+
+datum-is : (depth : ℕ) (part : Part)
+    → (datum_at (suc depth)).reads part
     ≡ cond (same_tag part.tag (constructed 2))
-    (each_in (datum_as depth) part.content
-    >>= (λ ds. Some (mms.structure (data_before ds mms.no_data)))) (simple_as part)
-unfolding datum_as
+    (option_map structure_of (each_in (datum_at depth).reads part.content)) (simple.reads part)
+unfolding datum_at
 datum-is depth part = refl
 
 before : (depth : ℕ) → 0 < depth → depth ≡ suc (depth - 1)
 before depth some = omega arith
 
-pub structure-is : (depth : ℕ) (part : Part) → 0 < depth → same_tag part.tag (constructed 2) ≡ true
-    → datum_as depth part ≡ (each_in (datum_as (depth - 1)) part.content
-    >>= (λ ds. Some (mms.structure (data_before ds mms.no_data))))
+structure-is : (depth : ℕ) (part : Part) → 0 < depth → same_tag part.tag (constructed 2) ≡ true
+    → (datum_at depth).reads part
+    ≡ option_map structure_of (each_in (datum_at (depth - 1)).reads part.content)
 structure-is depth part some is =
-    ap (λ (n : ℕ). datum_as n part) (before depth some) ∙ datum-is (depth - 1) part ∙ rw is refl
+    ap (λ (n : ℕ). (datum_at n).reads part) (before depth some) ∙ datum-is (depth - 1) part
+    ∙ rw is refl
 
 pub simple-is : (depth : ℕ) (part : Part) → 0 < depth → same_tag part.tag (constructed 2) ≡ false
-    → datum_as depth part ≡ simple_as part
+    → (datum_at depth).reads part ≡ simple.reads part
 simple-is depth part some not =
-    ap (λ (n : ℕ). datum_as n part) (before depth some) ∙ datum-is (depth - 1) part ∙ rw not refl
+    ap (λ (n : ℕ). (datum_at n).reads part) (before depth some) ∙ datum-is (depth - 1) part
+    ∙ rw not refl
 
 pub structure-ok : (depth : ℕ) (part : Part) (ds : List Datum) → 0 < depth
     → same_tag part.tag (constructed 2) ≡ true
-    → or_fault Bad (each_in (datum_as (depth - 1)) part.content) ≡ Ok ds
-    → or_fault Bad (datum_as depth part) ≡ Ok (mms.structure (data_before ds mms.no_data))
+    → or_fault Bad (each_in (datum_at (depth - 1)).reads part.content) ≡ Ok ds
+    → or_fault Bad ((datum_at depth).reads part) ≡ Ok (structure_of ds)
 structure-ok depth part ds some is read =
     ap (or_fault Bad) (structure-is depth part some is
-    ∙ ap (λ (o : Option (List Datum)). o
-    >>= (λ xs. Some (mms.structure (data_before xs mms.no_data)))) (spelled-ok _ ds read))
+    ∙ ap (option_map structure_of) (spelled-ok _ ds read))
 
 pub structure-err : (depth : ℕ) (part : Part) (e : Refusal) → 0 < depth
     → same_tag part.tag (constructed 2) ≡ true
-    → (e ≡ OutOfMemory) ⊎ (or_fault Bad (each_in (datum_as (depth - 1)) part.content) ≡ Err e)
-    → (e ≡ OutOfMemory) ⊎ (or_fault Bad (datum_as depth part) ≡ Err e)
+    → (e ≡ OutOfMemory) ⊎ (or_fault Bad (each_in (datum_at (depth - 1)).reads part.content) ≡ Err e)
+    → (e ≡ OutOfMemory) ⊎ (or_fault Bad ((datum_at depth).reads part) ≡ Err e)
 structure-err depth part e some is given =
-    gives-stop e (each_in (datum_as (depth - 1)) part.content) (datum_as depth part) given
-    (λ none. structure-is depth part some is
-    ∙ ap (λ (o : Option (List Datum)). o
-    >>= (λ xs. Some (mms.structure (data_before xs mms.no_data)))) none)
+    gives-stop e (each_in (datum_at (depth - 1)).reads part.content) ((datum_at depth).reads part)
+    given (λ none. structure-is depth part some is ∙ ap (option_map structure_of) none)
 
 pub view-structure : (parts : Vec given.Data Global)
-    → datum_of (given.Structure parts)
-    ≡ mms.structure (data_before (data_in parts.items) mms.no_data)
+    → datum_of (given.Structure parts) ≡ structure_of (data_in parts.items)
 view-structure parts = search (rules, given.the_lemmas)
 
-pub too_deep : (depth : ℕ) (part : Part) → depth ≡ 0 → or_fault Bad (datum_as depth part) ≡ Err Bad
-unfolding datum_as
+pub too_deep : (depth : ℕ) (part : Part) → depth ≡ 0
+    → or_fault Bad ((datum_at depth).reads part) ≡ Err Bad
+unfolding datum_at
 too_deep depth part none = rw none refl

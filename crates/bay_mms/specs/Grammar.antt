@@ -1,20 +1,17 @@
 -- How requests are spelled (ISO 9506-2, with the profile of IEC 61850-8-1), as forms: each is read
 -- as what spells it.
-use Rattle.std.specs.Prelude.{ℕ, zero, suc, ℤ, pos, negsuc, ◌≤◌, ◌==◌, ◌&&◌, ◌||◌, Bool, true, false, not, Option, Some, None, Result, Ok, Err, List, length, map, nat_lt, if◌then◌else◌}
+use Rattle.std.specs.Prelude.{ℕ, zero, suc, ℤ, pos, negsuc, ◌==◌, ◌&&◌, ◌||◌, Bool, true, false, not, Option, Some, None, Result, Ok, Err, List, length, map, nat_lt, if◌then◌else◌}
 use Rattle.std.specs.List.{list_any}
-use Rattle.bay_base.specs.Options.{◌>>=◌}
 use Rattle.bay_base.specs.Results.{◌>>=◌ as ◌>>◌}
 use Rattle.bay_ber.specs.declared.tag.Class.TheVariants.{ContextSpecific}
 use Rattle.bay_ber.specs.declared.tag.Tag.{Tag}
-use Rattle.bay_ber.specs.Tags.{same_class, same_tag, context, constructed, sequence, int_tag, visible_tag}
-use Rattle.bay_ber.specs.Content.{integer_in, bits_in, truth_in}
-use Rattle.bay_ber.specs.Values.{Part, each_in}
-use Rattle.bay_ber.specs.Forms.{Form, made, such, integer, octets, anything, empty, one, front, fields, each, whole, under, choice, done, next, maybe}
+use Rattle.bay_ber.specs.Tags.{same_class, context, constructed, sequence, int_tag, visible_tag}
+use Rattle.bay_ber.specs.Values.{Part}
+use Rattle.bay_ber.specs.Forms.{Form, made, such, integer, truth, bits, octets, anything, empty, one, front, fields, each, whole, none, under, choice, done, next, maybe}
 use Rattle.bay_initiate.specs.Initiate.{proposal}
 use Rattle.bay_mms.specs.Data as mms
 use Rattle.bay_mms.specs.Data.{Datum}
 use Rattle.bay_mms.specs.Views.{data_before}
-use Rattle.bay_mms.specs.SpelledData.{IsDatum, depth_of}
 use Rattle.bay_mms.specs.Requests.{Naming, vmd, domain, association, Place, whole_vmd, in_domain, of_association, VariableSpecification, Access, variables, named_list, Asking, identify, names, attributes, read, write, Message, initiate, conclude, confirmed, Denial, unknown, many}
 use Rattle.bay_mms.specs.declared.fault.Refusal.{Refusal}
 use Rattle.bay_mms.specs.declared.fault.Refusal.TheVariants.{Bad, Unknown, Many}
@@ -82,47 +79,32 @@ names_asked count (variables vs) = counted_names count (map (λ v. v.name) vs) (
 
 -- ---- data
 
--- A listed kind with its content; a kind that is not listed is taken as it is. A moment that has
--- not eight octets is none.
-unfoldable pub utc_as : Part → Datum
-utc_as part =
-    if length part.content == 8 then mms.utc part.content else mms.other part.tag part.content
+-- a moment; one that has not eight octets is none, and taken as it is
+abbrev pub moment : List ℕ → Datum
+moment content =
+    if length content == 8 then mms.utc content else mms.other (context 17) content
 
--- a string of octets or of characters, or a moment, by its tag
-unfoldable pub string_as : Part → Datum
-string_as part =
-    if same_tag part.tag (context 9) then mms.octets part.content
-    else (if same_tag part.tag (context 10) then mms.text part.content
-    else (if same_tag part.tag (context 17) then utc_as part
-    else mms.other part.tag part.content))
+-- octet-string, visible-string and utc-time; a kind that is not listed is taken as it is
+unfoldable pub string : Form Part Datum
+string =
+    choice (context 9) (made mms.octets octets)
+    (choice (context 10) (made mms.text octets)
+    (choice (context 17) (made moment octets) (made (λ p. mms.other p.tag p.content) whole)))
 
--- data that are no structure, by their tag
-unfoldable pub simple_as : Part → Option Datum
-simple_as part =
-    if same_tag part.tag (context 3) then truth_in part.content >>= (λ b. Some (mms.truth b))
-    else (if same_tag part.tag (context 4) then bits_in part.content
-    >>= (λ b. Some (mms.bits b.octets b.count))
-    else (if same_tag part.tag (context 5) then integer_in part.content
-    >>= (λ z. Some (mms.integer z))
-    else (if same_tag part.tag (context 6) then integer_in part.content
-    >>= (λ z. Some (mms.unsigned z))
-    else Some (string_as part))))
+-- boolean, bit-string, integer, unsigned, and strings
+unfoldable pub simple : Form Part Datum
+simple =
+    choice (context 3) (made mms.truth truth)
+    (choice (context 4) (made (λ b. mms.bits b.octets b.count) bits)
+    (choice (context 5) (made mms.integer integer)
+    (choice (context 6) (made mms.unsigned integer) string)))
 
--- data that is at most so deep; the parts of a structure are one deeper
-unfoldable pub datum_as : ℕ → Part → Option Datum
-datum_as zero part = None
-datum_as (suc depth) part =
-    if same_tag part.tag (constructed 2)
-    then each_in (datum_as depth) part.content
-    >>= (λ ds. Some (mms.structure (data_before ds mms.no_data)))
-    else simple_as part
-
--- Data that are written, at most 10 deep.
-unfoldable pub written : Form Part Datum
-written = record {
-  reads = datum_as 10;
-  Spells = λ part d. IsDatum part d × (depth_of d ≤ 10);
-}
+-- Data that is at most so deep; the parts of a structure are one deeper.
+unfoldable pub datum_at : ℕ → Form Part Datum
+datum_at zero = none
+datum_at (suc depth) =
+    choice (constructed 2)
+    (made (λ ds. mms.structure (data_before ds mms.no_data)) (each (datum_at depth))) simple
 
 -- ---- services
 
@@ -170,9 +152,9 @@ read_parts = maybe (context 0) anything (next (under (constructed 1) (one access
 unfoldable pub writing : Access × (List Datum × Unit {0}) → Result Asking Refusal
 writing x = names_asked (Some (length x.1.0)) x.0 >> λ ns. Ok (write ns x.1.0)
 
--- Write-Request: variableAccessSpecification and listOfData
+-- Write-Request: variableAccessSpecification and listOfData, each at most 10 deep
 unfoldable pub write_parts : Form (List Part) (Access × (List Datum × Unit {0}))
-write_parts = next access (next (under (constructed 0) (each written)) done)
+write_parts = next access (next (under (constructed 0) (each (datum_at 10))) done)
 
 -- the service's tag is context-specific, and its number is of no service that is listed
 abbrev pub is_unlisted : Tag → Bool

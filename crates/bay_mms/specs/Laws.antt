@@ -1,5 +1,5 @@
 -- What stands in texts.
-use Rattle.std.specs.Prelude.{ℕ, ◌≡◌, ◌*◌, ◌^◌, ◌<◌, ◌≤◌, FitsSigned, List, length}
+use Rattle.std.specs.Prelude.{ℕ, suc, max, ◌≡◌, ◌*◌, ◌^◌, ◌<◌, ◌≤◌, FitsSigned, List, length}
 use Rattle.std.specs.Int.{w64}
 use Rattle.bay_ber.specs.declared.tag.Tag.{Tag}
 use Rattle.bay_ber.specs.Spelling.{Spells}
@@ -59,3 +59,14 @@ abbrev mutual
   pub ArePlain : Data → Type 0
   ArePlain no_data = Unit {0}
   ArePlain (datum first later) = IsPlain first × ArePlain later
+
+-- how deep data are: what is no structure is 1 deep, and a structure one deeper than its deepest
+-- part
+abbrev mutual
+  pub depth_of : Datum → ℕ
+  depth_of (structure parts) = suc (depth_in parts)
+  depth_of d = 1
+
+  pub depth_in : Data → ℕ
+  depth_in no_data = 0
+  depth_in (datum first later) = max (depth_of first) (depth_in later)

@@ -3,10 +3,9 @@
 -- spelled follow, and laws say that the two agree, so bytes ask at most one request.
 --
 -- `Requests`: what a client asks, which is an initiate, a conclude, or a service under an invoke
--- id. `Grammar` has the forms, one for each production of the standard: names, variables, services
--- and the request; the initiate is that of bay_initiate. `SpelledData`: how data are spelled.
--- `Asks`: the octets ask a request, a service that is not served, too many variables, or none of
--- these, with the invoke id in front.
+-- id. `Grammar` has the forms, one for each production of the standard: names, variables, data,
+-- services and the request; the initiate is that of bay_initiate. `Asks`: the octets ask a request,
+-- a service that is not served, too many variables, or none of these, with the invoke id in front.
 --
 -- `Answers`: the request that some bytes ask, or their fault. Memory may run out only for a read or
 -- a write that names a variable or has data.
@@ -46,7 +45,6 @@ pub mod Reports
 pub mod RequestViews
 pub mod Requests
 pub mod Responses
-pub mod SpelledData
 pub mod Types
 pub mod Utc
 pub mod Views

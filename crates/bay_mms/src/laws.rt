@@ -1,5 +1,5 @@
 // Laws of the texts. Each function does nothing, and its contract is the law.
-ghost use Rattle.std.specs.Prelude.{◌≡◌, ◌<◌, ◌↔◌, IsTrue, Option, Some, Result, Ok, Err, List, ℕ, length};
+ghost use Rattle.std.specs.Prelude.{◌≡◌, ◌<◌, ◌≤◌, ◌↔◌, IsTrue, Option, Some, Result, Ok, Err, List, ℕ, length};
 ghost use Rattle.bay_ber.specs.Octets.{AreOctets};
 ghost use Rattle.bay_ber.specs.Spelling.{Spells};
 ghost use Rattle.bay_mms.specs.Data.{Datum, Data, datum_text};
@@ -10,13 +10,12 @@ ghost use Rattle.bay_ber.specs.Tags.{context, constructed};
 ghost use Rattle.bay_base.specs.Exact.{Gives};
 ghost use Rattle.bay_mms.specs.Answers.{IsAnswer};
 ghost use Rattle.bay_mms.specs.Asks.{Asks, AsksUnknown, AsksMany, AsksNothing};
-ghost use Rattle.bay_mms.specs.Grammar.{answer_to};
+ghost use Rattle.bay_mms.specs.Grammar.{datum_at, answer_to};
 ghost use Rattle.bay_initiate.specs.Agreed.{agreed_text};
 ghost use Rattle.bay_initiate.specs.Initiate.{initiate_in, IsInitiate};
 ghost use Rattle.bay_ber.specs.Values.{value};
 ghost use Rattle.bay_mms.specs.Controls.{Control, Operate, IsOperate, operate_datum, cancel_datum, operate_as, cancel_as, is_in_range, operate_in};
-ghost use Rattle.bay_mms.specs.Laws.{IsPlain, IsOneValue, datum_tag, datum_content};
-ghost use Rattle.bay_mms.specs.SpelledData.{IsDatum};
+ghost use Rattle.bay_mms.specs.Laws.{IsPlain, IsOneValue, datum_tag, datum_content, depth_of};
 ghost use Rattle.bay_mms.specs.Requests.{Message};
 ghost use Rattle.bay_mms.specs.RequestViews.{message};
 ghost use Rattle.bay_mms.specs.declared.fault.MmsFault.{MmsFault};
@@ -34,8 +33,9 @@ pub fn written_is_read()
     ensures datum { (datum : Datum) → (datum_tag datum).number < 31
         → length (datum_text datum) < 4294967296
         → Spells (datum_text datum) (datum_tag datum) (datum_content datum) }
-    ensures received { (datum : Datum) → IsPlain datum → length (datum_text datum) < 4294967296
-        → IsDatum (value (datum_tag datum) (datum_content datum)) datum }
+    ensures received { (datum : Datum) (depth : ℕ) → IsPlain datum
+        → length (datum_text datum) < 4294967296 → depth_of datum ≤ depth
+        → (datum_at depth).Spells (value (datum_tag datum) (datum_content datum)) datum }
     ensures agreed { (agreed : Agreed) → IsOneValue (agreed_text agreed) (constructed 9) }
     ensures concluded { IsOneValue concluded_text (context 12) }
     ensures error { (id : ℕ) (class : ErrorClass)

@@ -1,11 +1,11 @@
 // Data that is received (ISO 9506-2, Data).
 ghost use Rattle.std.specs.Prelude.{◌≡◌, ◌<◌, [], option_map, length, Some, None, IfSome, IfNone, IsErrOf};
 ghost use Rattle.bay_base.specs.Exact.{Gives};
+ghost use Rattle.bay_ber.specs.Forms.{each};
 ghost use Rattle.bay_ber.specs.Judged.{or_fault};
-ghost use Rattle.bay_ber.specs.Values.{part_of, each_in};
+ghost use Rattle.bay_ber.specs.Values.{part_of};
 ghost use Rattle.bay_mms.specs.Views.{datum_of, data_in};
-ghost use Rattle.bay_mms.specs.Grammar.{datum_as};
-ghost use Rattle.bay_mms.specs.Grammar as spec;
+ghost use Rattle.bay_mms.specs.Grammar.{moment, string, simple, datum_at};
 
 use crate::data::{Data, push_data};
 use crate::fault::Refusal;
@@ -28,36 +28,38 @@ fn eight(octets: &[u8]) -> Option<[u8; 8]>
 }
 
 // A moment.
-#[tactic(auto, unfolding(crate::specs::Grammar::utc_as))]
-fn utc_as<'a>(value: &Value<'a>) -> Data<'a>
-    ensures { datum_of result ≡ spec.utc_as (part_of value.now) }
+fn moment_of<'a>(content: &'a [u8]) -> Data<'a>
+    ensures { datum_of result ≡ moment content.now }
 {
-    match eight(value.content) {
+    match eight(content) {
         Some(octets) => Data::Utc(octets),
-        None => Data::Other(*value),
+        None => Data::Other(Value {
+            tag: Tag::context(17),
+            content,
+        }),
     }
 }
 
 // Data whose content is taken as it is.
-#[tactic(auto, unfolding(crate::specs::Grammar::string_as))]
+#[tactic(auto, unfolding(crate::specs::Grammar::string))]
 fn string_as<'a>(value: &Value<'a>) -> Data<'a>
-    ensures { datum_of result ≡ spec.string_as (part_of value.now) }
+    ensures { string.reads (part_of value.now) ≡ Some (datum_of result) }
 {
     if value.tag.is(Tag::context(9)) {
         Data::Octets(value.content)
     } else if value.tag.is(Tag::context(10)) {
         Data::Text(value.content)
     } else if value.tag.is(Tag::context(17)) {
-        utc_as(value)
+        moment_of(value.content)
     } else {
         Data::Other(*value)
     }
 }
 
 // Data that is no structure.
-#[tactic(auto, unfolding(crate::specs::Grammar::simple_as))]
+#[tactic(auto, unfolding(crate::specs::Grammar::simple))]
 fn simple_as<'a>(value: &Value<'a>) -> Option<Data<'a>>
-    ensures { option_map datum_of result ≡ spec.simple_as (part_of value.now) }
+    ensures { option_map datum_of result ≡ simple.reads (part_of value.now) }
 {
     if value.tag.is(Tag::context(3)) {
         let truth = bool_of(value.content).ok()?;
@@ -80,7 +82,7 @@ fn simple_as<'a>(value: &Value<'a>) -> Option<Data<'a>>
 #[cycle(received)]
 fn read_datum<'a>(alloc: Global, value: &Value<'a>, depth: u8) -> Result<Data<'a>, Refusal>
     ensures { Gives Refusal.OutOfMemory datum_of result
-        (or_fault Refusal.Bad (datum_as depth (part_of value.now))) }
+        (or_fault Refusal.Bad ((datum_at depth).reads (part_of value.now))) }
 {
     if depth == 0 {
         return Err(Refusal::Bad);
@@ -101,9 +103,9 @@ pub(crate) fn read_data<'a>(
     depth: u8,
 ) -> Result<Vec<Data<'a>>, Refusal>
     ensures asked { Gives Refusal.OutOfMemory (λ v. data_in v.items) result
-        (or_fault Refusal.Bad (each_in (datum_as depth) octets.now)) }
+        (or_fault Refusal.Bad ((each (datum_at depth)).reads octets.now)) }
     ensures memory { IsErrOf result Refusal.OutOfMemory
-        → each_in (datum_as depth) octets.now ≡ Some [] → ⊥ }
+        → (each (datum_at depth)).reads octets.now ≡ Some [] → ⊥ }
 {
     let mut parts = Vec::new(alloc);
     let mut values = Values::new(octets);

@@ -136,7 +136,7 @@ fn read_of<'a>(alloc: Global, parts: &[Value<'a>]) -> Result<Call<'a>, Refusal>
 }
 
 // The variables that are written, and as many data.
-#[tactic(auto, unfolding(crate::specs::Grammar::write_parts, crate::specs::Grammar::writing, crate::specs::Grammar::written))]
+#[tactic(auto, unfolding(crate::specs::Grammar::write_parts, crate::specs::Grammar::writing))]
 fn write_as<'a>(alloc: Global, spec: &Value<'a>, list: &Value<'a>) -> Result<Call<'a>, Refusal>
     ensures asked { Gives Refusal.OutOfMemory asking result (answer Refusal.Bad
         (made writing write_parts) (part_of spec.now ∷ part_of list.now ∷ [])) }

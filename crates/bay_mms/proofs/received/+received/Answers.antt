@@ -3,7 +3,7 @@ use Rattle.std.proofs.lemmas.Result.{err_from_is_err_and}
 use Rattle.bay_ber.specs.Tags.{same_tag, constructed}
 use Rattle.bay_ber.specs.Values.{part_of, each_in}
 use Rattle.bay_ber.proofs.ListingLemmas.{passed-more, passed-bad}
-use Rattle.bay_mms.specs.Grammar.{datum_as, simple_as}
+use Rattle.bay_mms.specs.Grammar.{datum_at, simple}
 use Rattle.bay_mms.specs.Views.{datum_of, data_in}
 use Rattle.bay_mms.proofs.RequestLemmas.{gives-stop, some-value, gives-option, spelled-ok, too_deep, structure-ok, structure-err, simple-is, view-structure}
 use Rattle.bay_mms.proofs.received.+received.Goals as goal
@@ -13,7 +13,7 @@ pub read_data-returns-in_err-part-in-Ok-Some-clause-asked :
 read_data-returns-in_err-part-in-Ok-Some-clause-asked t c =
     let p = err_from_is_err_and c.from_residual.result c.from_residual.ensures.1 in
     let step = rw c.in-Ok-Some.field-0-is at c.in-Ok-Some.ensures.exact in
-    let f = datum_as c.args.depth in
+    let f = (datum_at c.args.depth).reads in
     let part = part_of c.in-Ok-Some.value in
     rw (p.1, p.2) (gives-stop c.in_err-part-in-Ok-Some.field-0.0 (f part)
     (each_in f c.args.octets.now) c.in_err-part-in-Ok-Some.ensures
@@ -23,21 +23,21 @@ read_data-returns-in_err-part-in-Ok-Some-clause-asked t c =
 pub read_data-returns-in_err-part-in-Ok-Some-clause-memory :
     goal.read_data-returns-in_err-part-in-Ok-Some-clause-memory
 read_data-returns-in_err-part-in-Ok-Some-clause-memory t c =
-    λ memory. some-value (datum_as c.args.depth) c.args.octets.now c.loop-value.values
+    λ memory. some-value (datum_at c.args.depth).reads c.args.octets.now c.loop-value.values
     c.next_value.new.self (data_in c.loop-value.parts.items) (part_of c.in-Ok-Some.value)
     c.loop-value.invariant (rw c.in-Ok-Some.field-0-is at c.in-Ok-Some.ensures.exact)
 
 pub read_data-returns-in_err-push_data-in-Ok-Some-clause-memory :
     goal.read_data-returns-in_err-push_data-in-Ok-Some-clause-memory
 read_data-returns-in_err-push_data-in-Ok-Some-clause-memory t c =
-    λ memory. some-value (datum_as c.args.depth) c.args.octets.now c.loop-value.values
+    λ memory. some-value (datum_at c.args.depth).reads c.args.octets.now c.loop-value.values
     c.next_value.new.self (data_in c.loop-value.parts.items) (part_of c.in-Ok-Some.value)
     c.loop-value.invariant (rw c.in-Ok-Some.field-0-is at c.in-Ok-Some.ensures.exact)
 
 pub read_data-loop-value-preserved : goal.read_data-loop-value-preserved
 read_data-loop-value-preserved t c =
     let step = rw c.in-Ok-Some.field-0-is at c.in-Ok-Some.ensures.exact in
-    let f = datum_as c.args.depth in
+    let f = (datum_at c.args.depth).reads in
     let part = part_of c.in-Ok-Some.value in
     let x = datum_of c.in_ok-part-in-Ok-Some.part in
     rw c.in_ok-push_data-in-Ok-Some.ensures
@@ -71,9 +71,9 @@ read_datum-returns-else-is t c =
     let isnt : same_tag c.args.value.now.tag (constructed 2) ≡ false =
     ap (same_tag c.args.value.now.tag) (sym c.context_constructed.ensures) ∙ sym c.is.ensures
     ∙ c.if-is.false in
-    let is : datum_as c.args.depth (part_of c.args.value.now)
-    ≡ simple_as (part_of c.args.value.now) =
+    let is : (datum_at c.args.depth).reads (part_of c.args.value.now)
+    ≡ simple.reads (part_of c.args.value.now) =
     simple-is c.args.depth (part_of c.args.value.now) (omega arith) isnt in
     rw c.ok_or.ensures.value
-    (gives-option datum_of c.simple_as.result (datum_as c.args.depth (part_of c.args.value.now))
-    (c.simple_as.ensures ∙ sym is))
+    (gives-option datum_of c.simple_as.result
+    ((datum_at c.args.depth).reads (part_of c.args.value.now)) (c.simple_as.ensures ∙ sym is))

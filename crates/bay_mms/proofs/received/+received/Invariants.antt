@@ -1,6 +1,6 @@
 use Rattle.std.proofs.Common.{◌+◌, ◌*◌, length}
 use Rattle.bay_ber.proofs.ListingLemmas.{Passed}
-use Rattle.bay_mms.specs.Grammar.{datum_as}
+use Rattle.bay_mms.specs.Grammar.{datum_at}
 use Rattle.bay_mms.specs.Views.{data_in}
 use Rattle.bay_mms.proofs.received.+received.Given as goal
 
@@ -12,7 +12,7 @@ decreases-read_data l = 2 * l.depth + 1
 
 abbrev pub invariant-read_data-loop-value : goal.invariant-read_data-loop-value
 invariant-read_data-loop-value l =
-    Passed (datum_as l.depth) l.octets l.values (data_in l.parts.items)
+    Passed (datum_at l.depth).reads l.octets l.values (data_in l.parts.items)
 
 abbrev pub decreases-read_data-loop-value : goal.decreases-read_data-loop-value
 decreases-read_data-loop-value l = length l.values
