@@ -31,12 +31,14 @@ class Form:
 
 def form_of(it: Definition) -> Form | None:
     """A definition as a form, if it is one."""
-    head, _, body = it.text.partition(f'\n{it.name}')
+    head, *equations = it.text.split(f'\n{it.name}')
     found = FORM.match(' '.join(head.split()))
-    if not found or not body:
+    if not found or not equations:
         return None
-    names, _, right = body.partition(' =')
-    return Form(it.name, found[2].strip('()'), tuple(names.split()), read(right), it.told)
+    # Of a form by depth the last equation names the form itself.
+    names, _, right = equations[-1].partition(' =')
+    parameters = tuple(names.split()) if len(equations) == 1 else ()
+    return Form(it.name, found[2].strip('()'), parameters, read(right), it.told)
 
 
 def forms_of(crate: str) -> dict[str, Form]:

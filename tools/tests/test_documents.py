@@ -48,6 +48,19 @@ class Documents(unittest.TestCase):
             source = (page.parent / link).read_text(encoding='utf-8')
             self.assertRegex(source, rf'\b{name}\b', f'{page.name}: {link}')
 
+    def test_the_formats_that_are_shown_are_the_definitions(self):
+        """PROTOCOL shows them as they stand."""
+        page = (TOP / 'docs' / 'PROTOCOL.md').read_text(encoding='utf-8')
+        shown = page.partition('### Two formats beside')[2].partition('\n### ')[0]
+        definitions = ' '.join(' '.join(path.read_text(encoding='utf-8').split())
+                               for path in TOP.glob('crates/bay_*/specs/*.antt'))
+        blocks = [it for it in shown.split('\n\n') if it.startswith('    ') and '::=' not in it]
+        texts = [' '.join(it.split()) for block in blocks
+                 for it in re.split(r'\n    (?=\w+ =)', block)]
+        self.assertEqual(len(texts), 8)
+        for text in texts:
+            self.assertIn(text, definitions)
+
     def test_the_walks_name_code(self):
         """What ARCHITECTURE follows from a contact and from an operate are calls, modules and
         fields, and no definitions."""
