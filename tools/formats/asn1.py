@@ -17,6 +17,10 @@ UNIVERSAL = {'int_tag': 'INTEGER', 'oid_tag': 'OBJECT IDENTIFIER', 'visible_tag'
              'sequence': 'SEQUENCE', 'set_tag': 'SET', 'external_tag': 'EXTERNAL'}
 PLAIN = ('int_tag', 'oid_tag', 'visible_tag')
 WIDTH = 96
+INITIATE = 'bay_initiate', ('Initiate',)
+MODULES = {'initiate': (INITIATE[0], 'Initiate', INITIATE[1]),
+           'association': ('bay_assoc', 'Association', ('Presentation', 'Acse')),
+           'mms': ('bay_mms', 'Requests', ('Grammar',))}
 
 
 @dataclasses.dataclass(frozen=True)
@@ -41,11 +45,11 @@ def form_of(it: Definition) -> Form | None:
     return Form(it.name, found[2].strip('()'), parameters, read(right), it.told)
 
 
-def forms_of(crate: str) -> dict[str, Form]:
-    """The forms of a crate by their names."""
+def forms_of(crate: str, files: tuple[str, ...]) -> dict[str, Form]:
+    """The forms of a crate's files by their names."""
     found = {}
-    for path in sorted((CRATES / crate / 'specs').glob('*.antt')):
-        for it in Reader(crate, path).read():
+    for file in files:
+        for it in Reader(crate, CRATES / crate / 'specs' / f'{file}.antt').read():
             form = form_of(it)
             if form:
                 found[form.name] = form
@@ -245,8 +249,8 @@ def apart(components: list[str]) -> list[str]:
     return found
 
 
-def module(crate: str, title: str, below: tuple[str, ...] = ()) -> str:
-    """The module of a crate's forms, which may name those of the crates below it."""
-    others = tuple(it for other in below for it in forms_of(other))
-    body = '\n\n'.join(Module(forms_of(crate), others).text())
+def module(crate: str, title: str, files: tuple[str, ...]) -> str:
+    """The module of the forms of a crate's files, which may name those of an initiate."""
+    others = tuple(forms_of(*INITIATE))
+    body = '\n\n'.join(Module(forms_of(crate, files), others).text())
     return f'{title} DEFINITIONS ::= BEGIN\n\n{body}\n\nEND\n'

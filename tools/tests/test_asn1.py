@@ -5,7 +5,7 @@ import unittest
 
 TOOLS = pathlib.Path(__file__).resolve().parent.parent
 sys.path.insert(0, str(TOOLS))
-from formats.asn1 import Module, form_of, forms_of, module
+from formats.asn1 import MODULES, Module, form_of, module
 from formats.terms import Term, read
 from tests.tool import Tools
 from tracing.calls import CRATES
@@ -23,6 +23,8 @@ DEFINED = (
     'message = one (under (constructed 8) (known (int_tag ∷ context 2 ∷ []) row))',
     'unfoldable pub both : Form Part X\nboth = under set_tag (fields (pair scope))',
     'unfoldable pub all : Form Part X\nall = under sequence (each scope)',
+    'unfoldable pub tree : ℕ → Form Part X\ntree zero = none\n'
+    'tree (suc n) = choice (constructed 2) (each (tree n)) (under (context 3) truth)',
     'abbrev pub count : ℕ → ℕ\ncount n = n')
 WANTED = {
     'scope': 'Scope ::= CHOICE {\n  field-0 [0] IMPLICIT NULL,\n'
@@ -65,11 +67,11 @@ class Types(unittest.TestCase):
 
     def test_the_forms_of_the_protocol(self):
         """Those that ISO names are there, and none is left unread."""
-        listing = module('bay_mms', 'Requests', ('bay_initiate',))
+        listing = module(*MODULES['mms'])
         self.assertIn('ServiceRequest ::= CHOICE {', listing)
         self.assertNotIn('by a relation of its own', listing)
-        self.assertGreater(len(forms_of('bay_assoc')), 9)
-        text = module('bay_assoc', 'Association', ('bay_initiate',))
+        text = module(*MODULES['association'])
+        self.assertNotIn('by a relation of its own', text)
         self.assertIn('Associate ::= [APPLICATION 0] IMPLICIT SEQUENCE {', text)
 
 
