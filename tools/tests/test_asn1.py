@@ -34,7 +34,7 @@ WANTED = {
                '  field-2 [2] IMPLICIT OCTET STRING OPTIONAL,\n  ... }',
     'both': 'Both ::= SET {\n  scope Scope,\n  scope-2 Scope\n  -- in either order }',
     'all': 'All ::= SEQUENCE OF Scope',
-    'tree': 'Tree ::= CHOICE {\\n  tree [2] IMPLICIT SEQUENCE OF Tree,\\n'
+    'tree': 'Tree ::= CHOICE {\n  tree [2] IMPLICIT SEQUENCE OF Tree,\n'
             '  field-3 [3] IMPLICIT BOOLEAN }'}
 
 
