@@ -8,8 +8,8 @@ use Rattle.std.proofs.lemmas.List.{length-append, take_at, drop_at}
 use Rattle.bay_ber.specs.Forms.{Form, made, such}
 use Rattle.bay_ber.proofs.ReadLemmas.{IsBytes}
 use Rattle.bay_ber.proofs.BackLemmas.{bind-some, bytes-behind, bytes-before, unguarded}
-use Rattle.bay_ber.proofs.FormLemmas.{Exact, ExactIn, such-exact, exacts, Keeps, made-keeps}
-use Rattle.bay_assoc.specs.Session.{Unit, long_size, size_at, counted_at, unit_at, onto, with_front, units_within, units_in, IsSize, SpellUnits, units, only_one, unit, coded, uncoded, through, is_user, Users, missing, once, several, users_of, parameters, Spdu, connect, accept, finish, disconnect, abort, transfer, connect_of, finish_of, by_identifier, is_transfer, spdu}
+use Rattle.bay_ber.proofs.FormLemmas.{Exact, ExactIn, exacts, Keeps, made-keeps}
+use Rattle.bay_assoc.specs.Session.{Unit, long_size, size_at, counted_at, unit_at, onto, with_front, units_within, units_in, IsSize, SpellUnits, units, alone, unit, coded, uncoded, through, is_user, Users, missing, once, several, users_of, parameters, Spdu, connect, accept, finish, disconnect, abort, transfer, connect_of, finish_of, by_identifier, is_transfer, spdu}
 use Rattle.bay_assoc.proofs.UnitLemmas.{no-units, units-step}
 
 -- ---- units that are spelled are read
@@ -177,16 +177,28 @@ units-back : (octets : List ℕ) (units : List Unit) → IsBytes octets → unit
 unfolding units_in
 units-back octets units b e = units-within-back (length octets) octets units b e
 
-only-is : (units : List Unit) (u : Unit) → only_one units ≡ Some u → units ≡ u ∷ []
-only-is (v ∷ []) u e = ap (λ (x : Unit). x ∷ []) (same_Some v u e)
-only-is units u e = absurd cc
-
 units-exact : ExactIn units
 units-exact = record { read = units-again; back = λ o us b e. (units-back o us b e).0 }
 
 units-bytes : (octets : List ℕ) (us : List Unit) → IsBytes octets → SpellUnits octets us
     → UnitBytes us
 units-bytes octets us b is = (units-back octets us b (units-again octets us is)).1
+
+alone-is : (v u : Unit) (rest : List ℕ) → alone v rest ≡ Some u → (v ≡ u) × (rest ≡ [])
+alone-is v u [] e = (same_Some v u e, refl)
+alone-is v u (octet ∷ rest) e = absurd cc
+
+unit-exact : ExactIn unit
+unit-exact = record {
+  read = λ o u is.
+      let read : unit_at o ≡ Some (u, is.1) = ap unit_at is.2 ∙ unit-again u is.0 is.1 is.3 in
+      rw (read, is.4) refl;
+  back = λ o u b is.
+      let x = bind-some (unit_at o) _ u is in
+      let r = unit-back o x.0 b x.1 in
+      let one = alone-is x.0.0 u x.0.1 x.2 in
+      subst (λ (v : Unit). SpellUnits o (v ∷ [])) one.0 (r.size, x.0.1, r.is, r.sized, one.1);
+}
 
 -- ---- forms of units
 
@@ -226,10 +238,7 @@ through-exact {f = f} {g = g} k d e = record {
 }
 
 unit-keeps : Keeps IsBytes unit ContentBytes
-unit-keeps = record {
-  holds = λ o u b is.
-      (subst UnitBytes (only-is is.0 u is.2) (units-bytes o is.0 b is.1)).0;
-}
+unit-keeps = record { holds = λ o u b is. (units-bytes o (u ∷ []) b is).0 }
 
 -- ---- SPDUs
 
@@ -238,7 +247,7 @@ unfolding by_identifier parameters
 by_identifier-exact = search (exacts, units-exact, coded-exact, uncoded-exact) depth 20
 
 framed-exact : ExactIn (through unit by_identifier)
-framed-exact = through-exact unit-keeps (such-exact only_one units-exact) by_identifier-exact
+framed-exact = through-exact unit-keeps unit-exact by_identifier-exact
 
 transfer-is : (octets : List ℕ) → is_transfer octets ≡ true → octets ≡ 1 ∷ 0 ∷ 1 ∷ 0 ∷ drop 4 octets
 transfer-is (a ∷ b ∷ c ∷ d ∷ user) e =
@@ -337,16 +346,16 @@ coded-keeps identifier k l = record {
   ];
 }
 
-alone : (s : Spdu) → FramedBytes s → Keeps IsBytes (made (λ (x : Users). s) parameters) FramedBytes
-alone s b = record { holds = λ o t good is. subst FramedBytes is.2 b }
+kind-keeps : (s : Spdu) → FramedBytes s → Keeps IsBytes (made (λ (x : Users). s) parameters) FramedBytes
+kind-keeps s b = record { holds = λ o t good is. subst FramedBytes is.2 b }
 
 by_identifier-keeps : Keeps ContentBytes by_identifier FramedBytes
 unfolding by_identifier
 by_identifier-keeps =
     coded-keeps _ (such-keeps connect_of connect-bytes parameters-keeps)
     (coded-keeps _ (such-keeps finish_of finish-bytes parameters-keeps)
-    (coded-keeps _ (alone accept tt) (coded-keeps _ (alone disconnect tt)
-    (coded-keeps _ (alone abort tt) (record { holds = λ u s b is. absurd is })))))
+    (coded-keeps _ (kind-keeps accept tt) (coded-keeps _ (kind-keeps disconnect tt)
+    (coded-keeps _ (kind-keeps abort tt) (record { holds = λ u s b is. absurd is })))))
 
 framed-keeps : Keeps IsBytes (through unit by_identifier) FramedBytes
 framed-keeps = record {

@@ -4,9 +4,8 @@ use Rattle.std.proofs.lemmas.Option.{same_Some}
 use Rattle.std.proofs.lemmas.Bool.{eqb-true}
 use Rattle.std.proofs.lemmas.List.{length-drop, append-nil}
 use Rattle.std.proofs.lemmas.List.Elements.{filter-append}
-use Rattle.bay_base.specs.Options.{◌>>=◌}
 use Rattle.bay_ber.proofs.BackLemmas.{bind-some, unguarded}
-use Rattle.bay_assoc.specs.Session.{Unit, long_size, size_at, counted_at, unit_at, onto, with_front, units_within, units_in, only_one, unit, is_user, Users, missing, users_of, parameters}
+use Rattle.bay_assoc.specs.Session.{Unit, long_size, size_at, counted_at, unit_at, onto, with_front, units_within, units_in, is_user, Users, missing, users_of, parameters}
 use Rattle.bay_assoc.specs.SessionReading.{then_user, with_user}
 
 -- ---- what is read leaves less
@@ -104,51 +103,6 @@ pub units-end : (octets : List ℕ) → true ≡ eqb (length octets) 0 → units
 units-end [] none = no-units
 units-end (octet ∷ octets) none =
     absurd (let z : length (octet ∷ octets) ≡ 0 = eqb-true _ _ (sym none) in omega arith)
-
--- ---- the one unit
-
-pub one-is : (octets : List ℕ) (x : Unit × List ℕ) → unit_at octets ≡ Some x
-    → true ≡ eqb (length x.1) 0 → unit.reads octets ≡ Some x.0
-one-is octets x e none =
-    ap (λ (o : Option (List Unit)). o >>= only_one)
-    (units-step octets x e ∙ ap (onto (x.0 ∷ [])) (units-end x.1 none))
-
-onto-some : (front : List Unit) (o : Option (List Unit)) (units : List Unit)
-    → onto front o ≡ Some units → (later : List Unit) × (o ≡ Some later) × (units ≡ front ++ later)
-onto-some front None units e = absurd cc
-onto-some front (Some later) units e =
-    (later, refl, let same : front ++ later ≡ units = cc in sym same)
-
-with-some : (octets : List ℕ) (o : Option (Unit × List ℕ)) → unit_at octets ≡ o
-    → false ≡ eqb (length octets) 0 → units_in octets ≡ Some [] → ⊥
-with-some octets None read some e = let n : units_in octets ≡ None =
-    units-stop octets some read in cc
-with-some octets (Some x) read some e =
-    let s = onto-some (x.0 ∷ []) (units_in x.1) [] (sym (units-step octets x read) ∙ e) in
-    let same : [] ≡ x.0 ∷ s.0 = s.2 in
-    cc
-
-not-one : (first : Unit) (o : Option (List Unit)) → (o ≡ Some [] → ⊥)
-    → (onto (first ∷ []) o >>= only_one) ≡ None
-not-one first None some = refl
-not-one first (Some []) some = absurd (some refl)
-not-one first (Some (next ∷ later)) some = refl
-
-pub one-more : (octets : List ℕ) (x : Unit × List ℕ) → unit_at octets ≡ Some x
-    → false ≡ eqb (length x.1) 0 → unit.reads octets ≡ None
-one-more octets x e more =
-    ap (λ (o : Option (List Unit)). o >>= only_one) (units-step octets x e)
-    ∙ not-one x.0 (units_in x.1) (with-some x.1 (unit_at x.1) refl more)
-
-stop-one : (octets : List ℕ) (b : Bool) → b ≡ eqb (length octets) 0 → unit_at octets ≡ None
-    → unit.reads octets ≡ None
-stop-one octets true none e =
-    ap (λ (o : Option (List Unit)). o >>= only_one) (units-end octets none)
-stop-one octets false some e =
-    ap (λ (o : Option (List Unit)). o >>= only_one) (units-stop octets some e)
-
-pub one-stop : (octets : List ℕ) → unit_at octets ≡ None → unit.reads octets ≡ None
-one-stop octets e = stop-one octets (eqb (length octets) 0) refl e
 
 -- ---- user data
 

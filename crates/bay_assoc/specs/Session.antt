@@ -77,13 +77,16 @@ SpellUnits octets (u ∷ units) =
 abbrev pub units : Form (List ℕ) (List Unit)
 units = record { reads = units_in; Spells = SpellUnits }
 
-abbrev pub only_one : List Unit → Option Unit
-only_one (u ∷ []) = Some u
-only_one units = None
+abbrev pub alone : Unit → List ℕ → Option Unit
+alone u [] = Some u
+alone u (octet ∷ octets) = None
 
 -- one unit
 abbrev pub unit : Form (List ℕ) Unit
-unit = such only_one units
+unit = record {
+  reads = λ octets. unit_at octets >>= λ x. alone x.0 x.1;
+  Spells = λ octets u. SpellUnits octets (u ∷ []);
+}
 
 -- the content of a unit of this identifier, or a unit of any other as another form has it
 abbrev pub coded : {A : Type 0} → ℕ → Form (List ℕ) A → Form Unit A → Form Unit A

@@ -234,8 +234,8 @@ fn unit_in(octets: &[u8]) -> Option<Unit<'_>>
     ensures { option_map unit_of result ≡ unit.reads octets.now }
 {
     match unit_at(octets) {
-        Some((unit, rest)) => { if rest.is_empty() { Some(unit) } else { None } }
-        None => None,
+        Some((unit, [])) => Some(unit),
+        _ => None,
     }
 }
 

@@ -10,6 +10,9 @@
 -- function; the law `values_are_spelled` says that the two agree. Grammars of other crates stand on
 -- `Values`, in which a value's content is read as values again.
 --
+-- `Forms`: a message as a form, made of smaller ones, which both reads it and says how it is
+-- spelled. `Judged`: verdicts of layers, each on what the one before it read.
+--
 -- `Writing` (8.1.3, 8.3.2, 10.1, 11.1, 11.2): the canonical spelling. `Sheets`: what a writer
 -- holds, which is a text of at most so many bytes, or none if it would be longer, and the heads in
 -- front of it. `Code` numbers the faults.
