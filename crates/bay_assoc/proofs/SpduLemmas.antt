@@ -1,188 +1,16 @@
--- What octets are read as is what they spell: units and SPDUs.
-use Rattle.std.proofs.Common.{◌≡◌, ℕ, zero, suc, ◌+◌, ◌*◌, ◌<◌, Bool, true, false, cond, eqb, ltb, List, [], ◌∷◌, ◌++◌, length, filter, take, drop, Option, Some, None, refl, sym, ap, subst, ◌∙◌, inl, inr, take-append-drop, length-take, arith}
+-- What octets are read as is what they spell: one unit, and SPDUs.
+use Rattle.std.proofs.Common.{◌≡◌, ℕ, Bool, true, false, cond, eqb, List, [], ◌∷◌, ◌++◌, filter, drop, Option, Some, None, refl, ap, subst, ◌∙◌, inl, inr}
 use Rattle.std.proofs.lemmas.Option.{same_Some}
 use Rattle.std.specs.Prelude.{⊤}
-use Rattle.std.proofs.lemmas.Bool.{eq-eqb, ne_eqb, eqb-true, le-ltb, ltb-false, and_parts}
-use Rattle.std.proofs.lemmas.Bool.Decides.{nat_tests}
-use Rattle.std.proofs.lemmas.List.{length-append, take_at, drop_at}
+use Rattle.std.proofs.lemmas.Bool.{eq-eqb, ne_eqb, eqb-true, and_parts}
 use Rattle.bay_ber.specs.Forms.{Form, made, such}
 use Rattle.bay_ber.proofs.ReadLemmas.{IsBytes}
-use Rattle.bay_ber.proofs.BackLemmas.{bind-some, bytes-behind, bytes-before, unguarded}
+use Rattle.bay_ber.proofs.BackLemmas.{bind-some, bytes-behind, bytes-before}
 use Rattle.bay_ber.proofs.FormLemmas.{Exact, ExactIn, exacts, Keeps, made-keeps}
-use Rattle.bay_assoc.specs.Session.{Unit, long_size, size_at, counted_at, unit_at, onto, with_front, units_within, units_in, IsSize, SpellUnits, units, alone, unit, coded, uncoded, through, is_user, Users, missing, once, several, users_of, parameters, Spdu, connect, accept, finish, disconnect, abort, transfer, connect_of, finish_of, by_identifier, is_transfer, spdu}
-use Rattle.bay_assoc.proofs.UnitLemmas.{no-units, units-step}
+use Rattle.bay_assoc.specs.Session.{Unit, unit_at, Leads, SpellUnits, units, alone, unit, coded, uncoded, through, is_user, Users, missing, once, several, users_of, parameters, Spdu, connect, accept, finish, disconnect, abort, transfer, connect_of, finish_of, by_identifier, is_transfer, spdu}
+use Rattle.bay_assoc.proofs.UnitLemmas.{differs, unit-again, unit-back, units-exact}
 
--- ---- units that are spelled are read
-
-size-again : (size : List ℕ) (n : ℕ) (rest : List ℕ) → IsSize size n
-    → size_at (size ++ rest) ≡ Some (n, rest)
-unfolding size_at
-size-again (first ∷ []) n rest is =
-    let other : eqb first 255 ≡ false = ne_eqb first 255 (λ e. let low = is.0 in omega arith) in
-    rw other (ap (λ (m : ℕ). Some (m, rest)) (sym is.1))
-size-again (first ∷ high ∷ low ∷ []) n rest is =
-    let yes : eqb first 255 ≡ true = eq-eqb first 255 is.0 in
-    rw yes (ap (λ (m : ℕ). Some (m, rest)) (sym is.1))
-size-again size n rest is = absurd is
-
-counted-again : (size content rest : List ℕ) → IsSize size (length content)
-    → counted_at (size ++ (content ++ rest)) ≡ Some (content, rest)
-unfolding counted_at
-counted-again size content rest is =
-    let enough : ltb (length (content ++ rest)) (length content) ≡ false =
-    le-ltb _ _ (omega (arith, length-append content rest)) in
-    let front : take (length content) (content ++ rest) ≡ content =
-    take_at content rest (length content) refl in
-    let behind : drop (length content) (content ++ rest) ≡ rest =
-    drop_at content rest (length content) refl in
-    rw (size-again size (length content) (content ++ rest) is, enough, front, behind) refl
-
-unit-again : (u : Unit) (size rest : List ℕ) → IsSize size (length u.content)
-    → unit_at (u.identifier ∷ (size ++ (u.content ++ rest))) ≡ Some (u, rest)
-unfolding unit_at
-unit-again u size rest is = rw (counted-again size u.content rest is) refl
-
-pub units-again : (octets : List ℕ) (units : List Unit) → SpellUnits octets units
-    → units_in octets ≡ Some units
-units-again octets [] is = ap units_in is ∙ no-units
-units-again octets (u ∷ units) is =
-    let read : unit_at octets ≡ Some (u, is.1) = ap unit_at is.2 ∙ unit-again u is.0 is.1 is.3 in
-    units-step octets (u, is.1) read ∙ ap (onto (u ∷ [])) (units-again is.1 units is.4)
-
--- ---- units that are read are spelled
-
-record Sized (octets rest : List ℕ) (n : ℕ) : Type 0 where
-  size : List ℕ
-  is : octets ≡ size ++ rest
-  sized : IsSize size n
-
-long-back : (octets : List ℕ) (x : ℕ × List ℕ) → long_size octets ≡ Some x
-    → Sized (255 ∷ octets) x.1 x.0
-long-back (high ∷ low ∷ octets) x e =
-    let made : ℕ × List ℕ = (high * 256 + low, octets) in
-    let same : made ≡ x = same_Some made x e in
-    subst (λ (y : ℕ × List ℕ). Sized (255 ∷ high ∷ low ∷ octets) y.1 y.0) {x = made} same
-    (record { size = 255 ∷ high ∷ low ∷ []; is = refl; sized = (refl, refl) })
-long-back octets x e = absurd cc
-
-below : (n : ℕ) → n < 256 → eqb n 255 ≡ false → n < 255
-below n low other = grind (arith, nat_tests)
-
-size-case : (first : ℕ) (octets : List ℕ) (x : ℕ × List ℕ) (b : Bool) → first < 256
-    → eqb first 255 ≡ b → cond b (long_size octets) (Some (first, octets)) ≡ Some x
-    → Sized (first ∷ octets) x.1 x.0
-size-case first octets x true low is e =
-    subst (λ (n : ℕ). Sized (n ∷ octets) x.1 x.0) (sym (eqb-true first 255 is))
-    (long-back octets x e)
-size-case first octets x false low is e =
-    let made : ℕ × List ℕ = (first, octets) in
-    let same : made ≡ x = same_Some made x e in
-    let less : first < 255 = below first low is in
-    subst (λ (y : ℕ × List ℕ). Sized (first ∷ octets) y.1 y.0) {x = made} same
-    (record { size = first ∷ []; is = refl; sized = (less, refl) })
-
-size-back : (octets : List ℕ) (x : ℕ × List ℕ) → IsBytes octets → size_at octets ≡ Some x
-    → Sized octets x.1 x.0
-unfolding size_at
-size-back [] x b e = absurd cc
-size-back (first ∷ octets) x b e = size-case first octets x (eqb first 255) (b 0) refl e
-
--- The octets are a length, so many octets, and the rest.
-record Counted (octets content rest : List ℕ) : Type 0 where
-  size : List ℕ
-  is : octets ≡ size ++ (content ++ rest)
-  sized : IsSize size (length content)
-
-counted-back : (octets : List ℕ) (x : List ℕ × List ℕ) → IsBytes octets → counted_at octets ≡ Some x
-    → Counted octets x.0 x.1
-unfolding counted_at
-counted-back octets x b e =
-    let s = bind-some (size_at octets) _ x e in
-    let n = s.0.0 in
-    let behind = s.0.1 in
-    let made : List ℕ × List ℕ = (take n behind, drop n behind) in
-    let g = unguarded (ltb (length behind) n) (Some made) x s.2 in
-    let enough = ltb-false (length behind) n g.0 in
-    let z = size-back octets s.0 b s.1 in
-    let long : length (take n behind) ≡ n = omega (arith, length-take n behind, enough) in
-    let same : made ≡ x = same_Some made x g.1 in
-    subst (λ (y : List ℕ × List ℕ). Counted octets y.0 y.1) {x = made} same (record {
-      size = z.size;
-      is = z.is ∙ ap (λ (l : List ℕ). z.size ++ l) (sym (take-append-drop n behind));
-      sized = subst (IsSize z.size) (sym long) z.sized;
-    })
-
-record Read (octets : List ℕ) (u : Unit) (rest : List ℕ) : Type 0 where
-  size : List ℕ
-  is : octets ≡ u.identifier ∷ (size ++ (u.content ++ rest))
-  sized : IsSize size (length u.content)
-  content : IsBytes u.content
-  behind : IsBytes rest
-
-unit-back : (octets : List ℕ) (x : Unit × List ℕ) → IsBytes octets → unit_at octets ≡ Some x
-    → Read octets x.0 x.1
-unfolding unit_at
-unit-back [] x b e = absurd cc
-unit-back (identifier ∷ octets) x b e =
-    let c = bind-some (counted_at octets) _ x e in
-    let made : Unit × List ℕ = (record { identifier = identifier; content = c.0.0 }, c.0.1) in
-    let same : made ≡ x = same_Some made x c.2 in
-    let later : IsBytes octets = λ i. b (suc i) in
-    let k = counted-back octets c.0 later c.1 in
-    let both_bytes : IsBytes (c.0.0 ++ c.0.1) =
-    bytes-behind k.size (c.0.0 ++ c.0.1) (subst IsBytes k.is later) in
-    subst (λ (y : Unit × List ℕ). Read (identifier ∷ octets) y.0 y.1) {x = made} same (record {
-      size = k.size;
-      is = ap (λ (l : List ℕ). identifier ∷ l) k.is;
-      sized = k.sized;
-      content = bytes-before c.0.0 c.0.1 both_bytes;
-      behind = bytes-behind c.0.0 c.0.1 both_bytes;
-    })
-
-abbrev UnitBytes : List Unit → Type 0
-UnitBytes [] = ⊤
-UnitBytes (u ∷ us) = IsBytes u.content × UnitBytes us
-
-onto-back : (front : List Unit) (o : Option (List Unit)) (units : List Unit)
-    → onto front o ≡ Some units → (later : List Unit) × (o ≡ Some later) × (units ≡ front ++ later)
-onto-back front None units e = absurd cc
-onto-back front (Some later) units e = (later, refl, sym (same_Some (front ++ later) units e))
-
-units-within-back : (most : ℕ) (octets : List ℕ) (units : List Unit) → IsBytes octets
-    → units_within most octets ≡ Some units → SpellUnits octets units × UnitBytes units
-unfolding units_within
-units-within-back zero [] units b e =
-    subst (λ (us : List Unit). SpellUnits [] us × UnitBytes us) (same_Some [] units e) (refl, tt)
-units-within-back (suc most) [] units b e =
-    subst (λ (us : List Unit). SpellUnits [] us × UnitBytes us) (same_Some [] units e) (refl, tt)
-units-within-back zero (octet ∷ octets) units b e = absurd cc
-units-within-back (suc most) (octet ∷ octets) units b e =
-    front-back (octet ∷ octets) units (unit_at (octet ∷ octets)) refl b e
-    (λ rest later c f. units-within-back most rest later c f)
-  where
-    front-back : (whole : List ℕ) (units : List Unit) (o : Option (Unit × List ℕ))
-        → unit_at whole ≡ o → IsBytes whole → with_front o (units_within most) ≡ Some units
-        → ((rest : List ℕ) (later : List Unit) → IsBytes rest → units_within most rest ≡ Some later
-        → SpellUnits rest later × UnitBytes later) → SpellUnits whole units × UnitBytes units
-    front-back whole units None is b e more = absurd cc
-    front-back whole units (Some x) is b e more =
-        let o = onto-back (x.0 ∷ []) (units_within most x.1) units e in
-        let r = unit-back whole x b is in
-        let m = more x.1 o.0 r.behind o.1 in
-        subst (λ (us : List Unit). SpellUnits whole us × UnitBytes us) (sym o.2)
-        ((r.size, x.1, r.is, r.sized, m.0), (r.content, m.1))
-
-units-back : (octets : List ℕ) (units : List Unit) → IsBytes octets → units_in octets ≡ Some units
-    → SpellUnits octets units × UnitBytes units
-unfolding units_in
-units-back octets units b e = units-within-back (length octets) octets units b e
-
-units-exact : ExactIn units
-units-exact = record { read = units-again; back = λ o us b e. (units-back o us b e).0 }
-
-units-bytes : (octets : List ℕ) (us : List Unit) → IsBytes octets → SpellUnits octets us
-    → UnitBytes us
-units-bytes octets us b is = (units-back octets us b (units-again octets us is)).1
+-- ---- one unit
 
 alone-is : (v u : Unit) (rest : List ℕ) → alone v rest ≡ Some u → (v ≡ u) × (rest ≡ [])
 alone-is v u [] e = (same_Some v u e, refl)
@@ -190,14 +18,12 @@ alone-is v u (octet ∷ rest) e = absurd cc
 
 unit-exact : ExactIn unit
 unit-exact = record {
-  read = λ o u is.
-      let read : unit_at o ≡ Some (u, is.1) = ap unit_at is.2 ∙ unit-again u is.0 is.1 is.3 in
-      rw (read, is.4) refl;
+  read = λ o u is. rw (unit-again o u [] is) refl;
   back = λ o u b is.
       let x = bind-some (unit_at o) _ u is in
-      let r = unit-back o x.0 b x.1 in
       let one = alone-is x.0.0 u x.0.1 x.2 in
-      subst (λ (v : Unit). SpellUnits o (v ∷ [])) one.0 (r.size, x.0.1, r.is, r.sized, one.1);
+      subst (λ (v : Unit). Leads o v []) one.0
+      (subst (λ (rest : List ℕ). Leads o x.0.0 rest) one.1 (unit-back o x.0 x.1));
 }
 
 -- ---- forms of units
@@ -218,11 +44,7 @@ coded-exact {A} identifier {f} {g} d e = record {
     pick : (u : Unit) (x : A) → IsBytes u.content → (c : Bool) → eqb u.identifier identifier ≡ c
         → cond c (f.reads u.content) (g.reads u) ≡ Some x → (coded identifier f g).Spells u x
     pick u x b true s is = inl (eqb-true u.identifier identifier s, d.back u.content x b is)
-    pick u x b false s is = inr (
-      λ same. let yes = eq-eqb u.identifier identifier same in
-          let no : true ≡ false = sym yes ∙ s in absurd cc,
-      e.back u x b is,
-    )
+    pick u x b false s is = inr (differs u.identifier identifier s, e.back u x b is)
 
 uncoded-exact : {A : Type 0} → Exact ContentBytes (uncoded {A = A})
 uncoded-exact = record { read = λ u x is. absurd is; back = λ u x b e. absurd cc }
@@ -237,8 +59,15 @@ through-exact {f = f} {g = g} k d e = record {
       (x.0, spelled, e.back x.0 y (k.holds s x.0 good spelled) x.2);
 }
 
+unit-bytes : (octets : List ℕ) (u : Unit) (rest : List ℕ) → IsBytes octets → Leads octets u rest
+    → IsBytes u.content × IsBytes rest
+unit-bytes octets u rest b is =
+    let behind =
+    bytes-behind (u.identifier ∷ is.size) (u.content ++ rest) (subst IsBytes is.is b) in
+    (bytes-before u.content rest behind, bytes-behind u.content rest behind)
+
 unit-keeps : Keeps IsBytes unit ContentBytes
-unit-keeps = record { holds = λ o u b is. (units-bytes o (u ∷ []) b is).0 }
+unit-keeps = record { holds = λ o u b is. (unit-bytes o u [] b is).0 }
 
 -- ---- SPDUs
 
@@ -278,6 +107,16 @@ spdu-exact = record {
     pick o s b false t is = inr (t, framed-exact.back o s b is)
 
 -- ---- user data that are handed on
+
+abbrev UnitBytes : List Unit → Type 0
+UnitBytes [] = ⊤
+UnitBytes (u ∷ us) = IsBytes u.content × UnitBytes us
+
+units-bytes : (octets : List ℕ) (us : List Unit) → IsBytes octets → SpellUnits octets us
+    → UnitBytes us
+units-bytes octets [] b is = tt
+units-bytes octets (u ∷ us) b is =
+    let bytes = unit-bytes octets u is.0 b is.1 in (bytes.0, units-bytes is.0 us bytes.1 is.2)
 
 chosen-units : (b : Bool) (u : Unit) (more : List Unit) → IsBytes u.content → UnitBytes more
     → UnitBytes (cond b (u ∷ more) more)

@@ -1,6 +1,6 @@
 -- Session protocol data units (X.225 8): an identifier, a length, and parameters, which are spelled
 -- likewise.
-use Rattle.std.specs.Prelude.{ℕ, zero, suc, ◌≡◌, ◌≢◌, ◌<◌, ◌⊎◌, ◌+◌, ◌*◌, ◌==◌, ◌&&◌, Bool, false, List, [], ◌∷◌, ◌++◌, length, take, drop, filter, Option, Some, None, option_map, nat_lt, if◌then◌else◌}
+use Rattle.std.specs.Prelude.{ℕ, zero, suc, ◌≡◌, ◌≢◌, ◌⊎◌, ◌+◌, ◌*◌, ◌==◌, ◌&&◌, Bool, false, List, [], ◌∷◌, ◌++◌, length, take, drop, filter, Option, Some, None, option_map, nat_lt, if◌then◌else◌}
 use Rattle.bay_base.specs.Options.{◌>>=◌}
 use Rattle.bay_ber.specs.Forms.{Form, made, such}
 
@@ -57,19 +57,23 @@ units_in octets = units_within (length octets) octets
 
 -- ---- how they are spelled
 
--- A length is one octet below 255, or 255 and two octets, the higher first (X.225 8.2.5).
+-- A length is one octet other than 255, or 255 and two octets, the higher first (X.225 8.2.5).
 abbrev pub IsSize : List ℕ → ℕ → Type 0
-IsSize (first ∷ []) n = (first < 255) × (n ≡ first)
+IsSize (first ∷ []) n = (first ≢ 255) × (n ≡ first)
 IsSize (first ∷ high ∷ low ∷ []) n = (first ≡ 255) × (n ≡ high * 256 + low)
 IsSize octets n = ⊥
 
--- The octets are these units and nothing else, one after another: of each its identifier, a length,
--- and so many octets.
+-- The octets are a unit, that is its identifier, a length, and so many octets, and the rest.
+pub record Leads (octets : List ℕ) (u : Unit) (rest : List ℕ) : Type 0 where
+  pub size : List ℕ
+  pub is : octets ≡ u.identifier ∷ (size ++ (u.content ++ rest))
+  pub sized : IsSize size (length u.content)
+
+-- The octets are these units and nothing else, one after another.
 abbrev pub SpellUnits : List ℕ → List Unit → Type 0
 SpellUnits octets [] = octets ≡ []
 SpellUnits octets (u ∷ units) =
-    (size : List ℕ) × (rest : List ℕ) × (octets ≡ u.identifier ∷ (size ++ (u.content ++ rest)))
-    × IsSize size (length u.content) × SpellUnits rest units
+    (rest : List ℕ) × Leads octets u rest × SpellUnits rest units
 
 -- ---- forms of units
 
@@ -85,7 +89,7 @@ alone u (octet ∷ octets) = None
 abbrev pub unit : Form (List ℕ) Unit
 unit = record {
   reads = λ octets. unit_at octets >>= λ x. alone x.0 x.1;
-  Spells = λ octets u. SpellUnits octets (u ∷ []);
+  Spells = λ octets u. Leads octets u [];
 }
 
 -- the content of a unit of this identifier, or a unit of any other as another form has it
@@ -123,7 +127,7 @@ pub data Users : Type 0 where
 abbrev pub users_of : List Unit → Users
 users_of [] = missing
 users_of (u ∷ []) = once u.content
-users_of (u ∷ v ∷ units) = several
+users_of (u ∷ v ∷ us) = several
 
 -- parameters, of which the user data are looked at
 unfoldable pub parameters : Form (List ℕ) Users
