@@ -185,7 +185,8 @@ coded-keeps identifier k l = record {
   ];
 }
 
-kind-keeps : (s : Spdu) → FramedBytes s → Keeps IsBytes (made (λ (x : Users). s) parameters) FramedBytes
+kind-keeps : (s : Spdu) → FramedBytes s
+    → Keeps IsBytes (made (λ (x : Users). s) parameters) FramedBytes
 kind-keeps s b = record { holds = λ o t good is. subst FramedBytes is.2 b }
 
 by_identifier-keeps : Keeps ContentBytes by_identifier FramedBytes
