@@ -1,7 +1,7 @@
 -- What octets are read as, they spell, and what they spell they are read as: values, fields and
 -- contents.
-use Rattle.std.proofs.Common.{◌≡◌, ℕ, zero, suc, ℤ, ◌+◌, ◌-◌, ◌*◌, ◌<◌, Bool, true, false, cond, ltb, List, [], ◌∷◌, ◌++◌, length, filter, Option, Some, None, refl, sym, ap, subst, ◌∙◌, ◌⊎◌, inl, inr, arith}
-use Rattle.std.proofs.lemmas.Option.{cond_some, same_Some}
+use Rattle.std.proofs.Common.{◌≡◌, ℕ, zero, suc, ℤ, ◌+◌, ◌-◌, ◌*◌, ◌<◌, Bool, true, false, cond, ltb, List, [], ◌∷◌, ◌++◌, length, filter, Option, Some, None, refl, sym, ap, subst, ◌∙◌, arith}
+use Rattle.std.proofs.lemmas.Option.{cond_some}
 use Rattle.std.specs.Bool.{beq}
 use Rattle.std.proofs.lemmas.Bool.{eqb-true, lt-ltb, ltb-true, ltb-false, cond-true, and_parts}
 use Rattle.std.proofs.lemmas.List.{get_or-append-add}
@@ -12,7 +12,7 @@ use Rattle.bay_base.specs.Options.{◌>>=◌}
 use Rattle.bay_ber.specs.Content.{IsInteger, IsBits, IsTruth, BitString, integer_in, is_integer, signed_of, are_unused, bits_in, truth_in}
 use Rattle.bay_ber.specs.Spelling.{Spells}
 use Rattle.bay_ber.specs.Tags.{same_class, same_tag}
-use Rattle.bay_ber.specs.Values.{Part, value, SpellAll, values_in, only_one, value_in, one_or_two, one_or_two_in, at_most_five, few_in, all_of, each_in, is_known, known_in, under, integer_under}
+use Rattle.bay_ber.specs.Values.{Part, value, SpellAll, values_in, only_one, value_in, at_most_five, few_in, all_of, each_in, is_known, known_in, under, integer_under}
 use Rattle.bay_ber.proofs.ReadLemmas.{IsBytes}
 use Rattle.bay_ber.proofs.ContentLemmas.{integer-is, unused-yes, unused-is}
 pub use Rattle.bay_ber.proofs.ListingLemmas.{bind-some}
@@ -156,30 +156,6 @@ one-under tag octets content b e =
     let inner = under-bytes tag x.0 content one.1 x.2 in
     (subst (λ (p : Part). SpellAll octets (p ∷ [])) inner.0 one.0, inner.1)
 
--- a second value, where there is one
-abbrev pub listed : Option Part → List Part
-listed (Some part) = part ∷ []
-listed None = []
-
-two-is : (parts : List Part) (found : Part × Option Part) → one_or_two parts ≡ Some found
-    → parts ≡ found.0 ∷ listed found.1
-two-is (p ∷ []) found e =
-    let one : Part × Option Part = (p, None) in
-    subst (λ (x : Part × Option Part). p ∷ [] ≡ x.0 ∷ listed x.1) (same_Some one found e) refl
-two-is (p ∷ q ∷ []) found e =
-    let two : Part × Option Part = (p, Some q) in
-    subst (λ (x : Part × Option Part). p ∷ q ∷ [] ≡ x.0 ∷ listed x.1) (same_Some two found e) refl
-two-is parts found e = absurd cc
-
--- one value, or two
-pub two-back : (octets : List ℕ) (found : Part × Option Part) → IsBytes octets
-    → one_or_two_in octets ≡ Some found
-    → SpellAll octets (found.0 ∷ listed found.1) × AllBytes (found.0 ∷ listed found.1)
-two-back octets found b e =
-    let x = bind-some (values_in octets) one_or_two found e in
-    all-back octets (found.0 ∷ listed found.1) b
-    (x.1 ∙ ap (λ (ps : List Part). Some ps) (two-is x.0 found x.2))
-
 five-is : (parts few : List Part) → at_most_five parts ≡ Some few → parts ≡ few
 five-is parts few e = (cond_some (ltb (length parts) 6) parts few e).1
 
@@ -229,11 +205,6 @@ pub one-read : (octets : List ℕ) (part : Part) → SpellAll octets (part ∷ [
     → value_in octets ≡ Some part
 one-read octets part is =
     ap (λ (o : Option (List Part)). o >>= only_one) (values-again octets (part ∷ []) is)
-
-pub two-read : (octets : List ℕ) (parts : List Part) → SpellAll octets parts
-    → one_or_two_in octets ≡ one_or_two parts
-two-read octets parts is =
-    ap (λ (o : Option (List Part)). o >>= one_or_two) (values-again octets parts is)
 
 pub few-read : (octets : List ℕ) (parts : List Part) → SpellAll octets parts
     → few_in octets ≡ at_most_five parts
@@ -285,14 +256,3 @@ pub truth-again : (content : List ℕ) (b : Bool) → IsTruth content b → trut
 truth-again (octet ∷ []) false is = rw is refl
 truth-again (octet ∷ []) true is = rw (lt-ltb 0 octet is) refl
 truth-again content b is = absurd is
-
--- which of two a tag chooses
-pub by-tag : {A : Type 0} (tag : Tag) (part : Part) (x y z : A)
-    → cond (same_tag part.tag tag) x y ≡ z
-    → ((part ≡ value tag part.content) × (x ≡ z)) ⊎ ((same_tag part.tag tag ≡ false) × (y ≡ z))
-by-tag {A = A} tag part x y z e = pick (same_tag part.tag tag) refl e
-  where
-    pick : (b : Bool) → same_tag part.tag tag ≡ b → cond b x y ≡ z
-        → ((part ≡ value tag part.content) × (x ≡ z)) ⊎ ((same_tag part.tag tag ≡ false) × (y ≡ z))
-    pick true s f = inl (ap (λ (t : Tag). value t part.content) (tag-is part.tag tag s), f)
-    pick false s f = inr (s, f)
