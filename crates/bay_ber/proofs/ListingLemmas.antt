@@ -1,5 +1,5 @@
 -- The values that octets are, as a function and as a relation.
-use Rattle.std.proofs.Common.{◌≡◌, ℕ, zero, suc, ◌+◌, ◌<◌, ◌≤◌, true, false, eqb, ltb, List, [], ◌∷◌, ◌++◌, length, map, get_or, take, drop, Option, Some, None, option_map, Result, Ok, Err, refl, sym, ap, subst, ◌∙◌, append_assoc, arith, inl, inr}
+use Rattle.std.proofs.Common.{◌≡◌, ℕ, zero, suc, ◌+◌, ◌<◌, ◌≤◌, true, false, eqb, ltb, List, [], ◌∷◌, ◌++◌, length, map, get_or, take, drop, Option, Some, None, Result, Ok, Err, refl, sym, ap, subst, ◌∙◌, append_assoc, arith, inl, inr}
 use Rattle.std.proofs.lemmas.Option.{same_Some}
 use Rattle.std.proofs.lemmas.Bool.{lt-ltb, le-ltb, eqb-true}
 use Rattle.std.proofs.Math.ListN.{set}
@@ -11,7 +11,7 @@ use Rattle.bay_ber.specs.declared.tag.Tag.{Tag}
 use Rattle.bay_ber.specs.Reading.{Reading, class_of, is_constructed, low_bits, second_at, tag_at, length_at, tlv_at}
 use Rattle.bay_base.specs.Options.{◌>>=◌}
 use Rattle.bay_ber.specs.declared.values.Value.{Value}
-use Rattle.bay_ber.specs.Values.{Part, part_of, SpellAll, part_in, onto, with_front, values_within, values_in, only_one, value_in, one_or_two, one_or_two_in, at_most_five, few_in, all_of, each_in}
+use Rattle.bay_ber.specs.Values.{Part, part_of, SpellAll, part_in, onto, with_front, values_within, values_in, only_one, value_in, at_most_five, few_in, all_of, each_in}
 use Rattle.bay_ber.proofs.ReadLemmas.{IsBytes, bind-ok, chosen, ok-is, with_tag, with_length, length-takes, tlv-takes, tlv-again}
 
 -- ---- what is read leaves less
@@ -220,36 +220,6 @@ pub one-stop : (octets : List ℕ) (fault : BerFault) → tlv_at octets ≡ Err 
 one-stop [] fault e = ap (λ (o : Option (List Part)). o >>= only_one) no-values
 one-stop (octet ∷ octets) fault e =
     ap (λ (o : Option (List Part)). o >>= only_one)
-    (values-stop (octet ∷ octets) fault (λ (none : (octet ∷ octets) ≡ []). cc) e)
-
--- behind the first value stands no other, or one
-pub two-first : (octets : List ℕ) (r : Reading) → tlv_at octets ≡ Ok r → r.rest ≡ []
-    → one_or_two_in octets ≡ Some (part_in r, None)
-two-first octets r e none =
-    ap (λ (o : Option (List Part)). o >>= one_or_two)
-    (values-step octets r (tlv-some octets r e) e
-    ∙ ap (λ (xs : List ℕ). onto (part_in r ∷ []) (values_in xs)) none
-    ∙ ap (onto (part_in r ∷ [])) no-values)
-
-behind-first : (part : Part) (o : Option (List Part)) → (o ≡ Some [] → ⊥)
-    → (onto (part ∷ []) o >>= one_or_two) ≡ option_map (λ next. (part, Some next)) (o >>= only_one)
-behind-first part None some = refl
-behind-first part (Some []) some = absurd (some refl)
-behind-first part (Some (next ∷ [])) some = refl
-behind-first part (Some (next ∷ third ∷ later)) some = refl
-
-pub two-more : (octets : List ℕ) (r : Reading) → tlv_at octets ≡ Ok r → (r.rest ≡ [] → ⊥)
-    → one_or_two_in octets ≡ option_map (λ next. (part_in r, Some next)) (value_in r.rest)
-two-more octets r e more =
-    ap (λ (o : Option (List Part)). o >>= one_or_two)
-    (values-step octets r (tlv-some octets r e) e)
-    ∙ behind-first (part_in r) (values_in r.rest) (values-some r.rest (tlv_at r.rest) refl more)
-
-pub two-stop : (octets : List ℕ) (fault : BerFault) → tlv_at octets ≡ Err fault
-    → one_or_two_in octets ≡ None
-two-stop [] fault e = ap (λ (o : Option (List Part)). o >>= one_or_two) no-values
-two-stop (octet ∷ octets) fault e =
-    ap (λ (o : Option (List Part)). o >>= one_or_two)
     (values-stop (octet ∷ octets) fault (λ (none : (octet ∷ octets) ≡ []). cc) e)
 
 pub is-nothing : (octets : List ℕ) → true ≡ eqb (length octets) 0 → octets ≡ []

@@ -74,16 +74,6 @@ only_one parts = None
 abbrev pub value_in : List ℕ → Option Part
 value_in octets = values_in octets >>= only_one
 
--- the first of one value or two, and the other where there is one
-abbrev pub one_or_two : List Part → Option (Part × Option Part)
-one_or_two (part ∷ []) = Some (part, None)
-one_or_two (first ∷ second ∷ []) = Some (first, Some second)
-one_or_two parts = None
-
--- the one value or the two values that the octets are
-abbrev pub one_or_two_in : List ℕ → Option (Part × Option Part)
-one_or_two_in octets = values_in octets >>= one_or_two
-
 -- at most five values
 abbrev pub at_most_five : List Part → Option (List Part)
 at_most_five parts = if nat_lt (length parts) 6 then Some parts else None

@@ -1,7 +1,7 @@
 // Values one after another, and octets that are one value.
 ghost use Rattle.std.specs.Prelude.{◌≡◌, ◌+◌, ◌≤◌, [], ◌∷◌, ◌++◌, length, map, List, ℕ, IfSome, IfOk, IsSomeAnd, OnSome, IfNone, option_map};
 ghost use Rattle.bay_ber.specs.Spelling.{Spells};
-ghost use Rattle.bay_ber.specs.Values.{Part, part_of, Next, NextIn, value_in, few_in, one_or_two_in};
+ghost use Rattle.bay_ber.specs.Values.{Part, part_of, Next, NextIn, value_in, few_in};
 ghost use Rattle.bay_ber.specs.Values as spec;
 ghost use Rattle.bay_ber.specs.declared.tag.Tag.{Tag};
 
@@ -59,28 +59,6 @@ pub fn whole_value(octets: &[u8]) -> Option<Value<'_>>
             } else {
                 None
             }
-        }
-        Err(_) => None,
-    }
-}
-
-/// Reads octets that are exactly one or two values (X.690 8.9.2): the first, and the second if
-/// there is one. `None` if they are no values, or more than two.
-pub fn one_or_two(octets: &[u8]) -> Option<(Value<'_>, Option<Value<'_>>)>
-    ensures { option_map (λ found. (part_of found.0, option_map part_of found.1)) result
-        ≡ one_or_two_in octets.now }
-{
-    match read_tlv(octets) {
-        Ok(front) => {
-            let first = Value {
-                tag: front.tag,
-                content: front.content,
-            };
-            if front.rest.is_empty() {
-                return Some((first, None));
-            }
-            let second = whole_value(front.rest)?;
-            Some((first, Some(second)))
         }
         Err(_) => None,
     }
