@@ -20,11 +20,10 @@ STATUSES = {
     INTERRUPTED: 'it was interrupted'}
 # The statuses that each tool ends with, beside 130.
 OF_TOOLS = {'acceptance': (0, 1, 2, 3), 'asn1': (0, 2, 3), 'audit': (0, 1, 2, 3, 4),
-            'certify': (0, 1, 2, 3),
-            'client': (0, 1, 2, 3), 'diagnose': (0, 1, 2, 3), 'explain': (0, 1, 2, 3),
-            'figures': (0, 1, 2, 3), 'gpio': (0, 1, 2, 3), 'join': (0, 2, 3), 'log': (0, 2, 3),
-            'modbus': (0, 1, 2, 3), 'panel': (0, 2, 3), 'release': (0, 1, 2, 3), 'rules': (0, 1, 2, 3),
-            'scl': (0, 1, 2, 3),
+            'certify': (0, 1, 2, 3), 'client': (0, 1, 2, 3), 'diagnose': (0, 1, 2, 3),
+            'explain': (0, 1, 2, 3), 'figures': (0, 1, 2, 3), 'gpio': (0, 1, 2, 3),
+            'join': (0, 2, 3), 'log': (0, 2, 3), 'modbus': (0, 1, 2, 3), 'panel': (0, 2, 3),
+            'release': (0, 1, 2, 3), 'rules': (0, 1, 2, 3), 'scl': (0, 1, 2, 3),
             'simulate': (0, 1, 2, 3), 'station': (0, 2, 3), 'timeline': (0, 1, 2, 3),
             'trace': (0, 2, 3), 'trusted': (0, 1, 2, 3)}
 

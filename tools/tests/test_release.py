@@ -13,8 +13,8 @@ from releasing.package import laid_out, listed, moved, package
 from tests.tool import Tools
 from tracing.calls import CRATES
 from tracing.definitions import Definition
-from trusting.page import BEGIN, END, with_figures
-from trusting.report import axioms_in, libraries_in, verdict_in
+from trusting.tables import BEGIN, END, with_figures
+from trusting.checked import axioms_in, libraries_in, verdict_in
 from trusting.sizes import definitions, kind_of
 
 REPORT = '''statements bay_base: modules loaded=1 checked=2

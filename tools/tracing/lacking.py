@@ -42,8 +42,8 @@ NO_LAW = {
                                  'it, where the code goes over it once'}
 NO_EDIT = {
     '': 'an overflow, or a place past an end, is a goal of its own in each proof',
-    'bay_ber BerFault::code': 'each is one match with an arm for each fault; each refusal of the cases '
-                              'has its number',
+    'bay_ber BerFault::code': 'each is one match with an arm for each fault; each refusal of the '
+                              'cases has its number',
     'bay_main Ended::of': 'each method is one match with an arm for each answer; bayctl_cases has '
                           'each status',
     'bay_rules conditions_have_truths': 'it is about conditions as they are read; the edits of '

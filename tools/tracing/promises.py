@@ -212,6 +212,6 @@ def public_laws() -> list[Call]:
 
 
 def registered() -> dict[str, str]:
-    """What each id stands for, by the register: the first call that bears it, or that it is gone."""
+    """What each id stands for by the register: the first call that bears it, or that it is gone."""
     lines = REGISTER.read_text(encoding='utf-8').splitlines()
     return dict(it.split(' ', 1) for it in lines if it.startswith('P-'))

@@ -44,8 +44,8 @@ FIRST = {
     'No octets crash the device or change what the process told': 'P-134',
     'A request is read in one way': 'P-137'}
 LINES_A_MINUTE = 20
-LEAD = '''<p>For each promise of README, PROVED and SECURITY this page shows the clauses that carry it, the
-laws, the wrong bodies that the prover refuses, and the cases that show it. In a clause and in a
+LEAD = '''<p>For each promise of README, PROVED and SECURITY this page shows the clauses that carry it,
+the laws, the wrong bodies that the prover refuses, and the cases that show it. In a clause and in a
 definition the names are links to their definitions, which stand at the end of the page, or in their
 files.</p><ul>
 <li><b>Clauses.</b> What the prover has proved of the code of this call, for every argument.</li>
@@ -158,9 +158,9 @@ class Sheet:
             rows.append(f'<tr><td><a href="#{known}">{html.escape(words)}</a></td><td>{known}</td>'
                         f'<td>{counted(len(found), "definition")}, {counted(lines, "line")}</td>'
                         f'<td>{time_for(lines)}</td></tr>')
-        return ('<h2>What a buyer asks for</h2><table><tr><th>Promise</th><th>Id</th><th>It rests on'
-                f'</th><th>To understand it</th></tr>{"".join(rows)}</table><p class="quiet">What a '
-                'promise rests on is each definition that its clauses name, with those that these '
+        return ('<h2>What a buyer asks for</h2><table><tr><th>Promise</th><th>Id</th><th>It rests '
+                f'on</th><th>To understand it</th></tr>{"".join(rows)}</table><p class="quiet">What '
+                'a promise rests on is each definition that its clauses name, with those that these '
                 'name, and so on; all of them stand below. One who reads '
                 f'{LINES_A_MINUTE} lines of them a minute understands it in this time.</p>')
 
@@ -172,7 +172,8 @@ class Sheet:
         rows = []
         for call, labels in of_calls.items():
             serves = inner.served().get(call)
-            why = f'<a href="#{serves.id}">{serves.id}</a>' if serves else inline(inner.judged(call))
+            why = (f'<a href="#{serves.id}">{serves.id}</a>' if serves
+                   else inline(inner.judged(call)))
             rows.append(f'<tr><td>{call.crate}</td><td>{html.escape(call.title)} '
                         f'({self.source(call.path, call.line)})</td>'
                         f'<td>{html.escape(", ".join(labels))}</td><td>{why}</td></tr>')

@@ -10,8 +10,8 @@ from .promises import public_laws
 NAME = (r'X\.\d{3}|ISO \d{4}(?:-\d)?|RFC \d{4}|IEC 61131-3(?::2003)?|'
         r'(?:IEC )?61850-\d(?:-\d)?')
 CITED = re.compile(rf'({NAME})(?:[,:]? ((?:(?!{NAME})[^;)])*))?')
-CLAUSE = re.compile(r'tables? \d+|annex [A-Z]|\d+(?:\.\d+)+|\b\d{1,2}\b(?! octets)|[A-Z]\w*[A-Z]\w*|'
-                    r'\b[A-Z][a-z]+\b')
+CLAUSE = re.compile(r'tables? \d+|annex [A-Z]|\d+(?:\.\d+)+|\b\d{1,2}\b(?! octets)|'
+                    r'[A-Z]\w*[A-Z]\w*|\b[A-Z][a-z]+\b')
 OWN = 'of this repository alone'
 # Words of a sentence that begin like a name.
 NO_NAMES = {'It', 'The', 'A', 'In', 'Each', 'What'}

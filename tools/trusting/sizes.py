@@ -1,5 +1,5 @@
-"""How large that is on which the promises rest: definitions by kind, the kit's binaries, scripts and
-logic, and the statements of its libraries."""
+"""How large that is on which the promises rest: definitions by kind, the kit's binaries, scripts
+and logic, and the statements of its libraries."""
 import dataclasses
 import hashlib
 import pathlib
@@ -25,7 +25,7 @@ class Size:
 
 
 def kind_of(it: Definition) -> str:
-    """Whether a definition is a type, a proposition (it says that something is so) or a function."""
+    """Whether a definition is a type, a proposition (that something is so) or a function."""
     if re.search(r'\brecord\b|\bdata\b', it.text.partition(':')[0]):
         return 'types' if DATA.search(it.text) else 'propositions'
     signature = re.split(rf'\n(?:{re.escape(it.name)}\b)| = ', it.text, maxsplit=1)[0]

@@ -4,7 +4,7 @@ import pathlib
 from common.ending import Failed
 from measuring.stamps import stamp
 
-from .report import Axioms
+from .checked import Axioms
 from .sizes import Size, definitions, kit, lines_of, statements, sum_of
 
 BEGIN, END = '<!-- the figures of tools/trusted begin -->', '<!-- they end -->'
@@ -53,8 +53,8 @@ def of_libraries(folder: pathlib.Path, libraries: list[str]) -> list[str]:
     for it in libraries:
         more = statements(folder / 'rattle' / it)
         lines, clauses = lines + more[0], clauses + more[1]
-    return [row(f'statements of the {len(libraries)} libraries of the kit that the program is linked '
-                'with', f'{lines:,} lines of definitions, {clauses:,} clauses', '')]
+    return [row(f'statements of the {len(libraries)} libraries of the kit that the program is '
+                'linked with', f'{lines:,} lines of definitions, {clauses:,} clauses', '')]
 
 
 def figures(libraries: list[str], axioms: list[Axioms]) -> str:
