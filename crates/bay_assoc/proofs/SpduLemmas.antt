@@ -128,13 +128,14 @@ filter-units [] b = tt
 filter-units (u ∷ units) b =
     chosen-units (is_user u) u (filter is_user units) b.0 (filter-units units b.1)
 
--- what user data an SPDU hands on: one of a unit, which is no transfer, and any
+-- what user data an SPDU of a unit hands on; it is no transfer
 abbrev FramedBytes : Spdu → Type 0
 FramedBytes (connect user) = IsBytes user
 FramedBytes (finish (Some user)) = IsBytes user
 FramedBytes (transfer user) = ⊥
 FramedBytes s = ⊤
 
+-- what user data any SPDU hands on
 abbrev pub UserBytes : Spdu → Type 0
 UserBytes (transfer user) = IsBytes user
 UserBytes s = FramedBytes s

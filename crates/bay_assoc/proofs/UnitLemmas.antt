@@ -12,6 +12,7 @@ use Rattle.bay_assoc.specs.SessionReading.{then_user, with_user}
 
 -- ---- one unit
 
+-- Numbers that a test tells apart differ.
 pub differs : (a b : ℕ) → eqb a b ≡ false → a ≢ b
 differs a b s same =
     let yes = eq-eqb a b same in

@@ -6,7 +6,7 @@ ghost use Rattle.bay_assoc.specs.declared.hearing.Phase.{Phase};
 ghost use Rattle.bay_assoc.specs.Acse.{associate};
 ghost use Rattle.bay_assoc.specs.Hearing.{Hearing, verdict, hearing};
 ghost use Rattle.bay_assoc.specs.Presentation.{Carried, Connect, user_data, request};
-ghost use Rattle.bay_assoc.specs.Session.{Spdu, spdu};
+ghost use Rattle.bay_assoc.specs.Session.{Spdu, spdu, spdu_in};
 
 /// A TSDU has at most one meaning. What the layers spell is heard as exactly that, with the phase
 /// that follows; and what is heard is spelled that way.
@@ -23,8 +23,7 @@ pub fn one_hearing()
 /// Octets that spell an SPDU, user data, a request for a connection or a request for an association
 /// are read as that. So they are spelled in one way.
 pub fn one_spelling()
-    ensures spdu { (octets : List ℕ) (s : Spdu) → spdu.Spells octets s
-        → spdu.reads octets ≡ Some s }
+    ensures spdu { (octets : List ℕ) (s : Spdu) → spdu.Spells octets s → spdu_in octets ≡ Some s }
     ensures user { (octets : List ℕ) (c : Carried) → user_data.Spells octets c
         → user_data.reads octets ≡ Some c }
     ensures request { (octets : List ℕ) (c : Connect) → request.Spells octets c
@@ -36,7 +35,7 @@ pub fn one_spelling()
 /// Octets that are read as an SPDU, user data, a request for a connection or a request for an
 /// association spell it.
 pub fn read_is_spelled()
-    ensures spdu { (octets : List ℕ) (s : Spdu) → AreOctets octets → spdu.reads octets ≡ Some s
+    ensures spdu { (octets : List ℕ) (s : Spdu) → AreOctets octets → spdu_in octets ≡ Some s
         → spdu.Spells octets s }
     ensures user { (octets : List ℕ) (c : Carried) → AreOctets octets
         → user_data.reads octets ≡ Some c → user_data.Spells octets c }
