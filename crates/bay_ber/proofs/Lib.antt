@@ -1,6 +1,5 @@
 pub mod BackLemmas
 pub mod ContentLemmas
-pub mod EachLemmas
 pub mod FormLemmas
 pub mod JudgedLemmas
 pub mod KnownLemmas

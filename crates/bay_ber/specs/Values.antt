@@ -117,14 +117,3 @@ abbrev pub NextIn : List ℕ → Result (Option Value) BerFault → List ℕ →
 NextIn old (Ok None) new = values_in old ≡ Some []
 NextIn old (Ok (Some value)) new = values_in old ≡ onto (part_of value ∷ []) (values_in new)
 NextIn old (Err fault) new = values_in old ≡ None
-
--- a value that may be left out
-abbrev pub field : Tag → Option (List ℕ) → List Part
-field tag None = []
-field tag (Some content) = value tag content ∷ []
-
--- Each of the one list spells what stands at its place in the other.
-abbrev pub AreEach : {A B : Type 0} → (A → B → Type 0) → List A → List B → Type 0
-AreEach Is [] [] = Unit {0}
-AreEach Is (x ∷ xs) (y ∷ ys) = Is x y × AreEach Is xs ys
-AreEach Is xs ys = ⊥
