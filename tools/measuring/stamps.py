@@ -10,7 +10,7 @@ import subprocess
 import sys
 
 TOP = pathlib.Path(__file__).resolve().parent.parent.parent
-PAGES = ('bench/RESULTS.md', 'bench/AXIOMS.md', 'docs/SECURITY.md', 'docs/TRUSTED.md')
+PAGES = ('bench/RESULTS.md', 'docs/SECURITY.md', 'docs/TRUSTED.md')
 STAMP = re.compile(r'^Measured by `(?P<command>[^`]+)`\s+on\s+(?P<date>\d{4}-\d\d-\d\d)\s+at\s+'
                    r'commit\s+(?P<commit>[0-9a-f]{7,40})(?P<changed>\+?);\s+machine:\s+'
                    r'(?P<machine>[^;]+?);\s+kit:\s+(?P<kit>[^;]+?)\.$', re.M)

@@ -57,13 +57,18 @@ def of_libraries(folder: pathlib.Path, libraries: list[str]) -> list[str]:
                 'linked with', f'{lines:,} lines of definitions, {clauses:,} clauses', '')]
 
 
-def figures(libraries: list[str], axioms: list[Axioms]) -> str:
-    """The table of figures, under the line that says what measured it."""
+def of_program(libraries: list[str], axioms: list[Axioms]) -> list[str]:
+    """The rows of what the program is linked with."""
     reached = sum(len(it.reached) for it in axioms)
     declared = sum(it.declared for it in axioms)
-    rows = [*of_definitions(), *of_kit(kit()), *of_libraries(kit(), libraries),
+    return [*of_libraries(kit(), libraries),
             row('C functions that are assumed to do what they state', f'{reached} of {declared} '
                 'that the libraries declare', '')]
+
+
+def figures(more: list[str] | None = None) -> str:
+    """The table of figures, under the line that says what measured it."""
+    rows = [*of_definitions(), *of_kit(kit()), *(more or [])]
     return '\n'.join((stamp('tools/trusted'), '', row('What', 'Size', 'SHA-256 begins'),
                       '|---|---|---|', *rows))
 
