@@ -44,8 +44,8 @@ FIRST = {
     'No octets crash the device or change what the process told': 'P-134',
     'A request is read in one way': 'P-137'}
 LINES_A_MINUTE = 20
-LEAD = '''<p>For each promise of README, PROVED and SECURITY this page shows the clauses that carry it,
-the laws, the wrong bodies that the prover refuses, and the cases that show it. In a clause and in a
+LEAD = '''<p>For each promise of README, PROVED and SECURITY this page shows the clauses that carry
+it, the laws, the wrong bodies that the prover refuses, and the cases that show it. In a clause and in a
 definition the names are links to their definitions, which stand at the end of the page, or in their
 files.</p><ul>
 <li><b>Clauses.</b> What the prover has proved of the code of this call, for every argument.</li>
