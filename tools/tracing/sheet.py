@@ -45,8 +45,8 @@ FIRST = {
     'A request is read in one way': 'P-137'}
 LINES_A_MINUTE = 20
 LEAD = '''<p>For each promise of README, PROVED and SECURITY this page shows the clauses that carry
-it, the laws, the wrong bodies that the prover refuses, and the cases that show it. In a clause and in a
-definition the names are links to their definitions, which stand at the end of the page, or in their
+it, the laws, the wrong bodies that the prover refuses, and the cases that show it. In a clause and
+in a definition the names are links to their definitions, which stand at the end of the page, or in their
 files.</p><ul>
 <li><b>Clauses.</b> What the prover has proved of the code of this call, for every argument.</li>
 <li><b>Laws.</b> A law has no code: it says in other words what the definitions come to, and is
@@ -159,9 +159,9 @@ class Sheet:
                         f'<td>{counted(len(found), "definition")}, {counted(lines, "line")}</td>'
                         f'<td>{time_for(lines)}</td></tr>')
         return ('<h2>What a buyer asks for</h2><table><tr><th>Promise</th><th>Id</th><th>It rests '
-                f'on</th><th>To understand it</th></tr>{"".join(rows)}</table><p class="quiet">What '
-                'a promise rests on is each definition that its clauses name, with those that these '
-                'name, and so on; all of them stand below. One who reads '
+                f'on</th><th>To understand it</th></tr>{"".join(rows)}</table><p class="quiet">'
+                'What a promise rests on is each definition that its clauses name, with those that '
+                'these name, and so on; all of them stand below. One who reads '
                 f'{LINES_A_MINUTE} lines of them a minute understands it in this time.</p>')
 
     def inner(self) -> str:
