@@ -6,6 +6,8 @@ import unittest
 TOOLS = pathlib.Path(__file__).resolve().parent.parent
 sys.path.insert(0, str(TOOLS))
 from tests.tool import Tools, loaded
+from tracing.calls import calls_of
+from tracing.refusals import answers_in, kept
 
 CRATES = TOOLS.parent / 'crates'
 
@@ -62,6 +64,26 @@ class Copy(Tools):
         self.copied(['low'], True)
         (self.room / 'crates' / 'low' / 'src' / 'lib.rt').write_text('changed')
         self.assertEqual((self.crates / 'low' / 'src' / 'lib.rt').read_text(), 'src/lib.rt')
+
+
+class Answers(unittest.TestCase):
+    """What the prover says of an edit is kept with the call and the clause at which it stands."""
+
+    def test_a_log(self) -> None:
+        step = next(it for it in calls_of('bay_device') if it.title == 'Device::step')
+        clause = next(it for it in step.clauses if it.label == 'steps')
+        name = step.path.relative_to(CRATES / 'bay_device')
+        log = (f'must-fail bay_device/one.edit: refused, as it must be: {name}:{clause.line}:5: '
+               'error: a goal\nmust-fail bay_device/two.edit: refused, as it must be: '
+               'note: proofs/x/Answers.antt:3:1: none\n'
+               'must-fail bay_device/three.edit: NOT REFUSED\n')
+        found = {name: (it.call, it.clause, it.goal) for name, it in answers_in(log).items()}
+        self.assertEqual(found, {'bay_device/one': ('Device::step', 'steps', 'error: a goal'),
+                                 'bay_device/two': ('', '', 'none')})
+
+    def test_the_table_is_of_edits_that_are_there(self) -> None:
+        there = {f'{it.parent.parent.name}/{it.stem}' for it in CRATES.glob('*/*/*.edit')}
+        self.assertEqual(set(kept()) - there, set())
 
 
 class Edits(unittest.TestCase):

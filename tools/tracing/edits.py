@@ -4,6 +4,7 @@ import functools
 import pathlib
 import re
 
+from . import refusals
 from .calls import CRATES, Call, calls_of, crates
 from .definitions import Definition, Named, below, cited
 from .promises import Borne, public_laws
@@ -122,11 +123,16 @@ def laws_about(borne: Borne) -> list[Call]:
 
 
 def refused_of(borne: Borne) -> list[Edit]:
-    """The edits that change what a promise's calls lead to, the nearest first; of laws alone, what
-    they are about."""
+    """The edits that change what a promise's calls lead to: first those that break one of its
+    clauses, by the prover's last answer, then the nearest; of laws alone, what they are about."""
     beginnings = borne.code or [it for law in borne.laws for it in behind_law(law)]
     reached = reached_from(beginnings)
     concerned = {it.crate for it in beginnings}
     steps = {it: min((reached[call] for call in it.calls if call in reached), default=None)
              for crate in crates() if crate in concerned for it in edits_of(crate)}
-    return sorted((it for it in steps if steps[it] is not None), key=steps.get)
+    broken = {(call.title, clause.label or clause.kind)
+              for call in borne.calls for clause in borne.clauses(call)}
+    def order(it: Edit) -> tuple[bool, int]:
+        told = refusals.kept().get(f'{it.crate}/{it.path.stem}')
+        return told is None or (told.call, told.clause) not in broken, steps[it]
+    return sorted((it for it in steps if steps[it] is not None), key=order)

@@ -8,7 +8,7 @@ import subprocess
 
 from common.texts import counted
 
-from . import inner, lacking, shown, standards
+from . import inner, lacking, refusals, shown, standards
 from .calls import CRATES, TOP, Call, crates
 from .definitions import NAMED, Declared, Named, Scope, below, cited, scope_of, scope_of_call
 from .edits import Edit, laws_about, refused_of
@@ -121,8 +121,8 @@ class Sheet:
         changed = ', '.join(dict.fromkeys(call.title for call in it.calls))
         lines = '\n'.join(f'- {old}\n+ {new}' for old, new in it.changes)
         return (f'<details><summary>{html.escape(it.name)} <span class="quiet">(in '
-                f'{html.escape(changed)}{where}; {self.source(it.path, 1)})</span></summary>'
-                f'<pre>{html.escape(lines)}</pre></details>')
+                f'{html.escape(changed)}{where}; {self.source(it.path, 1)}; {breaks(it)})</span>'
+                f'</summary><pre>{html.escape(lines)}</pre></details>')
 
     def part(self, heading: str, found: list[str], why: str) -> str:
         """A part of a promise, or why there is none."""
@@ -259,6 +259,16 @@ class StandardSheet(Sheet):
             'stands under the clauses that the comment above it names, or else the head of its '
             f'file.</p><p class="quiet">Commit {commit()}.</p>', *body, '<h2>Definitions</h2>',
             *(self.crate(it, listed) for it in crates()), '</html>\n'))
+
+
+def breaks(edit: Edit) -> str:
+    """What a wrong body breaks, by the prover's last answer."""
+    told = refusals.kept().get(f'{edit.crate}/{edit.path.stem}')
+    if told is None:
+        return 'its answer is not kept yet'
+    at = f'{told.call}: {told.clause}' if told.clause else told.call
+    words = f'breaks {at}' if at else 'refused'
+    return html.escape(f'{words} ({told.commit}): {told.goal}')
 
 
 def closure(first: list[Named]) -> list[Named]:
