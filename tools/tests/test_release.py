@@ -14,7 +14,7 @@ from tests.tool import Tools
 from tracing.calls import CRATES
 from tracing.definitions import Definition
 from trusting.tables import BEGIN, END, with_figures
-from trusting.checked import axioms_in, libraries_in, verdict_in
+from trusting.checked import axioms_in, counts_in, libraries_in, verdict_in
 from trusting.sizes import definitions, kind_of
 
 REPORT = '''statements bay_base: modules loaded=1 checked=2
@@ -94,6 +94,8 @@ class Trusted(unittest.TestCase):
         self.assertEqual(libraries_in(REPORT, ['bay_base']), ['libc'])
         self.assertEqual([(it.library, it.declared, it.reached) for it in axioms_in(REPORT)],
                          [('libc', 3, ('libc::close', 'libc::read'))])
+        self.assertEqual(counts_in(REPORT), (2, 3))
+        self.assertEqual(counts_in('axioms os: os::a, os::b (2 of the 22 declared)\n'), (2, 22))
         self.assertTrue(verdict_in(REPORT).startswith('logic=proved'))
         self.assertEqual(verdict_in('logic=not-proved\n'), '')
         with self.assertRaises(ValueError):

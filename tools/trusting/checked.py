@@ -5,6 +5,9 @@ import re
 
 LIBRARY = re.compile(r'^statements (\w+): ', re.M)
 COUNTS = re.compile(r'^axioms (\w+): (\d+) reached of the (\d+) declared', re.M)
+# Without --list-axioms three names stand before the counts, or fewer.
+SHORT = re.compile(r'^axioms (\w+): .*\((\d+) of the (\d+) declared\)$', re.M)
+NONE = re.compile(r'^axioms (\w+): none reached of the (\d+) declared', re.M)
 REACHED = re.compile(r'^\s*(\w+::[\w:]+)\b.*\breached$', re.M)
 VERDICT = re.compile(r'^logic=proved\b.*$', re.M)
 
@@ -31,6 +34,13 @@ def axioms_in(report: str) -> list[Axioms]:
             raise ValueError(f'{library}: {len(of)} are named of {reached}')
         found.append(Axioms(library, int(declared), of))
     return found
+
+
+def counts_in(report: str) -> tuple[int, int]:
+    """How many C functions are reached, and how many the libraries declare."""
+    found = COUNTS.findall(report) + SHORT.findall(report)
+    unused = sum(int(it[1]) for it in NONE.findall(report))
+    return sum(int(it[1]) for it in found), sum(int(it[2]) for it in found) + unused
 
 
 def verdict_in(report: str) -> str:

@@ -57,10 +57,9 @@ def of_libraries(folder: pathlib.Path, libraries: list[str]) -> list[str]:
                 'linked with', f'{lines:,} lines of definitions, {clauses:,} clauses', '')]
 
 
-def of_program(libraries: list[str], axioms: list[Axioms]) -> list[str]:
+def of_program(libraries: list[str], counts: tuple[int, int]) -> list[str]:
     """The rows of what the program is linked with."""
-    reached = sum(len(it.reached) for it in axioms)
-    declared = sum(it.declared for it in axioms)
+    reached, declared = counts
     return [*of_libraries(kit(), libraries),
             row('C functions that are assumed to do what they state', f'{reached} of {declared} '
                 'that the libraries declare', '')]
