@@ -296,7 +296,7 @@ class Supervised(Simulations):
         file.close()
 
     def test_a_command_that_is_over(self):
-        file, run, _ = self.greeted(60_000)
+        file, run, _ = self.greeted(60_000, '--oldest', '60000')
         self.tell(file, '5000 command QA1 on', '5000 over QA1', '5000 over QX')
         self.waits_for('on\nnot carried out: its time is over')
         run.stdin.write(b'ES 1\n')
