@@ -14,6 +14,9 @@ from .calls import CRATES, Call, Clause, calls_of
 TABLE = pathlib.Path(__file__).with_name('refusals.json')
 ANSWER = re.compile(r'^(?:\S+ )?must-fail (\w+)/([\w.-]+)\.edit: refused, as it must be'
                     r'(?: \([^)]*\))?: (?:note: )?(?:\./)?(\S+?):(\d+):\d+: (.*)$', re.M)
+OF_CALLS = ('Answers', 'Invariants', 'Proof')
+# The prover names a goal by the way to it and the clause: `returns-in_err-answer-clause-after`.
+NAMED = re.compile(r'`[\w-]+-clause-(\w+)`')
 
 
 @dataclasses.dataclass(frozen=True)
@@ -28,8 +31,11 @@ class Refusal:
 
 
 def place_of(crate: str, file: str, line: int) -> tuple[Call | None, Clause | None]:
-    """The call, and of its clauses the one, at a line of a file of code."""
+    """The call, and of its clauses the one, at a line of a file of code; the call whose proof a
+    file of answers is of."""
     path = CRATES / crate / file
+    if path.stem in OF_CALLS:
+        return next((it for it in calls_of(crate) if it.name == path.parent.name), None), None
     call = next((it for it in calls_of(crate) if it.path == path and it.line <= line <= it.last),
                 None)
     clauses = [it for it in call.clauses if it.line <= line] if call else []
@@ -45,8 +51,10 @@ def answers_in(log: str) -> dict[str, Refusal]:
     found = {}
     for crate, edit, file, line, goal in ANSWER.findall(log):
         call, clause = place_of(crate, file, int(line))
+        named = NAMED.search(goal)
+        label = named[1] if call and named and named[1] in call.labels else ''
         found[f'{crate}/{edit}'] = Refusal(
-            call.title if call else '', (clause.label or clause.kind) if clause else '',
+            call.title if call else '', label or (clause and (clause.label or clause.kind)) or '',
             goal.strip(), commit, date)
     return found
 
