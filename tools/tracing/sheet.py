@@ -46,15 +46,15 @@ FIRST = {
 LINES_A_MINUTE = 20
 LEAD = '''<p>For each promise of README, PROVED and SECURITY this page shows the clauses that carry
 it, the laws, the wrong bodies that the prover refuses, and the cases that show it. In a clause and
-in a definition the names are links to their definitions, which stand at the end of the page, or in
-their files.</p><ul>
+in a definition the names are links to their definitions, which stand at the end of the
+page.</p><ul>
 <li><b>Clauses.</b> What the prover has proved of the code of this call, for every argument.</li>
 <li><b>Laws.</b> A law has no code: it says in other words what the definitions come to, and is
 proved for every value. A row that names no law has here those that cite a definition of it.</li>
 <li><b>Wrong bodies.</b> Each is a change of a function to which one of the calls leads (of a law
-alone, a call that cites one of its definitions), the nearest first, with which the proof fails:
-that of these clauses, or of another of the function. The gate tries some;
-<code>tools/wrong_bodies</code> tries the others.</li>
+alone, a call that cites one of its definitions), with which the proof fails: that of these clauses,
+or of another of the function. First stand those that break one of these clauses, then the nearest.
+The gate tries some; <code>tools/wrong_bodies</code> tries the others.</li>
 <li><b>Cases.</b> They are run in each gate.</li></ul>'''
 
 
