@@ -1,5 +1,5 @@
 // The classes of nodes (IEC 61850-7-4), and their names.
-ghost use Rattle.std.specs.Prelude.{◌≡◌, IfOk};
+ghost use Rattle.std.specs.Prelude.{◌≡◌, ◌++◌, IfOk};
 ghost use Rattle.bay_nodes.specs.Node as spec;
 
 use crate::switch::{Switch, SwitchKind};
@@ -49,4 +49,14 @@ pub fn node_name(alloc: Global, class: &str, number: usize) -> Result<Text, Allo
     ensures { IfOk result (λ name. name ≡ spec.node_name class.now number) }
 {
     Ok(Text::new(format!(in alloc; "{class}{number}")?))
+}
+
+/// Returns the name of the row at a path of a node: the node's name with the path behind it.
+pub fn row_name(alloc: Global, node: &str, path: &str) -> Result<Text, AllocError>
+    ensures { IfOk result (λ name. name ≡ node.now ++ path.now) }
+{
+    let mut name = String::with_capacity(alloc, node.len().saturating_add(path.len()))?;
+    name.push_str(node)?;
+    name.push_str(path)?;
+    Ok(Text::new(name))
 }

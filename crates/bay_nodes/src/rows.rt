@@ -8,7 +8,7 @@ ghost use Rattle.bay_nodes.specs.NodeRows.{line_row, under, table_rows, tabled_n
 ghost use Rattle.bay_nodes.specs.NodeRows as spec_node_rows;
 
 use crate::nameplate::Nameplate;
-use crate::names::{CONTROL, INTERLOCKING, METER, class_of, is_of, node_name};
+use crate::names::{CONTROL, INTERLOCKING, METER, class_of, is_of, node_name, row_name};
 use crate::switch::{Control, Switch, SwitchKind};
 use crate::tables as tables;
 use crate::tables::InitialValue;
@@ -57,11 +57,8 @@ fn push_row(
     ensures { IfOk result (λ _. rows.new.items
         ≡ rows.old.items ++ row (node.now ++ path.now) leaf ∷ []) }
 {
-    let name = format!(in alloc; "{node}{path}")?;
-    rows.push(Row {
-        name: Text::new(name),
-        leaf,
-    })?;
+    let name = row_name(alloc, node, path)?;
+    rows.push(Row { name, leaf })?;
     Ok(())
 }
 

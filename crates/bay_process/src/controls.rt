@@ -10,7 +10,7 @@ ghost use Rattle.bay_process.specs.Layout.{layout_of};
 ghost use Rattle.bay_process.specs.Nodes.{HasLeaf};
 ghost use Rattle.bay_process.specs.declared.controls.ControlRows as declared;
 
-use bay_nodes::names::{CONTROL, node_name};
+use bay_nodes::names::{CONTROL, node_name, row_name};
 use bay_nodes::paths::{CANCEL, OPERATE, SELECT, SELECT_WITH_VALUE, SELECTED};
 use bay_tree::tree::{Handle, Tree};
 use std::alloc::{AllocError, Global};
@@ -40,7 +40,7 @@ fn handle_at(
 ) -> Result<Option<Handle>, AllocError>
     ensures { IfOk result (λ handle. handle ≡ place_of tree.now (node.now ++ path.now)) }
 {
-    let name = format!(in alloc; "{node}{path}")?;
+    let name = row_name(alloc, node, path)?;
     match tree.find(name.as_str()) {
         Ok(handle) => Ok(Some(handle)),
         Err(_) => Ok(None),

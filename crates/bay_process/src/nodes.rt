@@ -9,6 +9,7 @@ use crate::rows::{StatusRows, SwitchRows};
 use bay_base::text::Text;
 use bay_config::bay::Bay;
 use bay_config::nodes::{control_name, interlocking_name, node_name};
+use bay_nodes::names::row_name;
 use bay_nodes::paths::{CLOSING, OPENING, OPERATIONS, POSITION, StatusPaths};
 use bay_tree::tree::{Handle, Tree};
 use std::alloc::{AllocError, Global};
@@ -68,7 +69,7 @@ fn handle_at(alloc: Global, tree: &Tree, node: &str, path: &str) -> Result<Handl
     requires { leaf_of (node.now ++ path.now) tree.now ≢ None }
     ensures { IfOk result (IsFound tree.now (node.now ++ path.now)) }
 {
-    let name = format!(in alloc; "{node}{path}")?;
+    let name = row_name(alloc, node, path)?;
     Ok(handle_of(tree, name.as_str()))
 }
 

@@ -5,7 +5,7 @@ use Rattle.std.proofs.Math.Seq.{map-set_same}
 use Rattle.std.proofs.lemmas.List.{drop-map, take-map, length-drop, drop_all, take_all, map-set, length-map, get_or-set_same, get_or-set_other}
 use Rattle.std.proofs.lemmas.Bool.{cases_eq}
 use Rattle.std.proofs.lemmas.Iterator.Adapters.{position_from-zero}
-use Rattle.std.specs.BTreeMap.{BTreeMap}
+use Rattle.std.specs.HashMap.{HashMap}
 use Rattle.std.specs.List.{position_from, position_or_len}
 use Rattle.std.specs.Str.{IsUtf8, bytes_eq}
 use Rattle.bay_tree.specs.declared.row.Row.{Row}
@@ -116,7 +116,7 @@ link-set link nodes place node k within same =
     (cases_eq k place)
 
 -- a new value leaves the links and the index good
-pub IsArena-set : {A : Type 0} (nodes : List Node) (index : BTreeMap (String A) ℕ) (place : ℕ)
+pub IsArena-set : {A S : Type 0} (nodes : List Node) (index : HashMap (String A) ℕ S) (place : ℕ)
     (node : Node) → place < length nodes → leaf_at (rows_of nodes) place ≢ None
     → node.name ≡ (node_at nodes place).name → node.below ≡ (node_at nodes place).below
     → node.beside ≡ (node_at nodes place).beside → IsArena nodes index

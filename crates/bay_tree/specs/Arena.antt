@@ -1,6 +1,6 @@
 -- What ties the nodes of the arena and the index of their names to the list of rows.
 use Rattle.std.specs.Prelude.{String, ◌≡◌, ℕ, ◌<◌, None, List, [], length, map, slice_index_or}
-use Rattle.std.specs.BTreeMap.{BTreeMap, get_by_text}
+use Rattle.std.specs.HashMap.{HashMap, get_by_text}
 use Rattle.std.specs.Str.{IsUtf8}
 use Rattle.bay_tree.specs.declared.row.Row.{Row}
 use Rattle.bay_tree.specs.declared.node.Node.{Node}
@@ -32,11 +32,11 @@ abbrev pub AreTexts : List Row → Type 0
 AreTexts rows = (k : ℕ) → k < length rows → IsUtf8 (name_at rows k)
 
 -- the index has the place of each name
-abbrev pub IsIndex : {A : Type 0} → List Row → BTreeMap (String A) ℕ → Type 0
+abbrev pub IsIndex : {A S : Type 0} → List Row → HashMap (String A) ℕ S → Type 0
 IsIndex rows index = (name : List ℕ) → get_by_text index name ≡ place_of rows name
 
 -- what the fields of a tree keep
-pub record IsArena {A : Type 0} (nodes : List Node) (index : BTreeMap (String A) ℕ) : Type 0 where
+pub record IsArena {A S : Type 0} (nodes : List Node) (index : HashMap (String A) ℕ S) : Type 0 where
   pub tree : IsTree (rows_of nodes)
   pub texts : AreTexts (rows_of nodes)
   pub linked : IsLinked (rows_of nodes) nodes

@@ -2,7 +2,7 @@ use Rattle.std.proofs.Common.{◌≡◌, ◌≢◌, ◌-◌, ◌<◌, Some, None
 use Rattle.std.proofs.lemmas.Bool.{cases_eq}
 use Rattle.std.proofs.lemmas.Iterator.Adapters.{position_from-zero}
 use Rattle.std.proofs.lemmas.List.{get_or_default}
-use Rattle.std.proofs.lemmas.Map.Text.{btree_map_updates_text}
+use Rattle.std.proofs.lemmas.Map.Text.{hash_map_updates_text}
 use Rattle.std.specs.List.{position_from}
 use Rattle.std.specs.Str.{IsUtf8, bytes_eq}
 use Rattle.bay_tree.specs.declared.row.Row.{Row}
@@ -23,7 +23,7 @@ loop-place-preserved c =
       places =
           λ name. index-put rows c.loop-place.place i name (string_bytes c.in_ok-from_str.field-0) _
           _ (omega arith) lt own
-          (btree_map_updates_text (string_bytes c.in_ok-from_str.field-0) c.loop-place.index
+          (hash_map_updates_text (string_bytes c.in_ok-from_str.field-0) c.loop-place.index
           c.insert.new.self (Some i) c.in_ok-insert.ensures.updates name)
           (c.loop-place.invariant.places name);
       texts = λ k le within. ⊎_elim
