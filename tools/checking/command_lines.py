@@ -62,6 +62,7 @@ def full() -> None:
     resource.setrlimit(resource.RLIMIT_FSIZE, (10, 10))
 
 
+# Shows P-112.
 def files(checks) -> None:
     """A write to a disk that is full leaves the file that was there, and nothing beside it."""
     with tempfile.TemporaryDirectory() as folder:
@@ -116,6 +117,7 @@ def closed(checks) -> None:
         shut.chmod(0o755)
 
 
+# Shows P-099, P-110, P-121.
 def ends(checks) -> None:
     """What the program prints, logs and ends with: a file that is not there, a refused load, a port
     that is taken, and an output that is full."""

@@ -93,6 +93,7 @@ def hands_follow(checks) -> None:
         checks.holds(f'{asked.name} without a line', count, 'no rule by hand is ever broken')
 
 
+# Shows P-066, P-067.
 def planted_faults_break(checks) -> None:
     """Each planted fault breaks a rule of the diagram for the releases that its line names."""
     count = 0

@@ -59,6 +59,7 @@ def asked(checks, of_bay: str, pdus: list[bytes], size: int = MOST) -> tuple[str
                      if got.kind == 'mms']
 
 
+# Shows P-095.
 def names(checks) -> None:
     """All names of the largest bay in the largest pages and in the smallest."""
     path, logic = checks.file('bay.toml', bay(32, 0, 8)), checks.file('logic.il', LOGIC)
@@ -82,6 +83,7 @@ def inputs(checks) -> None:
     checks.holds('a bay of many inputs wants memory', told.startswith('instructions='), told)
 
 
+# Shows P-092, P-093.
 def messages(checks) -> None:
     """The longest identity, and reads and writes of 32 variables in the smallest PDUs."""
     printed, pdus = asked(checks, bay(text='~' * 64), [mms.request_octets(1, 0x82)])
@@ -96,6 +98,7 @@ def messages(checks) -> None:
                  bool(pdus) and len(pdus[-1].data) == 32, printed)
 
 
+# Shows P-096.
 def controls(checks) -> None:
     """A select with value and its operate by the longest originator, with their report."""
     value = mms.control(True, ident=b'\xFF' * 64)
@@ -133,6 +136,7 @@ def compiled(checks, path, logic, out) -> str:
     return subprocess.run(words, capture_output=True, timeout=60).stdout.decode()
 
 
+# Shows P-017, P-040.
 def images(checks) -> None:
     """An image of nearly 65,535 octets is written, checked and served."""
     path = checks.file('bay.toml', bay())
@@ -150,6 +154,7 @@ def images(checks) -> None:
                  done.stdout.decode() == told and done.returncode == 0, repr(done.stdout))
 
 
+# Shows P-103, P-104.
 def texts(checks) -> None:
     """The longest scenario, one that is longer, and a long line of a trace."""
     begin = f'{bay()}%%\n{LOGIC}%%\n'.encode()

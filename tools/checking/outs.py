@@ -51,6 +51,7 @@ def is_written(place: Place, out: pathlib.Path, at: pathlib.Path, mode: int) -> 
     return '' if is_image and found == mode and not left else f'{is_image} {found:o} {left}'
 
 
+# Shows P-112.
 def replaced(checks, place: Place) -> None:
     """Files of some modes, nothing, and links to them."""
     umask = os.umask(0o027)
@@ -93,6 +94,7 @@ def special(place: Place) -> list[pathlib.Path]:
     return names
 
 
+# Shows P-112.
 def refused(checks, place: Place) -> None:
     """Folders, pipes, sockets, devices, links to them, and a link that leads nowhere."""
     for at in special(place):

@@ -65,6 +65,7 @@ def told_of(proofs: list, rules: list) -> str:
                      for kind, it in kinds)
 
 
+# Shows P-066, P-069.
 def faults_are_found(checks) -> None:
     """Each fault breaks the rules that its line says, and no other."""
     for path in sorted(EXAMPLES.glob('*/faults')):

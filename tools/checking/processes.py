@@ -44,6 +44,7 @@ COUNTS = ('XCBR1$ST$OpCnt$stVal', 'XSWI1$ST$OpCnt$stVal')
 BAD = '11'
 
 
+# Shows P-115.
 def gone(checks) -> None:
     """A process tells of inputs and goes, and another comes that tells of a contact alone."""
     bay, logic = checks.file('bay.toml', BAY), checks.file('logic.il', LOGIC)
@@ -82,6 +83,7 @@ def news(server: Server) -> list[str]:
     return re.findall(r'(?m)^\d+ (process .*)$', server.printed())
 
 
+# Shows P-113, P-115.
 def waited(checks) -> None:
     """While a process is served three others come and go: one says nothing, one half a line, and
     one a line. Then the first one goes."""
@@ -120,6 +122,7 @@ def lines_of(process: socket.socket, count: int) -> list[str]:
     return octets.decode().splitlines()
 
 
+# Shows P-116.
 def told(checks) -> None:
     """A process is told all releases at first, and then each change; and none without the
     option."""

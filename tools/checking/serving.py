@@ -109,6 +109,7 @@ def is_served(client) -> bool:
         return False
 
 
+# Shows P-128.
 def clients(checks) -> None:
     """A client that hangs up is told, and its number is the next one's."""
     with Server(checks.bayctl, BAY, LOGIC) as server:
@@ -121,6 +122,7 @@ def clients(checks) -> None:
                      f'number {number!r}, {server.printed()!r}')
 
 
+# Shows P-122.
 def eight(checks) -> None:
     """Eight clients are served; a ninth waits until one of them goes."""
     with Server(checks.bayctl, BAY, LOGIC) as server, contextlib.ExitStack() as kept:
@@ -148,6 +150,7 @@ def heard(one: socket.socket, seconds: float) -> bytes:
         return b''
 
 
+# Shows P-121.
 def moments(checks) -> None:
     """A trace is done beside a process, at the moments of the system's clock."""
     with Server(checks.bayctl, BAY, LOGIC, '--trace', TRACE, with_process=True) as server:
@@ -175,6 +178,7 @@ def values(client) -> list:
     return [value(client, f'MMXU1$MX$A$phs{phase}$cVal$mag$i') for phase in 'AB']
 
 
+# Shows P-121.
 def turns(checks) -> None:
     """An idle server takes its turns: a hundred of them within two seconds, and not at once."""
     words = [checks.bayctl, 'serve', '--bay', BAY, '--logic', LOGIC, '--turns', '100', '--port']
@@ -190,6 +194,7 @@ def turns(checks) -> None:
                  f'100 turns take {least:.2f} s')
 
 
+# Shows P-126.
 def pieces(checks) -> None:
     """What comes at once is read in pieces of 4,096 octets, without a rest between them."""
     with Server(checks.bayctl, BAY, LOGIC) as server:
@@ -233,6 +238,7 @@ def refused(process: socket.socket) -> None:
     process.recv(100)
 
 
+# Shows P-130, P-131.
 def rests(checks) -> None:
     """Neither a process that has nothing to say nor a client that reads nothing keeps the server
     busy."""

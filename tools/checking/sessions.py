@@ -93,6 +93,7 @@ def sessions(checks) -> None:
     same_bays(checks)
 
 
+# Shows P-133.
 def another_bay(checks, server) -> None:
     """Nothing is operated with the file of another bay: its first two switches changed places."""
     head, one, two, *rest = re.split(r'(?m)^(?=\[\[)', BAY.read_text())

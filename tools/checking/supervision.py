@@ -167,6 +167,7 @@ def cause_of(client, switch: str) -> int | None:
     return None if control.operate(True).is_good else client.cause
 
 
+# Shows P-117, P-133.
 def frozen(checks) -> None:
     """A process freezes just before an operate, for three seconds."""
     with supervised(checks) as (server, client):
@@ -199,6 +200,7 @@ def frozen(checks) -> None:
                          f'{is_given}, {gear.printed()}')
 
 
+# Shows P-114, P-117.
 def waited(checks) -> None:
     """While a process is served two others wait: one says open and dies, one has sent 4,000 lines.
     Both are of this bay, and their lines are old when their turn comes."""
@@ -223,6 +225,7 @@ def waited(checks) -> None:
                      and positions(client) == (BAD, BAD), f'{counts(client)} {positions(client)}')
 
 
+# Shows P-117.
 def strangers(checks) -> None:
     """Processes of another bay, without a first line, with another key, or a part of it."""
     key = checks.file('key', KEY + '\n')
@@ -248,6 +251,7 @@ def strangers(checks) -> None:
                              becomes(lambda: positions(client)[0] == OPEN), server.printed())
 
 
+# Shows P-117.
 def untimely(checks) -> None:
     """Lines whose times are too far away, and one whose is not."""
     with supervised(checks) as (server, client):
@@ -266,6 +270,7 @@ def untimely(checks) -> None:
                          becomes(lambda: positions(client)[0] == OPEN), server.printed())
 
 
+# Shows P-117.
 def silent(checks) -> None:
     """Processes that say nothing, or half a line, behind their first one."""
     with supervised(checks) as (server, client):
@@ -307,6 +312,7 @@ def idle(checks) -> None:
         checks.holds('an answer to alive is printed', 'alive' not in server.printed(), 'it is')
 
 
+# Shows P-112.
 def keys(checks) -> None:
     """A key file that others may read, and files that hold no key."""
     bay, logic = files_of(checks)
@@ -325,6 +331,7 @@ def keys(checks) -> None:
                      done.returncode == 3 and 'fault 121' in done.stdout, f'{name}: {done}')
 
 
+# Shows P-111.
 def refused_words(checks) -> None:
     """Words of a server that make no sense together, and limits that are none."""
     words = ['serve', '--bay', 'b', '--logic', 'l', '--port', '7', '--turns', '0']
@@ -340,6 +347,7 @@ def refused_words(checks) -> None:
                      and done.stderr.startswith('error: '), f'{more}: {done}')
 
 
+# Shows P-121.
 def steps(checks) -> None:
     """The system's clock steps while a switch is selected: no moment does, and nothing ends."""
     library = next((it for way in FAKETIME for it in sorted(glob.glob(way))), None)

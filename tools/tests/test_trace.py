@@ -173,13 +173,15 @@ class Promises(unittest.TestCase):
 
     def test_each_row_has_a_case_or_a_reason(self):
         for it in promises():
-            borne = borne_by(it)
-            self.assertNotEqual(bool(shown.cases_of(borne)), bool(shown.no_cases(borne)),
-                                told_of(it))
+            self.assertNotEqual(bool(shown.cases_of(it)), bool(shown.no_cases(it)), told_of(it))
 
-    def test_each_place_of_cases_is_there(self):
-        for name in (name for names in shown.CASES.values() for name in names):
-            self.assertTrue(shown.place_of(name), name)
+    def test_each_case_shows_a_promise_that_there_is(self):
+        known = {it.id for it in promises()}
+        self.assertEqual((set(shown.all_places()) | set(shown.NONE)) - known, set())
+
+    def test_each_place_of_cases_says_what_it_is(self):
+        for place in (it for found in shown.all_places().values() for it in found):
+            self.assertNotEqual(place.name.partition(': ')[2], '', f'{place.path}:{place.line}')
 
     def test_each_edit_of_the_gate_changes_a_function(self):
         for it in (it for crate in crates() for it in edits_of(crate) if it.is_in_gate):

@@ -135,7 +135,7 @@ class Sheet:
         laws = [self.contract(law, borne) for law in self.laws[it]]
         edits = [self.edit(edit) for edit in refused_of(borne)]
         cases = ', '.join(f'{case.name} ({self.source(case.path, case.line)})'
-                          for case in shown.cases_of(borne))
+                          for case in shown.cases_of(it))
         return ''.join((
             f'<div class="promise"{mark(it)}><p>{inline(titled(it))}</p>'
             f'<p class="quiet">By: {inline(it.by)} '
@@ -145,7 +145,7 @@ class Sheet:
             self.part('Laws' if borne.laws else 'Laws about the same definitions', laws,
                       lacking.reason(lacking.NO_LAW, it)),
             self.part('Wrong bodies', edits, lacking.reason(lacking.NO_EDIT, it)),
-            self.part('Cases', [f'<p>{cases}</p>'] if cases else [], shown.no_cases(borne)),
+            self.part('Cases', [f'<p>{cases}</p>'] if cases else [], shown.no_cases(it)),
             '</div>'))
 
     def first(self) -> str:
@@ -239,9 +239,9 @@ class StandardSheet(Sheet):
         laws = dict.fromkeys(law for it in found for law in standards.laws_of(it))
         told = ', '.join(f'{html.escape(it.title)} ({self.source(it.path, it.line)})'
                          for it in laws)
-        cases = dict.fromkeys(name for it in found for name in shown.CASES.get(it.crate, ()))
+        cases = dict.fromkeys(name for it in found for name in shown.shown_of(it.crate))
         return (f'<tr><td>{html.escape(clause)}</td><td>{names}</td><td>{told or "none"}</td>'
-                f'<td>{html.escape(", ".join(cases)) or "none"}</td></tr>')
+                f'<td>{", ".join(cases) or "none"}</td></tr>')
 
     def page(self) -> str:
         """The whole page."""
@@ -249,7 +249,7 @@ class StandardSheet(Sheet):
         for (standard, clause), found in standards.by_clause().items():
             tables.setdefault(standard, []).append(self.clause(clause, found))
         body = [f'<h2>{html.escape(standard)}</h2><table><tr><th>Clause</th><th>Definitions</th>'
-                f'<th>Laws that cite them</th><th>Cases</th></tr>{"".join(rows)}</table>'
+                f'<th>Laws that cite them</th><th>Promises with cases</th></tr>{"".join(rows)}</table>'
                 for standard, rows in tables.items()]
         listed = sorted(self.listed, key=lambda it: (it.crate, it.name))
         return ''.join((

@@ -1,88 +1,82 @@
-"""The cases that show what a crate promises: sections of the programs of cases, and tests."""
+"""The cases that show a promise: what is behind a line `Shows P-001, P-002.` in the programs of
+cases, the tests and the checks of the built program."""
 import dataclasses
 import functools
 import pathlib
 import re
 
-from .calls import CRATES
-from .promises import Borne
+from .calls import CRATES, TOP
+from .promises import Promise, borne_by, promises
 
-REPORTS, AUDITS = 'bayctl_cases report', 'bayctl_cases run 4 audit'
-CASES = {
-    'bay_assoc': ('layer_cases association', 'bayctl_cases hostile'),
-    'bay_audit': (AUDITS,),
-    'bay_auditing': (AUDITS,),
-    'bay_base': ('layer_cases texts',),
-    'bay_ber': ('layer_cases ber',),
-    'bay_config': ('layer_cases bay', 'layer_cases rows', 'bayctl_cases bays'),
-    'bay_connection': ('bayctl_cases fronts', 'bayctl_cases hostile'),
-    'bay_control': ('layer_cases controls',),
-    'bay_device': (REPORTS, 'bayctl_cases eight', 'bay_tests device'),
-    'bay_files': ('bayctl_cases holds', 'bayctl_cases gone'),
-    'bay_initiate': ('layer_cases association', 'layer_cases requests'),
-    'bay_io': ('bay_tests replay',),
-    'bay_lines': ('bay_tests serve',),
-    'bay_main': ('bayctl_cases run', 'bay_tests serve'),
-    'bay_mms': ('layer_cases requests', 'layer_cases tree'),
-    'bay_nodes': ('layer_cases rows',),
-    'bay_output': ('bay_tests output',),
-    'bay_port': ('bay_tests serve',),
-    'bay_process': (REPORTS,),
-    'bay_replay': (REPORTS, 'bay_tests replay'),
-    'bay_report': (REPORTS, 'bayctl_cases run'),
-    'bay_report_laws': (REPORTS,),
-    'bay_rules': ('bayctl_cases run 1 audit',),
-    'bay_serve': ('bay_tests serve', 'bay_tests turns'),
-    'bay_serve_laws': ('bay_tests serve', 'bay_tests turns'),
-    'bay_services': (REPORTS,),
-    'bay_serving': ('bayctl_cases run', 'bay_tests serve'),
-    'bay_serving_files': ('bayctl_cases run', 'bay_tests serve'),
-    'bay_trace': (REPORTS,),
-    'bay_transport': ('layer_cases transport', 'bayctl_cases hostile'),
-    'bay_tree': ('layer_cases tree',),
-    'bay_words': ('bayctl_cases jobs',),
-    'il_check': ('layer_cases programs',),
-    'il_compile': ('layer_cases programs',),
-    'il_image': ('layer_cases programs', 'bay_tests image'),
-    'il_compile_laws': ('layer_cases programs',),
-    'il_laws': ('layer_cases programs',),
-    'il_range': (AUDITS,),
-    'il_scan': ('layer_cases programs',),
-    'il_text': ('layer_cases texts',),
-    'il_verify': ('layer_cases programs',)}
-NO_CASES = {'bay_audit_laws': 'no program of cases calls it',
-            'bay_rule_laws': 'no program of cases calls it'}
+PLACES = ('crates/layer_cases/stdin', 'crates/bayctl_cases/stdin', 'crates/bay_tests/src/*.rt',
+          'tools/checking/*.py', 'bench/speed/allocations', 'bench/trials/faults')
+SHOWS = re.compile(r'^(?:#|//|== note) Shows (P-\d{3}(?:, P-\d{3})*)\.$')
+TITLE = re.compile(r'^(?:# (?!Shows )|== note (?!Shows )|== (?=report|eight|hostile|bay'
+                   r'|tree|controls)|def |fn )(.*)$')
+NONE = {
+    'P-011': 'each run of each case shows it: none prints two commands of an event',
+    'P-037': 'no case can: nothing else makes a typed program',
+    'P-054': 'no case can: the verifier lets no such program pass',
+    'P-068': 'no program of cases calls it',
+    'P-071': 'no case can: it speaks of every run',
+    'P-082': 'each session of octets shows it'}
 
 
 @dataclasses.dataclass(frozen=True)
 class Place:
-    """Where cases stand: a file, and the first line of them."""
+    """Where cases stand: the file, its line, and what is said of them there."""
     name: str
     path: pathlib.Path
     line: int
 
 
+def title_of(lines: list[str], number: int, is_case: bool) -> str:
+    """What is said of the cases whose promises stand in a line: of cases the last words before it,
+    or else, as of a test, the next name behind it."""
+    before = TITLE.match(lines[number - 1]) if is_case and number else None
+    behind = (it for it in map(TITLE.match, lines[number + 1:]) if it)
+    found = before or next(behind, None)
+    return re.sub(r'\(.*', '', found[1]).strip() if found else ''
+
+
+def places_in(path: pathlib.Path) -> list[tuple[str, Place]]:
+    """The promises that a file's cases show, each with its place."""
+    lines, found = path.read_text(encoding='utf-8').split('\n'), []
+    is_case = path.name == 'stdin'
+    crate = path.relative_to(CRATES).parts[0] if CRATES in path.parents else ''
+    for number, line in enumerate(lines):
+        shows = SHOWS.match(line)
+        if shows:
+            told = title_of(lines, number, is_case)
+            name = f'{crate or path.stem}: {told}'
+            found += [(it, Place(name, path, number + 1)) for it in shows[1].split(', ')]
+    return found
+
+
 @functools.cache
-def place_of(name: str) -> Place | None:
-    """Where the cases of a name stand: a crate with a section's head, or with a module of tests."""
-    crate, _, part = name.partition(' ')
-    cases, module = CRATES / crate / 'stdin', CRATES / crate / 'src' / f'{part}.rt'
-    if not cases.exists():
-        return Place(name, module, 1) if module.exists() else None
-    head = re.search(rf'^== {part}\b', cases.read_text(encoding='utf-8'), re.M)
-    return Place(name, cases, head.string.count('\n', 0, head.start()) + 1) if head else None
+def all_places() -> dict[str, list[Place]]:
+    """The places of the cases of each promise, by its id."""
+    found: dict[str, list[Place]] = {}
+    for pattern in PLACES:
+        for path in sorted(TOP.glob(pattern)):
+            for known, place in places_in(path):
+                found.setdefault(known, []).append(place)
+    return found
 
 
-def cases_of(borne: Borne) -> list[Place]:
-    """The cases of what bears a promise."""
-    crates = dict.fromkeys(it.crate for it in borne.calls)
-    names = dict.fromkeys(name for crate in crates for name in CASES.get(crate, ()))
-    return [place for name in names if (place := place_of(name))]
+def cases_of(promise: Promise) -> list[Place]:
+    """The cases that show a promise."""
+    return all_places().get(promise.id, [])
 
 
-def no_cases(borne: Borne) -> str:
+def no_cases(promise: Promise) -> str:
     """Why there are none, or an empty text."""
-    if not borne.calls:
-        return 'each run of each case shows it'
-    found = dict.fromkeys(NO_CASES.get(it.crate, '') for it in borne.calls)
-    return '' if cases_of(borne) else '; '.join(it for it in found if it)
+    return NONE.get(promise.id, '') if promise.id else 'the rows of PROVED that this one sums up ' \
+        'have them'
+
+
+@functools.cache
+def shown_of(crate: str) -> list[str]:
+    """The promises of a crate's calls that cases show, by their ids."""
+    return [it.id for it in promises() if cases_of(it)
+            and any(call.crate == crate for call in borne_by(it).calls)]

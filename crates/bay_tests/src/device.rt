@@ -132,6 +132,7 @@ fn check_run(rt: &impl Abort, alloc: Global, device: &mut Device) -> Result<(), 
     Ok(())
 }
 
+// Shows P-014, P-019, P-025.
 #[test]
 fn a_device_of_a_text(rt: HostRuntime) -> Result<(), Fail> {
     match load(rt.alloc(), BAY, LOGIC) {
@@ -144,6 +145,7 @@ fn a_device_of_a_text(rt: HostRuntime) -> Result<(), Fail> {
 }
 
 // A device of an image in version 1 gives its image in version 2.
+// Shows P-018, P-019.
 #[test]
 fn a_device_of_an_image(rt: HostRuntime) -> Result<(), Fail> {
     let first = octets_of(rt.alloc(), &[IMAGE[0], "01", IMAGE[1]])?;
@@ -200,6 +202,7 @@ fn loaded_in(alloc: Global, bay: &Bay, octets: &mut [u8]) -> usize {
 
 // Three names of another point, the other version, and changes of the code: 14, and in version 2
 // one more, to a PUSHL. In version 1 also 1 to 64 timers, of which nothing follows their number.
+// Shows P-018, P-061, P-138.
 #[test]
 fn changed_images(rt: HostRuntime) -> Result<(), Fail> {
     let bay = read_bay(rt.alloc(), session::BAY)?;
@@ -211,6 +214,7 @@ fn changed_images(rt: HostRuntime) -> Result<(), Fail> {
     Ok(())
 }
 
+// Shows P-139.
 #[test]
 fn messages(rt: HostRuntime) -> Result<(), Fail> {
     let found = format!(in rt.alloc();

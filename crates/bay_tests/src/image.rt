@@ -112,6 +112,7 @@ const RESULTS: [(ArithmeticOperation, Width, i64, i64, i64); 14] = [
 ];
 
 // Each instruction is written as its octets, which are read as it between a DROP and a HALT.
+// Shows P-050.
 #[test]
 fn instructions(rt: HostRuntime) -> Result<(), Fail> {
     for (octets, instr) in INSTRS.iter() {
@@ -128,6 +129,7 @@ fn instructions(rt: HostRuntime) -> Result<(), Fail> {
     Ok(())
 }
 
+// Shows P-048.
 #[test]
 fn arithmetic(rt: HostRuntime) {
     for (operation, width, first, second, result) in RESULTS.iter() {

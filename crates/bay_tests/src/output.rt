@@ -33,6 +33,7 @@ const PIECE: [u8; 65_536] = [b'a'; 65_536];
 
 // A queue that is full refuses what is printed, and gives all that it took. Lines of a log that
 // nobody reads are lost and counted.
+// Shows P-102.
 #[test]
 fn readers_that_wait(rt: HostRuntime) -> Result<(), Fail> {
     let (is_open, taken) = (Cell::new(false), RefCell::new(Vec::new(rt.alloc())));

@@ -141,6 +141,7 @@ fn check_each(rt: &impl Abort, alloc: Global, scenario: &[u8], most: usize) {
 }
 
 // Calls that move one octet, a few, or all.
+// Shows P-098, P-100, P-101, P-103.
 #[test]
 fn each_call_may_fail(rt: HostRuntime) -> Result<(), Fail> {
     let scenario = format!(in rt.alloc();

@@ -93,6 +93,7 @@ fn waited(rt: &HostRuntime, readiness: &mut Readiness, most: u64) -> io::Result<
 // A wait ends where a socket is ready, and not before. A client that is silent for ten seconds from
 // its start on fails, and none behind its first octet. What the system does not take is not told as
 // sent, and the end of one client is no other's.
+// Shows P-126.
 #[test]
 fn clients_of_a_link(rt: HostRuntime) -> Result<(), Fail> {
     let clock = SetClock {
@@ -134,6 +135,7 @@ fn clients_of_a_link(rt: HostRuntime) -> Result<(), Fail> {
     Ok(())
 }
 
+// Shows P-122.
 #[test]
 fn a_client_and_the_server_in_turn(rt: HostRuntime) -> Result<(), Fail> {
     let mut readiness = Readiness::new(&rt, rt.alloc())?;

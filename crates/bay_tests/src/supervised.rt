@@ -146,6 +146,7 @@ const ROWS: [Row; 10] = [
     },
 ];
 
+// Shows P-117, P-133.
 #[test]
 fn rules_over_memory(rt: HostRuntime) -> Result<(), Fail> {
     for row in ROWS.iter() {

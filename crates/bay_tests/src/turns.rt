@@ -83,6 +83,7 @@ const ASKING: [Asking; 3] = [
     },
 ];
 
+// Shows P-122, P-125, P-126.
 #[test]
 fn clients_are_answered_and_closed(rt: HostRuntime) -> Result<(), Fail> {
     let whole = octets_of(rt.alloc(), &[CONFIRM, CONNECTED, IDENTITY])?;
@@ -126,6 +127,7 @@ fn failed_call(rt: &impl Abort, alloc: Global, fails_at: u64) -> Result<u64, Fai
     Ok(calls)
 }
 
+// Shows P-127, P-129.
 #[test]
 fn each_call_may_fail(rt: HostRuntime) -> Result<(), Fail> {
     for fails_at in 1..=failed_call(&rt, rt.alloc(), 0)? {

@@ -11,7 +11,7 @@ use std::alloc::{AllocError, Global};
 
 // The version of the program, of its formats and of its fault numbers. CHANGELOG.md lists the
 // changes of each version.
-const VERSION: &str = "1.4.1";
+const VERSION: &str = "1.4.2";
 
 // What stands below the options of a command with a program.
 const WANTED: &str = "Exactly one of --logic and --image is wanted.";
