@@ -19,7 +19,8 @@ NONE = {
     'P-054': 'no case can: the verifier lets no such program pass',
     'P-068': 'no program of cases calls it',
     'P-071': 'no case can: it speaks of every run',
-    'P-082': 'each session of octets shows it'}
+    'P-082': 'each session of octets shows it',
+    'P-140': 'it speaks of definitions, on runs of its own'}
 
 
 @dataclasses.dataclass(frozen=True)

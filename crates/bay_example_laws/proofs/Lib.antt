@@ -1,0 +1,4 @@
+pub mod BackingLemmas
+pub mod CommandLemmas
+pub mod ScanLemmas
+pub mod SplitLemmas

@@ -1,0 +1,20 @@
+use Rattle.bay_example_laws.proofs.BackingLemmas.{own-backs, over-backs-none, nothing-backs, another-backs-none, cancelled-backs-none, used-backs-none}
+use Rattle.bay_example_laws.proofs.laws.a_select_backs_its_own_operate.Goals as goal
+
+pub returns-clause-backed : goal.returns-clause-backed
+returns-clause-backed l = own-backs
+
+pub returns-clause-over : goal.returns-clause-over
+returns-clause-over l = over-backs-none
+
+pub returns-clause-missing : goal.returns-clause-missing
+returns-clause-missing l = nothing-backs
+
+pub returns-clause-of_another : goal.returns-clause-of_another
+returns-clause-of_another l = another-backs-none
+
+pub returns-clause-cancelled : goal.returns-clause-cancelled
+returns-clause-cancelled l = cancelled-backs-none
+
+pub returns-clause-used : goal.returns-clause-used
+returns-clause-used l = used-backs-none

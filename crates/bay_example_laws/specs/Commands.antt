@@ -1,0 +1,39 @@
+-- A device that has just released switch 0 to open, and what is told of a command to open it.
+use Rattle.std.specs.Prelude.{◌≡◌, ◌≢◌, true, false, [], ◌∷◌, None, Some}
+use Rattle.bay_tree.specs.declared.leaf.Leaf.TheVariants as leaf
+use Rattle.bay_nodes.specs.Names.{opening_of}
+use Rattle.bay_nodes.specs.declared.switch.Control.TheVariants.{Direct}
+use Rattle.bay_nodes.specs.declared.switch.Operation.TheVariants.{Open}
+use Rattle.bay_services.specs.declared.answer.Command.{Command}
+use Rattle.bay_device.specs.Device.{State}
+use Rattle.bay_device.specs.declared.event.Step.{Step}
+
+-- switch 0 is told to open
+abbrev pub opens : Command
+opens = record { switch = 0; operation = Open }
+
+-- the step tells this alone, and answers
+pub record TellsOpen (step : Step) : Type 0 where
+  pub commands : step.commands ≡ opens ∷ []
+  pub sent : step.sent ≢ []
+
+-- a scan at moment 5, which counts for a second, has set EnaOpn of switch 0, and no switch operates
+abbrev pub released : State → State
+released s = record s {
+  scan_max_age_ms = 1000;
+  last_scan = Some 5;
+  is_stale = false;
+  is_lost = false;
+  rows = record { name = (opening_of 0).value; leaf = Some (leaf.Truth true) } ∷ [];
+  controls = record { controls = []; selection = None; execution = None };
+}
+
+-- likewise, but switch 0 began at moment 5 to open, which takes half a second
+abbrev pub operating : State → State
+operating s = record (released s) {
+  controls = record {
+    controls = record { model = Direct; sbo_timeout_ms = 0; travel_ms = 500 } ∷ [];
+    selection = None;
+    execution = Some (record { switch = 0; start = 5; operation = Open });
+  };
+}

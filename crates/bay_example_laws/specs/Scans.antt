@@ -1,0 +1,48 @@
+-- Events at moment 0, and a device with a program of few octets.
+use Rattle.std.specs.Prelude.{ℕ, true, List, [], ◌∷◌, Ok}
+use Rattle.bay_tree.specs.declared.leaf.Dbpos.TheVariants.{Off}
+use Rattle.il_image.specs.declared.value.Value.TheVariants.{Truth}
+use Rattle.il_check.specs.Program.{Checked}
+use Rattle.bay_device.specs.Device.{State}
+use Rattle.bay_device.specs.Fresh.{Past}
+use Rattle.bay_device.specs.declared.event.Event.TheVariants.{Contact, Lost, Scan}
+use Rattle.bay_device.specs.declared.event.Step.{Step}
+
+-- a scan that was done, and the device behind it
+abbrev pub scan_past : State → Step → Past
+scan_past s step = record { now = 0; event = Scan; answer = Ok step; after = s }
+
+-- a contact that was accepted
+abbrev pub contact_past : State → Step → Past
+contact_past s step = record { now = 0; event = Contact 0 Off; answer = Ok step; after = s }
+
+-- the loss of the process
+abbrev pub lost_past : State → Step → Past
+lost_past s step = record { now = 0; event = Lost; answer = Ok step; after = s }
+
+-- the device with this code, without switches, points, variables and timers
+abbrev pub with_code : List ℕ → State → State
+with_code code s = record s {
+  machine = record {
+    image = record { points = []; variables = []; timers = []; code = code };
+    slots = [];
+    timers = [];
+  };
+  reads = [];
+  switches = [];
+  moment = 0;
+}
+
+-- the device with a program of HALT alone
+abbrev pub halting : State → State
+halting s = with_code (1 ∷ []) s
+
+-- the device with a program of HALT alone, and with a slot that no program asked for
+abbrev pub with_slot : State → State
+with_slot s = record (halting s) {
+  machine = record (halting s).machine { slots = Truth true ∷ [] };
+}
+
+-- the program of a text without declarations and lines
+abbrev pub nothing : Checked
+nothing = record { externals = []; variables = []; timers = []; items = [] }
