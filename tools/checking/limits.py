@@ -136,9 +136,9 @@ def compiled(checks, path, logic, out) -> str:
     return subprocess.run(words, capture_output=True, timeout=60).stdout.decode()
 
 
-# Shows P-017, P-040.
+# Shows P-016, P-017, P-040.
 def images(checks) -> None:
-    """An image of nearly 65,535 octets is written, checked and served."""
+    """An image of nearly 65,535 octets is written, checked and served; a longer one is refused."""
     path = checks.file('bay.toml', bay())
     calls = 'CAL t1(IN := QA1_OPEN, PT := T#1s)\n' * 3_800
     logic = checks.file('logic.il', FRAME.format('VAR\nt1 : TON;\nEND_VAR\n', calls))
@@ -148,6 +148,11 @@ def images(checks) -> None:
                  out.is_file() and 60_000 < out.stat().st_size < 65_536, told)
     again = loaded(checks, '--bay', path, '--image', out)
     checks.holds('an image over 32 kib is not loaded', again == told, again)
+    calls = 'CAL t1(IN := QA1_OPEN, PT := T#1s)\n' * 3_990
+    long = checks.file('long.il', FRAME.format('VAR\nt1 : TON;\nEND_VAR\n', calls))
+    told_long = loaded(checks, '--bay', path, '--logic', long)
+    checks.holds('a program with a longer image is loaded', told_long.startswith('load refused 85'),
+                 told_long)
     words = ['--bay', path, '--image', out, '--turns', '1', '--port', str(free_port())]
     done = subprocess.run([checks.bayctl, 'serve', *words], capture_output=True, timeout=60)
     checks.holds('an image over 32 kib is not served',

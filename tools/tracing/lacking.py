@@ -33,13 +33,16 @@ NO_LAW = {
     'bay_words task_of': OWN_WORDS + 'a job for each command line',
     'il_compile compile': '`follows` is the law of `image` and `tabled`: the code does what the '
                           'program means by its structure; il_laws adds the standard\'s tables',
+    'il_image decode': OWN_WORDS + 'the octets that stand before a lack of memory',
     'il_range scan_ranges': OWN_WORDS + 'each scan of the machine\'s own definition stays within '
                             'what is answered',
     'il_scan Machine::new': OWN_WORDS + 'the first state of the image',
     'il_scan Machine::scan': 'its definition is the machine\'s, step by step; that it never goes '
                              'wrong is `verified_code_never_goes_wrong`',
     'il_verify Verified::image': OWN_WORDS + 'paths through the code and tables that agree with '
-                                 'it, where the code goes over it once'}
+                                 'it, where the code goes over it once',
+    'il_verify verify': OWN_WORDS + 'the image that stands before a lack of memory'}
+
 NO_EDIT = {
     '': 'an overflow, or a place past an end, is a goal of its own in each proof',
     'bay_ber BerFault::code': 'each is one match with an arm for each fault; each refusal of the '

@@ -300,8 +300,9 @@ def mark(promise: Promise) -> str:
 
 
 def titled(promise: Promise) -> str:
-    """The words of a promise behind its id."""
-    return f'{promise.id} {promise.text}'.strip()
+    """The words of a promise behind its id. A row of SECURITY says what can't happen."""
+    never = "can't happen: " if promise.page.name == 'SECURITY.md' else ''
+    return f'{promise.id} {never}{promise.text}'.strip()
 
 
 def head_of(crate: str) -> str:

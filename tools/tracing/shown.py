@@ -13,13 +13,18 @@ PLACES = ('crates/layer_cases/stdin', 'crates/bayctl_cases/stdin', 'crates/bay_t
 SHOWS = re.compile(r'^(?:#|//|== note) Shows (P-\d{3}(?:, P-\d{3})*)\.$')
 TITLE = re.compile(r'^(?:# (?!Shows )|== note (?!Shows )|== (?=report|eight|hostile|bay'
                    r'|tree|controls)|def |fn )(.*)$')
+ONE_LINE = 'no case can: each lack of memory of a load is told by the same line'
 NONE = {
     'P-011': 'each run of each case shows it: none prints two commands of an event',
+    'P-014': 'no program of cases keeps what led to its controls',
     'P-037': 'no case can: nothing else makes a typed program',
+    'P-053': ONE_LINE,
     'P-054': 'no case can: the verifier lets no such program pass',
+    'P-058': ONE_LINE,
     'P-068': 'no program of cases calls it',
     'P-071': 'no case can: it speaks of every run',
     'P-082': 'each session of octets shows it',
+    'P-124': 'no trial refuses memory to a server that begins',
     'P-140': 'it speaks of definitions, on runs of its own'}
 
 

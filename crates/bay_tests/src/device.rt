@@ -132,7 +132,7 @@ fn check_run(rt: &impl Abort, alloc: Global, device: &mut Device) -> Result<(), 
     Ok(())
 }
 
-// Shows P-014, P-019, P-025.
+// Shows P-004, P-019, P-025.
 #[test]
 fn a_device_of_a_text(rt: HostRuntime) -> Result<(), Fail> {
     match load(rt.alloc(), BAY, LOGIC) {
