@@ -17,6 +17,8 @@ GENERAL = {CRATES / 'bay_base' / 'specs' / f'{it}.antt' for it in ('Exact', 'Opt
 DATA = re.compile(r'pub (?:record|data) \S+ : Type 0 where')
 LEVELS = 4
 CONSTANT = re.compile(r'\bconst (\w+):')
+# The code that the laws of a crate without code are about.
+SUBJECTS = {'bay_serve_laws': 'bay_serve', 'il_compile_laws': 'il_compile'}
 
 
 @dataclasses.dataclass(frozen=True)
@@ -103,6 +105,9 @@ def subject(named: set[Named]) -> set[Definition]:
 def behind_law(law: Call) -> tuple[Call, ...]:
     """The public calls whose clauses cite a definition that a law is about: of its crate, or where
     there is none, of those that the definitions belong to; else one that these name, and so on."""
+    if law.crate in SUBJECTS:
+        return tuple(it for it in calls_of(SUBJECTS[law.crate])
+                     if it.is_public and not it.is_law and it.clauses)
     about = subject(set(cited(law)))
     for _ in range(LEVELS):
         homes = sorted({it.crate for it in about})
