@@ -5,8 +5,12 @@ use Rattle.std.proofs.lemmas.Bool.Decides.{nat_tests}
 use Rattle.std.proofs.lemmas.Grind.{common_steps}
 use Rattle.bay_base.specs.Words.{reserved_of}
 use Rattle.bay_base.specs.declared.words.ReservedWord.{ReservedWord}
+use Rattle.il_text.specs.declared.program.Operator.{Operator}
 use Rattle.il_text.specs.declared.program.Operator.TheVariants.{And}
+use Rattle.il_text.specs.declared.token.Keyword.TheVariants as keyword
 use Rattle.il_text.specs.declared.token.Mark.TheVariants as mark
+use Rattle.il_text.specs.declared.token.Mnemonic.{Mnemonic}
+use Rattle.il_text.specs.declared.token.Mnemonic.TheVariants as mnemonic
 use Rattle.il_text.specs.declared.token.Mnemonic.TheVariants.{Combine}
 use Rattle.il_text.proofs.GrammarLemmas.{flat-one}
 use Rattle.il_text.proofs.LexemeLemmas.{word-name, word-number, word-some}
@@ -21,18 +25,18 @@ use Rattle.bay_report.specs.declared.load.Form.TheVariants.{Logic, Image}
 use Rattle.il_image.specs.Images.{Each, HasName, is_name_octet}
 use Rattle.il_image.specs.declared.image.ImagePoint.{ImagePoint}
 use Rattle.il_text.specs.Characters.{are_linked, begins_name, begins_word, is_blank, is_word}
-use Rattle.il_text.specs.Forms.{parts_of}
+use Rattle.il_text.specs.Forms.{acts, declaration, instruction, keyword_line, label_parts, named_line, operator_parts, other_line, parenthesis, parts_of, statement, whole_line}
 use Rattle.il_text.specs.Grammar.{Block, Declaration, Derives, Numbered, block_declared, block_parts, declaration_part, names_declared}
-use Rattle.il_text.specs.Listing.{Declared, PlainProgram}
+use Rattle.il_text.specs.Listing.{Action, Declared, PlainProgram}
 use Rattle.il_text.specs.Literals.{halves, is_hash}
 use Rattle.il_text.specs.Parts.{LineContent, declaring}
 use Rattle.il_text.specs.Pieces.{join, joins, pieces, without_comments}
 use Rattle.il_text.specs.Places.{last_line}
-use Rattle.il_text.specs.Productions.{IsDeclaration, IsLine, IsStatement, spelled_names}
 use Rattle.il_text.specs.Reading.{lines, onto, program_of, tokens_of}
 use Rattle.il_text.specs.Symbols.{is_line_end, literal_piece, mark_of, mark_piece, name_or_reserved, piece, pieces_of, plain_word, word}
 use Rattle.il_text.specs.Texts.{Allowed, OnParts, OnTokens, Reads, ReadsAs, Refused, TextLine, all_parts, numbered_parts}
-use Rattle.il_text.specs.Tokens.{Symbol, name, mnemonic_word, mark_symbol, Piece, blank, line_end, token, bad_token, bad_literal}
+use Rattle.il_text.specs.TokenForms.{Form, nothing, spelled_names}
+use Rattle.il_text.specs.Tokens.{Symbol, name, keyword_word, mnemonic_word, mark_symbol, Piece, blank, line_end, token, bad_token, bad_literal}
 use Rattle.il_text.specs.Words.{reserved_symbol, symbol_of_word}
 use Rattle.il_text.specs.declared.literal.LiteralFault.{LiteralFault}
 use Rattle.il_text.specs.declared.literal.LiteralFault.TheVariants.{Malformed, OutOfRange}
@@ -43,7 +47,7 @@ use Rattle.il_text.specs.declared.program.DeclaredType.TheVariants.{Elementary, 
 use Rattle.il_text.specs.declared.program.Literal.{Literal}
 use Rattle.il_text.specs.declared.program.VariableScope.{VariableScope}
 use Rattle.il_text.specs.declared.program.VariableScope.TheVariants.{Local, External}
-use Rattle.il_text.proofs.ProductionLemmas.{lines_are_produced}
+use Rattle.il_text.proofs.LineLemmas.{lines_are_produced}
 use Rattle.il_text.proofs.UniqueLemmas.{program_is_read}
 use Rattle.bay_auditing.specs.Names.{IsWord, NamesAreWords, declarations_of, declared_in, timer_in, timer_names, variable_in, variable_names}
 
@@ -256,33 +260,80 @@ spelled-named : (n : List ℕ) (ns : List (List ℕ)) → Each IsNamed (spelled_
 spelled-named n [] all = all
 spelled-named n (m ∷ ns) all = (all.0, spelled-named m ns all.1.1)
 
-declaration-named : (ts : List Symbol) (p : LineContent) → Each IsNamed ts → IsDeclaration ts p
-    → IsPartNamed p
-declaration-named ts p all (IsDeclaration.plain n ns kind e q) =
-    rw q (spelled-named n ns (each-left IsNamed (spelled_names n ns) _ (rw e at all)))
-declaration-named ts p all (IsDeclaration.initial n ns kind v e q) =
-    rw q (spelled-named n ns (each-left IsNamed (spelled_names n ns) _ (rw e at all)))
+declaration-named : (ts : List Symbol) (ps : List LineContent) → Each IsNamed ts
+    → declaration.Spells ts ps → Each IsPartNamed ps
+unfolding declaration
+declaration-named ts ps all s =
+    let names = s.1.4 in
+    let front = each-left IsNamed s.1.0 _ (rw s.1.2 at all) in
+    subst (Each IsPartNamed) s.2
+    (subst (Each IsWord) (sym names.2) (spelled-named names.0 names.1 (rw names.3 at front)), tt)
 
-statement-named : (ts : List Symbol) (ps : List LineContent) → IsStatement ts ps
-    → Each IsPartNamed ps
-statement-named ts ps (IsStatement.acts a is q) = rw q (tt, tt)
-statement-named ts ps (IsStatement.enters o n e q) = rw q (tt, tt)
-statement-named ts ps (IsStatement.enters_with o n rest x e is q) = rw q (tt, (tt, tt))
+-- the parts of what declares no names
+record NamesNone (f : Form (List LineContent)) : Type 0 where
+  are : (ts : List Symbol) (ps : List LineContent) → f.Spells ts ps → Each IsPartNamed ps
 
-line-named : (ts : List Symbol) (ps : List LineContent) → Each IsNamed ts → IsLine ts ps
+none-of : (ps : List LineContent) → Each IsPartNamed ps → NamesNone (nothing ps)
+none-of ps named = record { are = λ ts qs s. subst (Each IsPartNamed) s.1 named }
+
+acts-none : (f : Form Action) → NamesNone (acts f)
+acts-none f = record { are = λ ts ps s. subst (Each IsPartNamed) s.2 (tt, tt) }
+
+parenthesis-none : (o : Operator) (n : Bool) → NamesNone (parenthesis o n)
+unfolding parenthesis
+parenthesis-none o n = record {
+  are = λ ts ps s. elim s [
+    | inl alone ↦ subst (Each IsPartNamed) alone.1 (tt, tt)
+    | inr loads ↦ subst (Each IsPartNamed) loads.1.2 (tt, (tt, tt))
+  ];
+}
+
+statement-none : (m : Mnemonic) → NamesNone (statement m)
+unfolding statement operator_parts
+statement-none (mnemonic.Combine o n) = record {
+  are = λ ts ps s. elim s [
+    | inl opens ↦ (parenthesis-none o n).are opens.1.0 ps opens.1.2
+    | inr other ↦ subst (Each IsPartNamed) other.1.2 (tt, tt)
+  ];
+}
+statement-none mnemonic.Not = none-of _ (tt, tt)
+statement-none (mnemonic.Convert c) = none-of _ (tt, tt)
+statement-none (mnemonic.Return c) = none-of _ (tt, tt)
+statement-none m = acts-none _
+
+label-none : (n : List ℕ) → NamesNone (label_parts n)
+unfolding label_parts instruction
+label-none n = record {
+  are = λ ts ps s. elim s [
+    | inl alone ↦ subst (Each IsPartNamed) alone.1 (tt, tt)
+    | inr more ↦
+        let is = more.1.1 in
+        subst (Each IsPartNamed) more.1.2 (tt, (statement-none is.2).are is.1 more.1.0 is.5)
+  ];
+}
+
+other-none : (s : Symbol) → NamesNone (other_line s)
+unfolding other_line keyword_line
+other-none (keyword_word keyword.Program) =
+    record { are = λ ts ps s. subst (Each IsPartNamed) s.2 (tt, tt) }
+other-none (keyword_word w) = none-of _ (tt, tt)
+other-none (mnemonic_word m) = statement-none m
+other-none (mark_symbol mark.Close) = none-of _ (tt, tt)
+other-none s = record { are = λ ts ps s. absurd s }
+
+line-named : (ts : List Symbol) (ps : List LineContent) → Each IsNamed ts → whole_line.Spells ts ps
     → Each IsPartNamed ps
-line-named ts ps all (IsLine.blank e q) = rw q tt
-line-named ts ps all (IsLine.heads n e q) = rw q (tt, tt)
-line-named ts ps all (IsLine.opens e q) = rw q (tt, tt)
-line-named ts ps all (IsLine.opens_external e q) = rw q (tt, tt)
-line-named ts ps all (IsLine.declares p is q) = rw q (declaration-named ts p all is, tt)
-line-named ts ps all (IsLine.closes e q) = rw q (tt, tt)
-line-named ts ps all (IsLine.labels n e q) = rw q (tt, tt)
-line-named ts ps all (IsLine.labels_with n rest more e is q) =
-    rw q (tt, statement-named rest more is)
-line-named ts ps all (IsLine.states is) = statement-named ts ps is
-line-named ts ps all (IsLine.leaves_block e q) = rw q (tt, tt)
-line-named ts ps all (IsLine.ends e q) = rw q (tt, tt)
+unfolding whole_line named_line
+line-named ts ps all s = elim s [
+  | inl blank ↦ subst (Each IsPartNamed) blank.1 tt
+  | inr more ↦ elim more.1 [
+    | inl named ↦ elim named.1 [
+      | inl label ↦ let is = label.1 in (label-none is.2).are is.5.0 ps is.5.2
+      | inr declares ↦ declaration-named ts ps all declares.1
+    ]
+    | inr other ↦ let is = other.1 in (other-none is.2).are is.1 ps is.5
+  ]
+]
 
 abbrev IsNumberedNamed : Numbered → Type 0
 IsNumberedNamed p = IsPartNamed p.1

@@ -1,7 +1,7 @@
 -- Letters in upper case: pieces.
 use Rattle.std.proofs.Common.{arith}
 use Rattle.std.proofs.lemmas.Grind.{common_steps}
-use Rattle.std.proofs.Common.{◌≡◌, ℕ, suc, zero, ◌||◌, Bool, true, false, cond, List, [], ◌∷◌, Option, Some, None, Result, Ok, Err, option_map, map, length, slice_index, eqb, ltb, leb, codes, refl, sym, ap, ◌∙◌, lit<}
+use Rattle.std.proofs.Common.{◌≡◌, ℕ, suc, zero, ◌||◌, Bool, true, false, cond, List, [], ◌∷◌, Option, Some, None, Result, Ok, Err, option_map, map, length, slice_index, eqb, ltb, leb, refl, sym, ap, ◌∙◌, lit<}
 use Rattle.std.specs.List.{list_all}
 use Rattle.std.specs.Str.{bytes_eq}
 use Rattle.std.proofs.lemmas.Bool.{ltb-true}
@@ -19,13 +19,7 @@ use Rattle.bay_base.specs.declared.words.ReservedWord.{ReservedWord}
 use Rattle.il_text.specs.declared.literal.LiteralFault.{LiteralFault}
 use Rattle.il_text.specs.declared.literal.LiteralFault.TheVariants.{Malformed, OutOfRange}
 use Rattle.il_text.specs.declared.program.Literal.{Literal}
-use Rattle.il_text.specs.declared.program.Operator.TheVariants.{And}
-use Rattle.il_text.specs.declared.token.Mark.{Mark}
-use Rattle.il_text.specs.declared.token.Mark.TheVariants as mark
-use Rattle.il_text.specs.declared.token.Mnemonic.{Mnemonic}
-use Rattle.il_text.specs.declared.token.Mnemonic.TheVariants.{Combine}
-use Rattle.bay_base.specs.Names.{same_name}
-use Rattle.il_text.proofs.CaseLemmas.{up, up-eqb, up-underscore, up-digit, up-alphabetic, up-alphanumeric, same-up, length-up, halves-up, decimal-up, prefixed-up}
+use Rattle.il_text.proofs.CaseLemmas.{cond-up, up, up-eqb, up-underscore, up-digit, up-alphabetic, up-alphanumeric, same-up, length-up, halves-up, decimal-up, prefixed-up}
 
 abbrev pub upper_symbol : Symbol → Symbol
 upper_symbol (name n) = name (map up n)
@@ -85,15 +79,9 @@ joins-up x p =
     rw (index-up p 0, linked-up x (slice_index p 0), up-eqb x 38 (lit< tt), same-up p (78 ∷ []))
     refl
 
-cond-pieces : (b : Bool) (x : ℕ) (p : List ℕ) (ps : List (List ℕ))
-    → cond b ((up x ∷ map up p) ∷ map (map up) ps) ((up x ∷ []) ∷ map up p ∷ map (map up) ps)
-    ≡ map (map up) (cond b ((x ∷ p) ∷ ps) ((x ∷ []) ∷ p ∷ ps))
-cond-pieces true x p ps = refl
-cond-pieces false x p ps = refl
-
 join-up : (x : ℕ) (ps : List (List ℕ)) → join (up x) (map (map up) ps) ≡ map (map up) (join x ps)
 join-up x [] = refl
-join-up x (p ∷ ps) = rw (joins-up x p) (cond-pieces (joins x p) x p ps)
+join-up x (p ∷ ps) = rw (joins-up x p) (cond-up (map (map up)) (joins x p) ((x ∷ p) ∷ ps) ((x ∷ []) ∷ p ∷ ps))
 
 pieces-up : (xs : List ℕ) → pieces (map up xs) ≡ map (map up) (pieces xs)
 unfolding pieces
@@ -115,20 +103,7 @@ closes-up (x ∷ xs) =
     ∙ ap (λ (b : Bool). ends (x ∷ xs) || b) rest
 
 blank_of-up : (x : ℕ) → blank_of (up x) ≡ up (blank_of x)
-blank_of-up x = rw (up-eqb x 10 (lit< tt)) (blank-by (eqb x 10))
-  where
-    blank-by : (b : Bool) → cond b 10 32 ≡ up (cond b 10 32)
-    blank-by true = refl
-    blank-by false = refl
-
-opening-by : (b : Bool) → cond b 32 256 ≡ up (cond b 32 256)
-opening-by true = refl
-opening-by false = refl
-
-cond-blanked : (b : Bool) (l m l' m' : List ℕ) → l ≡ map up l' → m ≡ map up m'
-    → cond b l m ≡ map up (cond b l' m')
-cond-blanked true l m l' m' e f = e
-cond-blanked false l m l' m' e f = f
+blank_of-up x = rw (up-eqb x 10 (lit< tt)) (cond-up up (eqb x 10) 10 32)
 
 blanked-up : (b : Bool) (xs : List ℕ)
     → without_comments b (map up xs) ≡ map up (without_comments b xs)
@@ -144,10 +119,9 @@ blanked-up true (x ∷ y ∷ xs) =
     unfold without_comments in blanked-up true (y ∷ xs) in
     ap (λ (b : Bool). cond b (32 ∷ 32 ∷ without_comments false (map up xs))
     (blank_of (up x) ∷ without_comments true (up y ∷ map up xs))) (ends-up (x ∷ y ∷ xs))
-    ∙ cond-blanked (ends (x ∷ y ∷ xs)) _ _ (32 ∷ 32 ∷ without_comments false xs)
-    (blank_of x ∷ without_comments true (y ∷ xs)) (ap (λ (l : List ℕ). 32 ∷ 32 ∷ l) outside)
-    (ap (λ (c : ℕ). c ∷ without_comments true (up y ∷ map up xs)) (blank_of-up x)
-    ∙ ap (λ (l : List ℕ). up (blank_of x) ∷ l) inside)
+    ∙ rw (outside, inside, blank_of-up x)
+    (cond-up (map up) (ends (x ∷ y ∷ xs)) (32 ∷ 32 ∷ without_comments false xs)
+    (blank_of x ∷ without_comments true (y ∷ xs)))
 blanked-up false (x ∷ y ∷ xs) =
     let inside : without_comments true (map up xs) ≡ map up (without_comments true xs) =
     unfold without_comments in blanked-up true xs in
@@ -157,13 +131,12 @@ blanked-up false (x ∷ y ∷ xs) =
     ap (λ (b : Bool). cond b
     (cond (closes (map up xs)) 32 256 ∷ 32 ∷ without_comments true (map up xs))
     (up x ∷ without_comments false (up y ∷ map up xs))) (opens-up (x ∷ y ∷ xs))
-    ∙ cond-blanked (opens (x ∷ y ∷ xs)) _ _
+    ∙ rw (outside, inside, closes-up xs)
+    (ap (λ (c : ℕ). cond (opens (x ∷ y ∷ xs)) (c ∷ 32 ∷ map up (without_comments true xs))
+    (up x ∷ map up (without_comments false (y ∷ xs)))) (cond-up up (closes xs) 32 256)
+    ∙ cond-up (map up) (opens (x ∷ y ∷ xs))
     (cond (closes xs) 32 256 ∷ 32 ∷ without_comments true xs)
-    (x ∷ without_comments false (y ∷ xs))
-    (ap (λ (b : Bool). cond b 32 256 ∷ 32 ∷ without_comments true (map up xs)) (closes-up xs)
-    ∙ ap (λ (c : ℕ). c ∷ 32 ∷ without_comments true (map up xs)) (opening-by (closes xs))
-    ∙ ap (λ (l : List ℕ). up (cond (closes xs) 32 256) ∷ 32 ∷ l) inside)
-    (ap (λ (l : List ℕ). up x ∷ l) outside)
+    (x ∷ without_comments false (y ∷ xs)))
 
 pub last_line-up : (xs : List ℕ) → last_line (map up xs) ≡ last_line xs
 unfolding last_line
@@ -217,15 +190,10 @@ literal-up (Ok v) = refl
 literal-up (Err Malformed) = refl
 literal-up (Err OutOfRange) = refl
 
-named-cond : (w : List ℕ) (b : Bool)
-    → cond b (token (name (map up w))) bad_token ≡ upper_piece (cond b (token (name w)) bad_token)
-named-cond w true = refl
-named-cond w false = refl
-
 named-by : (w : List ℕ) (o : Option Symbol)
     → name_or_reserved (map up w) (option_map upper_symbol o) ≡ upper_piece (name_or_reserved w o)
 named-by w (Some k) = refl
-named-by w None = rw (length-up w) (named-cond w (leb (length w) 64))
+named-by w None = rw (length-up w) (cond-up upper_piece (leb (length w) 64) (token (name w)) bad_token)
 
 plain_word-up : (w : List ℕ) → plain_word (map up w) ≡ upper_piece (plain_word w)
 unfolding plain_word
@@ -243,65 +211,25 @@ word-by w None e false f =
     (literal-up (plain_literal (decimal w)))
 
 -- no mark is a name
-record Kept (o : Option Symbol) : Type 0 where
-  is : mark_piece o ≡ upper_piece (mark_piece o)
-
-kept-if : {s t : Option Symbol} → (b : Bool) → Kept s → Kept t → Kept (cond b s t)
-kept-if true h k = h
-kept-if false h k = k
-
-kept-mark : (m : Mark) → Kept (Some (mark_symbol m))
-kept-mark m = record { is = refl }
-
-kept-operator : (m : Mnemonic) → Kept (Some (mnemonic_word m))
-kept-operator m = record { is = refl }
-
-kept-none : Kept None
-kept-none = record { is = refl }
-
-kept-marks : (p : List ℕ) → Kept (mark_of p)
-unfolding mark_of
-kept-marks p =
-    kept-if (bytes_eq p (codes ":")) (kept-mark mark.Colon)
-    (kept-if (bytes_eq p (codes ":=")) (kept-mark mark.Assign)
-    (kept-if (bytes_eq p (codes ",")) (kept-mark mark.Comma)
-    (kept-if (bytes_eq p (codes ";")) (kept-mark mark.Semicolon)
-    (kept-if (bytes_eq p (codes ".")) (kept-mark mark.Dot)
-    (kept-if (bytes_eq p (codes "(")) (kept-mark mark.Open)
-    (kept-if (bytes_eq p (codes ")")) (kept-mark mark.Close)
-    (kept-if (bytes_eq p (codes "&")) (kept-operator (Combine And false))
-    (kept-if (same_name p (codes "&N")) (kept-operator (Combine And true)) kept-none))))))))
-
-piece-by : (p : List ℕ) (a b c : Bool) → is_blank (slice_index p 0) ≡ a → is_line_end p ≡ b
-    → begins_word (slice_index p 0) ≡ c → piece (map up p) ≡ upper_piece (piece p)
-unfolding piece
-piece-by p true b c e f g = rw (index-up p 0, blank-up (slice_index p 0), e) refl
-piece-by p false true c e f g =
-    rw (index-up p 0, blank-up (slice_index p 0), e, line_end-up p, f) refl
-piece-by p false false true e f g =
-    rw (
-      index-up p 0,
-      blank-up (slice_index p 0),
-      e,
-      line_end-up p,
-      f,
-      begins_word-up (slice_index p 0),
-      g,
-    ) (word-by p _ refl _ refl)
-piece-by p false false false e f g =
-    rw (
-      index-up p 0,
-      blank-up (slice_index p 0),
-      e,
-      line_end-up p,
-      f,
-      begins_word-up (slice_index p 0),
-      g,
-      mark-up p,
-    ) (kept-marks p).is
+mark_piece-up : (p : List ℕ) → mark_piece (mark_of (map up p)) ≡ upper_piece (mark_piece (mark_of p))
+mark_piece-up p = rw (mark-up p) (unfold mark_of in grind (arith, common_steps))
 
 piece-up : (p : List ℕ) → piece (map up p) ≡ upper_piece (piece p)
-piece-up p = piece-by p _ _ _ refl refl refl
+unfolding piece
+piece-up p =
+    rw (
+      index-up p 0,
+      blank-up (slice_index p 0),
+      line_end-up p,
+      begins_word-up (slice_index p 0),
+      word-by p _ refl _ refl,
+      mark_piece-up p,
+    )
+    (ap (cond (is_blank (slice_index p 0)) blank)
+    (ap (cond (is_line_end p) line_end)
+    (cond-up upper_piece (begins_word (slice_index p 0)) (word p) (mark_piece (mark_of p)))
+    ∙ cond-up upper_piece (is_line_end p) line_end _)
+    ∙ cond-up upper_piece (is_blank (slice_index p 0)) blank _)
 
 pieces-map : (ps : List (List ℕ)) → map piece (map (map up) ps) ≡ map upper_piece (map piece ps)
 pieces-map [] = refl

@@ -17,6 +17,10 @@ use Rattle.il_text.specs.Literals.{is_underscore, is_hash, is_integer, number, h
 abbrev pub up : ℕ → ℕ
 up = to_ascii_uppercase
 
+pub cond-up : {A B : Type 0} (f : A → B) (b : Bool) (x y : A) → cond b (f x) (f y) ≡ f (cond b x y)
+cond-up f true x y = refl
+cond-up f false x y = refl
+
 pub up-eqb : (x k : ℕ) → k < 65 → eqb (up x) k ≡ eqb x k
 up-eqb x k h = grind (arith, nat_tests)
 
@@ -82,11 +86,6 @@ number-up radix ds = rw (integer_from-up radix true ds, value-up radix 0 ds) ref
 abbrev pub up_both : List ℕ × List ℕ → List ℕ × List ℕ
 up_both h = (map up h.0, map up h.1)
 
-cond-some : (b : Bool) (h : List ℕ × List ℕ)
-    → cond b (Some (up_both h)) None ≡ option_map up_both (cond b (Some h) None)
-cond-some true h = refl
-cond-some false h = refl
-
 hash-up : (w : List ℕ) → position_or_len is_hash (map up w) ≡ position_or_len is_hash w
 hash-up w = prefix-up (λ x. not (is_hash x)) (λ x. ap not (up-eqb x 35 (lit< tt))) w
 
@@ -95,7 +94,7 @@ unfolding halves
 halves-up w =
     let n : ℕ = position_or_len is_hash w in
     rw (hash-up w, length-up w, take-map up n w, drop-map up (n + 1) w)
-    (cond-some (ltb n (length w)) (take n w, drop (n + 1) w))
+    (cond-up (option_map up_both) (ltb n (length w)) (Some (take n w, drop (n + 1) w)) None)
 
 base-up : (w : List ℕ) → base_of (map up w) ≡ base_of w
 unfolding base_of
@@ -157,35 +156,20 @@ with-up f d (Some n) =
     ap (λ (r : List ℕ). Some (record { rest = r; total = d.total + n * f; begun = true }))
     (after-up d.rest)
 
-cond-up : (b : Bool) (d : Duration) (p : Option Duration)
-    → cond b (option_map up_duration p) (Some (up_duration d))
-    ≡ option_map up_duration (cond b p (Some d))
-cond-up true d p = refl
-cond-up false d p = refl
-
 part-up : (u : List ℕ) (f : ℕ) (d : Duration)
     → part u f (up_duration d) ≡ option_map up_duration (part u f d)
 unfolding part
 part-up u f d =
-    let same =
-    ap (λ (w : List ℕ). same_name w u) (letters-up d.rest)
-    ∙ same-up (take (unit_len d.rest) (drop (number_len d.rest) d.rest)) u in
-    let value =
-    ap (number_of_part d.begun) (front-up d.rest)
-    ∙ part_number-up d.begun (take (number_len d.rest) d.rest) in
-    ap (λ (b : Bool). cond b
-    (with_part f (up_duration d)
-    (number_of_part d.begun (take (number_len (map up d.rest)) (map up d.rest))))
-    (Some (up_duration d))) same
-    ∙ ap (λ (o : Option ℕ). cond
-    (same_name (take (unit_len d.rest) (drop (number_len d.rest) d.rest)) u)
-    (with_part f (up_duration d) o) (Some (up_duration d))) value
-    ∙ ap (λ (p : Option Duration). cond
-    (same_name (take (unit_len d.rest) (drop (number_len d.rest) d.rest)) u) p
-    (Some (up_duration d)))
-    (with-up f d (number_of_part d.begun (take (number_len d.rest) d.rest)))
-    ∙ cond-up (same_name (take (unit_len d.rest) (drop (number_len d.rest) d.rest)) u) d
-    (with_part f d (number_of_part d.begun (take (number_len d.rest) d.rest)))
+    let word : List ℕ = take (unit_len d.rest) (drop (number_len d.rest) d.rest) in
+    let value : Option ℕ = number_of_part d.begun (take (number_len d.rest) d.rest) in
+    rw (
+      letters-up d.rest,
+      same-up word u,
+      front-up d.rest,
+      part_number-up d.begun (take (number_len d.rest) d.rest),
+      with-up f d value,
+    )
+    (cond-up (option_map up_duration) (same_name word u) (with_part f d value) (Some d))
 
 then-up : (u : List ℕ) (f : ℕ) (o q : Option Duration) → o ≡ option_map up_duration q
     → option_and_then (part u f) o ≡ option_map up_duration (option_and_then (part u f) q)

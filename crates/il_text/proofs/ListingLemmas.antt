@@ -3,7 +3,8 @@ use Rattle.std.proofs.Common.{◌≡◌, ℕ, ◌+◌, ◌<◌, ◌≤◌, suc, 
 use Rattle.std.proofs.lemmas.Option.{same_Some}
 use Rattle.std.proofs.lemmas.Grind.{common_steps}
 use Rattle.std.proofs.lemmas.List.{length-map, length-reverse, map-append, reverse-append}
-use Rattle.il_text.specs.Forms.{name_of, is_mark, names_from, declared_names, parts_of}
+use Rattle.il_text.specs.Forms.{declared_names, parts_of, whole_line}
+use Rattle.il_text.specs.TokenForms.{name_of, is_mark, names_from}
 use Rattle.il_text.specs.Listing.{label, action, block, entries_of, Declared}
 use Rattle.il_text.specs.ListingViews.{opened_of}
 use Rattle.il_text.specs.Parts.{LineContent, declaring}
@@ -216,7 +217,7 @@ length_opened os = simp (length-reverse, length-map) refl
 
 pub blank_line : (line last : ℕ) (r : Read) (ts : List Token) → length ts ≡ 0
     → after_line line last r (symbols_of ts) ≡ Ok r
-unfolding after_line parts_of steps
+unfolding after_line whole_line steps
 blank_line line last r [] h = refl
 blank_line line last r (t ∷ ts) h = absurd (omega (arith, h))
 

@@ -4,10 +4,10 @@ use Rattle.std.proofs.lemmas.Bool.{false≢true, eqb-true, ne_eqb}
 use Rattle.std.proofs.lemmas.List.{map-append}
 use Rattle.std.proofs.Math.Bool.{and-false}
 use Rattle.il_text.specs.Characters.{are_linked}
-use Rattle.il_text.specs.Forms.{names_from, declared_names, declared_by, after_front, parts_at, tail, declaration, is_mark, label_rest, label_or, named_line, mark_parts, is_hopeless, parts_of}
+use Rattle.il_text.specs.Forms.{tail, declaration, named_line, other_line, whole_line, is_hopeless, parts_of}
+use Rattle.il_text.specs.TokenForms.{names, names_from, parted_of, after_front, parts_at, is_mark}
 use Rattle.std.specs.List.{position_or_len}
 use Rattle.bay_base.specs.Results.{◌>>=◌}
-use Rattle.il_text.specs.declared.form.Tail.{Tail}
 use Rattle.il_text.specs.Listing.{PlainProgram}
 use Rattle.il_text.specs.declared.token.Mark.TheVariants as mark
 use Rattle.il_text.specs.Pieces.{opens, ends, closes, without_comments, pieces}
@@ -294,22 +294,15 @@ pub step-token : (last : ℕ) (r : Read) (n : ℕ) (ss : List Symbol) (bs : List
 step-token last r n ss bs s e t h k = rw (cut-piece bs s e h, k) (read-token last r n ss t _)
 
 -- a name that neither a colon nor a comma follows begins no declaration
-tailed-names : (n : List ℕ) (c : Symbol) (xs : List Symbol) (t : Option Tail)
-    → is_mark mark.Comma c ≡ false
-    → option_and_then (λ k. declared_names k (name n ∷ c ∷ xs)) t ≡ None
-unfolding names_from
-tailed-names n c xs None h = refl
-tailed-names n c xs (Some k) h = rw h refl
+none-then : {A B : Type 0} (o : Option A) → option_and_then {U = B} (λ x. None) o ≡ None
+none-then None = refl
+none-then (Some x) = refl
 
 fronted-names : (n : List ℕ) (c : Symbol) (xs back : List Symbol) → is_mark mark.Comma c ≡ false
-    → declared_by (after_front (name n ∷ c ∷ xs) back) ≡ None
+    → parted_of names.reads tail.reads (after_front (name n ∷ c ∷ xs) back) ≡ None
+unfolding names_from
 fronted-names n c xs [] h = refl
-fronted-names n c xs (s ∷ rest) h = tailed-names n c xs (tail rest) h
-
-parted-names : (n : List ℕ) (c : Symbol) (more : List Symbol) (k : ℕ) → is_mark mark.Comma c ≡ false
-    → declared_by (parts_at (suc (suc k)) (name n ∷ c ∷ more)) ≡ None
-unfolding parts_at
-parted-names n c more k h = fronted-names n c (take k more) (drop k more) h
+fronted-names n c xs (s ∷ rest) h = rw h (none-then (tail.reads rest))
 
 two-more : (k : ℕ) → 1 + (1 + k) ≡ suc (suc k)
 two-more k = omega arith
@@ -325,28 +318,23 @@ neither false true h = absurd (false≢true h)
 neither false false h = (refl, refl)
 
 no-declaration : (n : List ℕ) (c : Symbol) (more : List Symbol) → is_mark mark.Colon c ≡ false
-    → is_mark mark.Comma c ≡ false → declaration (name n ∷ c ∷ more) ≡ None
-unfolding declaration
+    → is_mark mark.Comma c ≡ false → declaration.reads (name n ∷ c ∷ more) ≡ None
+unfolding declaration parts_at
 no-declaration n c more h k =
-    ap (λ (m : ℕ). declared_by (parts_at m (name n ∷ c ∷ more))) (position_names n c more h)
-    ∙ parted-names n c more (position_or_len (is_mark mark.Colon) more) k
-
-no-label : (c : Symbol) (more : List Symbol) → is_mark mark.Colon c ≡ false
-    → label_rest (c ∷ more) ≡ None
-unfolding label_rest
-no-label c more h = rw h refl
+    let at = position_or_len (is_mark mark.Colon) more in
+    rw (position_names n c more h, fronted-names n c (take at more) (drop at more) k) refl
 
 named-nothing : (n : List ℕ) (c : Symbol) (more : List Symbol)
     → not (is_mark mark.Colon c || is_mark mark.Comma c) ≡ true
-    → named_line n (c ∷ more) (name n ∷ c ∷ more) ≡ None
+    → named_line.reads (name n ∷ c ∷ more) ≡ None
 unfolding named_line
 named-nothing n c more h =
     let k = neither (is_mark mark.Colon c) (is_mark mark.Comma c) h in
-    ap (label_or n (name n ∷ c ∷ more)) (no-label c more k.0) ∙ no-declaration n c more k.0 k.1
+    rw k.0 (no-declaration n c more k.0 k.1)
 
 -- tokens with which no line begins make no line, whatever follows
 hopeless-parts : (ss more : List Symbol) → is_hopeless ss ≡ true → parts_of (ss ++ more) ≡ None
-unfolding parts_of mark_parts
+unfolding whole_line other_line
 hopeless-parts [] more h = absurd (false≢true h)
 hopeless-parts (s ∷ []) more h = absurd (false≢true h)
 hopeless-parts (name n ∷ t ∷ ss) more h = named-nothing n t (ss ++ more) h

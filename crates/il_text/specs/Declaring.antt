@@ -1,6 +1,6 @@
 -- Inner: the declarations that a list of names makes after others.
 use Rattle.std.specs.Prelude.{ℕ, Bool, List, ◌++◌, map, Option, option_map}
-use Rattle.il_text.specs.Forms.{names_from}
+use Rattle.il_text.specs.TokenForms.{names_from}
 use Rattle.il_text.specs.Listing.{Declared}
 use Rattle.il_text.specs.Steps.{declared_in}
 use Rattle.il_text.specs.Tokens.{Symbol}

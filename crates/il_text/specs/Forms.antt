@@ -1,11 +1,12 @@
--- The forms of lines, over the tokens of a line (IEC 61131-3:2003, annexes B.1.4.3, B.1.5.3 and
+-- The grammar of a line, as forms of its tokens (IEC 61131-3:2003, annexes B.1.4.3, B.1.5.3 and
 -- B.2).
-use Rattle.std.specs.Prelude.{ℕ, Bool, true, false, not, ◌&&◌, ◌||◌, if◌then◌else◌, List, [], ◌∷◌, take, drop, codes, Option, Some, None, option_map, option_and_then}
-use Rattle.std.specs.List.{position_or_len}
+use Rattle.std.specs.Prelude.{◌≡◌, ◌↔◌, ℕ, Bool, true, false, not, ◌&&◌, ◌||◌, if◌then◌else◌, List, [], ◌∷◌, codes, Option, Some, None, option_map, option_and_then, is_some}
 use Rattle.bay_base.specs.Names.{same_name}
 use Rattle.il_text.specs.Listing.{Place, named, output, OperandData, constant, variable, Action, load, store, combine, invert, convert, jump, leave, call}
 use Rattle.il_text.specs.Parts.{LineContent, heading, opening, declaring, closing, labelling, acting, entering, leaving, ending}
 use Rattle.il_text.specs.Tokens.{Symbol, name, keyword_word, type_word, literal, mnemonic_word, mark_symbol}
+pub use Rattle.il_text.specs.TokenForms.{name_of, is_mark, parts_at, split_at_mark}
+use Rattle.il_text.specs.TokenForms.{Form, made, such, none, nothing, one, one_of, behind, after, either, by, parted, has_mark, names, names_from}
 use Rattle.il_text.specs.declared.form.Tail.{Tail}
 use Rattle.il_text.specs.declared.program.DeclaredType.{DeclaredType}
 use Rattle.il_text.specs.declared.program.DeclaredType.TheVariants.{Elementary}
@@ -18,15 +19,9 @@ use Rattle.il_text.specs.declared.program.Output.TheVariants as gives
 use Rattle.il_text.specs.declared.program.VariableScope.TheVariants.{Local, External}
 use Rattle.il_text.specs.declared.token.Keyword.{Keyword}
 use Rattle.il_text.specs.declared.token.Keyword.TheVariants as keyword
-use Rattle.il_text.specs.declared.token.Mark.{Mark}
 use Rattle.il_text.specs.declared.token.Mark.TheVariants as mark
 use Rattle.il_text.specs.declared.token.Mnemonic.{Mnemonic}
 use Rattle.il_text.specs.declared.token.Mnemonic.TheVariants as mnemonic
-
--- the name that a token is
-abbrev pub name_of : Symbol → Option (List ℕ)
-name_of (name n) = Some n
-name_of other = None
 
 -- the literal that a token is
 abbrev pub literal_of : Symbol → Option Literal
@@ -43,32 +38,10 @@ abbrev pub elementary_of : Symbol → Option DeclaredType
 elementary_of (type_word (Elementary kind)) = Some (Elementary kind)
 elementary_of other = None
 
--- the token is an operator
-abbrev pub is_mnemonic : Symbol → Bool
-is_mnemonic (mnemonic_word m) = true
-is_mnemonic other = false
-
--- the marks are one
-abbrev pub same_mark : Mark → Mark → Bool
-same_mark mark.Colon mark.Colon = true
-same_mark mark.Assign mark.Assign = true
-same_mark mark.Comma mark.Comma = true
-same_mark mark.Semicolon mark.Semicolon = true
-same_mark mark.Dot mark.Dot = true
-same_mark mark.Open mark.Open = true
-same_mark mark.Close mark.Close = true
-same_mark m other = false
-
--- the token is this mark
-abbrev pub is_mark : Mark → Symbol → Bool
-is_mark m (mark_symbol n) = same_mark m n
-is_mark m other = false
-
--- one name and nothing else
-unfoldable pub only_name : List Symbol → Option (List ℕ)
-only_name [] = None
-only_name (s ∷ []) = name_of s
-only_name (s ∷ t ∷ ss) = None
+-- the operator that a token is
+abbrev pub mnemonic_of : Symbol → Option Mnemonic
+mnemonic_of (mnemonic_word m) = Some m
+mnemonic_of other = None
 
 -- `Q` and `ET`, in letters of either case
 unfoldable pub output_named : List ℕ → Option Output
@@ -76,34 +49,31 @@ output_named w =
     if same_name w (codes "Q") then Some gives.Q
     else (if same_name w (codes "ET") then Some gives.Et else None)
 
--- the output of a timer, by the tokens of both
-unfoldable pub output_by : Symbol → Symbol → Option Place
-output_by s o =
-    option_and_then (λ t. option_map (output t) (option_and_then output_named (name_of o)))
-    (name_of s)
+-- the output that a token names
+abbrev pub output_of : Symbol → Option Output
+output_of s = option_and_then output_named (name_of s)
 
--- a name, or a name with `.Q` or `.ET`
-unfoldable pub place : List Symbol → Option Place
-place [] = None
-place (s ∷ []) = option_map named (name_of s)
-place (s ∷ d ∷ []) = None
-place (s ∷ d ∷ o ∷ []) = if is_mark mark.Dot d then output_by s o else None
-place (s ∷ d ∷ o ∷ t ∷ ss) = None
+-- one name, or one literal, and nothing else
+abbrev pub only_name : List Symbol → Option (List ℕ)
+only_name = one_of name_of
 
--- one literal and nothing else
-unfoldable pub only_literal : List Symbol → Option Literal
-only_literal [] = None
-only_literal (s ∷ []) = literal_of s
-only_literal (s ∷ t ∷ ss) = None
+abbrev pub only_literal : List Symbol → Option Literal
+only_literal = one_of literal_of
 
--- the literal, or else what is named
-abbrev pub literal_or : Option Literal → Option Place → Option OperandData
-literal_or (Some value) p = Some (constant value)
-literal_or None p = option_map variable p
+-- one token
+abbrev pub is_one : List Symbol → Bool
+is_one (s ∷ []) = true
+is_one other = false
 
--- operand ::= literal | name | name "." ("Q" | "ET")
-unfoldable pub operand : List Symbol → Option OperandData
-operand ss = literal_or (only_literal ss) (place ss)
+-- place ::= name | name "." ("Q" | "ET")
+unfoldable pub place : Form Place
+place =
+    by is_one (made named (one name_of))
+    (behind name_of (λ timer. after mark.Dot (made (output timer) (one output_of))))
+
+-- operand ::= literal | place
+unfoldable pub operand : Form OperandData
+operand = either (made constant (one literal_of)) (made variable place)
 
 -- `IN` and `PT`, in letters of either case
 unfoldable pub input_named : List ℕ → Option Input
@@ -111,15 +81,13 @@ input_named w =
     if same_name w (codes "IN") then Some input.In
     else (if same_name w (codes "PT") then Some input.Pt else None)
 
+-- the input that a token names
+abbrev pub input_of : Symbol → Option Input
+input_of s = option_and_then input_named (name_of s)
+
 -- arg ::= ("IN" | "PT") ":=" operand
-unfoldable pub argument : List Symbol → Option (Input × OperandData)
-argument [] = None
-argument (i ∷ []) = None
-argument (i ∷ a ∷ ss) =
-    if is_mark mark.Assign a
-    then option_and_then (λ k. option_map (λ x. (k, x)) (operand ss))
-    (option_and_then input_named (name_of i))
-    else None
+unfoldable pub argument : Form (Input × OperandData)
+argument = behind input_of (λ k. after mark.Assign (made (λ x. (k, x)) operand))
 
 -- the inputs are one
 abbrev pub same_input : Input → Input → Bool
@@ -132,182 +100,149 @@ same_input input.Pt input.Pt = true
 abbrev pub both : (Input × OperandData) → (Input × OperandData) → Option (List (Input × OperandData))
 both a b = if same_input a.0 b.0 then None else Some (a ∷ b ∷ [])
 
--- what stands behind the first token, and the front as it is
-abbrev pub after_front : List Symbol → List Symbol → Option (List Symbol × List Symbol)
-after_front front [] = None
-after_front front (s ∷ rest) = Some (front, rest)
+-- [arg {"," arg}], no two of one input: as there are two inputs, there are two arguments at most
+unfoldable pub argument_list : Form (List (Input × OperandData))
+argument_list =
+    by (has_mark mark.Comma) (such (λ p. both p.0 p.1) (parted mark.Comma argument argument))
+    (made (λ a. a ∷ []) argument)
 
--- what stands before and after the token at this place
-unfoldable pub parts_at : ℕ → List Symbol → Option (List Symbol × List Symbol)
-parts_at n ss = after_front (take n ss) (drop n ss)
-
--- what stands before and after the first token of this mark
-abbrev pub split_at_mark : Mark → List Symbol → Option (List Symbol × List Symbol)
-split_at_mark m ss = parts_at (position_or_len (is_mark m) ss) ss
-
--- one argument, or two where a comma parts them
-abbrev pub argument_list : List Symbol → Option (List Symbol × List Symbol)
-    → Option (List (Input × OperandData))
-argument_list ss None = option_map (λ a. a ∷ []) (argument ss)
-argument_list ss (Some p) =
-    option_and_then (λ a. option_and_then (both a) (argument p.1)) (argument p.0)
-
--- [arg {"," arg}]: as there are two inputs, there are two arguments at most
-unfoldable pub arguments : List Symbol → Option (List (Input × OperandData))
-arguments [] = Some []
-arguments (s ∷ ss) = argument_list (s ∷ ss) (split_at_mark mark.Comma (s ∷ ss))
-
--- the arguments, where nothing stands behind the `)`
-abbrev pub ends_with : List Symbol → List Symbol → Option (List (Input × OperandData))
-ends_with front [] = arguments front
-ends_with front (s ∷ rest) = None
-
--- the same of what a `)` parts
-abbrev pub closed_by : Option (List Symbol × List Symbol) → Option (List (Input × OperandData))
-closed_by None = None
-closed_by (Some p) = ends_with p.0 p.1
+unfoldable pub arguments : Form (List (Input × OperandData))
+arguments = either (nothing []) argument_list
 
 -- the arguments, and the one `)` at the end
-unfoldable pub closed_arguments : List Symbol → Option (List (Input × OperandData))
-closed_arguments ss = closed_by (split_at_mark mark.Close ss)
+unfoldable pub closed_arguments : Form (List (Input × OperandData))
+closed_arguments = made (λ p. p.0) (parted mark.Close arguments (nothing true))
 
 -- name "(" [arg {"," arg}] ")"
-unfoldable pub call_action : List Symbol → Option Action
-call_action [] = None
-call_action (t ∷ []) = None
-call_action (t ∷ o ∷ ss) =
-    if is_mark mark.Open o then option_and_then (λ n. option_map (call n) (closed_arguments ss))
-    (name_of t) else None
+unfoldable pub call_action : Form Action
+call_action = behind name_of (λ timer. after mark.Open (made (call timer) closed_arguments))
 
--- the one part of an instruction
-abbrev pub one_part : Option Action → Option (List LineContent)
-one_part = option_map (λ a. acting a ∷ [])
+-- an instruction alone on its line
+abbrev pub acts : Form Action → Form (List LineContent)
+acts = made (λ a. acting a ∷ [])
 
--- an operator without an operand
-abbrev pub alone : Action → List Symbol → Option (List LineContent)
-alone a [] = Some (acting a ∷ [])
-alone a (s ∷ ss) = None
+-- [operand]: the operand is loaded as the first of the parenthesis
+unfoldable pub parenthesis : Operator → Bool → Form (List LineContent)
+parenthesis o n =
+    either (nothing (entering o n ∷ []))
+    (made (λ x. entering o n ∷ acting (load false x) ∷ []) operand)
 
--- "(" [operand]: the operand is loaded as the first of the parenthesis
-abbrev pub parenthesis_parts : Operator → Bool → List Symbol → Option (List LineContent)
-parenthesis_parts o n [] = Some (entering o n ∷ [])
-parenthesis_parts o n (s ∷ ss) =
-    option_map (λ x. entering o n ∷ acting (load false x) ∷ []) (operand (s ∷ ss))
+-- a `(` stands first
+abbrev pub begins_open : List Symbol → Bool
+begins_open [] = false
+begins_open (s ∷ ss) = is_mark mark.Open s
 
--- an operator that combines, with its operand or with `(`
-abbrev pub operator_parts : Operator → Bool → List Symbol → Option (List LineContent)
-operator_parts o n [] = None
-operator_parts o n (s ∷ ss) =
-    if is_mark mark.Open s then parenthesis_parts o n ss
-    else one_part (option_map (combine o n) (operand (s ∷ ss)))
+-- an operator's operand, or "(" [operand]
+unfoldable pub operator_parts : Operator → Bool → Form (List LineContent)
+operator_parts o n =
+    by begins_open (after mark.Open (parenthesis o n)) (acts (made (combine o n) operand))
 
--- an operator, and what belongs to it
-unfoldable pub statement : Mnemonic → List Symbol → Option (List LineContent)
-statement (mnemonic.Load n) ss = one_part (option_map (load n) (operand ss))
-statement (mnemonic.Store k) ss = one_part (option_map (store k) (place ss))
-statement (mnemonic.Combine o n) ss = operator_parts o n ss
-statement mnemonic.Not ss = alone invert ss
-statement (mnemonic.Convert c) ss = alone (convert c) ss
-statement (mnemonic.Return c) ss = alone (leave c) ss
-statement (mnemonic.Jump c) ss = one_part (option_map (jump c) (only_name ss))
-statement mnemonic.Call ss = one_part (call_action ss)
+-- what belongs to an operator
+unfoldable pub statement : Mnemonic → Form (List LineContent)
+statement (mnemonic.Load n) = acts (made (load n) operand)
+statement (mnemonic.Store k) = acts (made (store k) place)
+statement (mnemonic.Combine o n) = operator_parts o n
+statement mnemonic.Not = nothing (acting invert ∷ [])
+statement (mnemonic.Convert c) = nothing (acting (convert c) ∷ [])
+statement (mnemonic.Return c) = nothing (acting (leave c) ∷ [])
+statement (mnemonic.Jump c) = acts (made (jump c) (one name_of))
+statement mnemonic.Call = acts call_action
 
--- type [":=" literal] ";"
-unfoldable pub tail : List Symbol → Option Tail
-tail [] = None
-tail (k ∷ []) = None
-tail (k ∷ e ∷ []) =
-    if is_mark mark.Semicolon e
-    then option_map (λ t. record { kind = t; initial = None }) (type_of k) else None
-tail (k ∷ a ∷ v ∷ []) = None
-tail (k ∷ a ∷ v ∷ e ∷ []) =
-    if is_mark mark.Assign a && is_mark mark.Semicolon e
-    then option_and_then (λ t. option_map (λ x. record { kind = t; initial = Some x })
-    (literal_of v)) (elementary_of k)
-    else None
-tail (k ∷ a ∷ v ∷ e ∷ f ∷ ts) = None
+-- instr ::= op0 | op1 operand | bin operand | bin "(" [operand] | jump name
+--     | "CAL" name "(" [arg {"," arg}] ")"
+unfoldable pub instruction : Form (List LineContent)
+instruction = behind mnemonic_of statement
 
--- name {"," name}, from a name on, or after one
-unfoldable pub names_from : Bool → List Symbol → Option (List (List ℕ))
-names_from false [] = None
-names_from true [] = Some []
-names_from false (s ∷ ss) =
-    option_and_then (λ n. option_map (λ ns. n ∷ ns) (names_from true ss)) (name_of s)
-names_from true (s ∷ ss) = if is_mark mark.Comma s then names_from false ss else None
+-- a type without and with an initial value
+abbrev pub plain_tail : DeclaredType → Tail
+plain_tail kind = record { kind = kind; initial = None }
 
--- the names of a declaration, and what follows them
+abbrev pub initial_tail : DeclaredType → Literal → Tail
+initial_tail kind value = record { kind = kind; initial = Some value }
+
+-- two tokens
+abbrev pub is_two : List Symbol → Bool
+is_two (s ∷ t ∷ []) = true
+is_two other = false
+
+-- type [":=" literal] ";", with an initial value for an elementary type alone
+unfoldable pub tail : Form Tail
+tail =
+    by is_two (behind type_of (λ kind. after mark.Semicolon (nothing (plain_tail kind))))
+    (behind elementary_of (λ kind. after mark.Assign
+    (behind literal_of (λ value. after mark.Semicolon (nothing (initial_tail kind value))))))
+
+-- the part of these names
+abbrev pub declared_part : List (List ℕ) → Tail → List LineContent
+declared_part ns t = declaring ns t.kind t.initial ∷ []
+
+-- the same where the names may be no list
 abbrev pub declared_names : Tail → List Symbol → Option (List LineContent)
-declared_names t ss = option_map (λ ns. declaring ns t.kind t.initial ∷ []) (names_from false ss)
+declared_names t ss = option_map (λ ns. declared_part ns t) (names_from false ss)
 
--- the names before the colon, and the type and initial value behind it
-abbrev pub declared_by : Option (List Symbol × List Symbol) → Option (List LineContent)
-declared_by None = None
-declared_by (Some p) = option_and_then (λ t. declared_names t p.0) (tail p.1)
+-- decl ::= name {"," name} ":" type [":=" literal] ";"
+unfoldable pub declaration : Form (List LineContent)
+declaration = made (λ p. declared_part p.0 p.1) (parted mark.Colon names tail)
 
--- name {"," name} ":" tail
-unfoldable pub declaration : List Symbol → Option (List LineContent)
-declaration ss = declared_by (split_at_mark mark.Colon ss)
+-- the token is an operator
+abbrev pub is_mnemonic : Symbol → Bool
+is_mnemonic s = is_some (mnemonic_of s)
 
 -- what may stand behind a label: an operator, or nothing
 unfoldable pub may_follow_label : List Symbol → Bool
 may_follow_label [] = true
 may_follow_label (m ∷ ss) = is_mnemonic m
 
--- what stands behind the colon of a label
-unfoldable pub label_rest : List Symbol → Option (List Symbol)
-label_rest [] = None
-label_rest (c ∷ ss) = if is_mark mark.Colon c && may_follow_label ss then Some ss else None
+-- the first token is a label
+abbrev pub is_labelled : List Symbol → Bool
+is_labelled [] = false
+is_labelled (s ∷ []) = false
+is_labelled (s ∷ c ∷ ss) = is_mark mark.Colon c && may_follow_label ss
 
--- an operator as a token, and what belongs to it
-abbrev pub statement_by : Symbol → List Symbol → Option (List LineContent)
-statement_by (mnemonic_word m) ss = statement m ss
-statement_by other ss = None
+-- what stands behind a label: an instruction, or nothing
+unfoldable pub label_parts : List ℕ → Form (List LineContent)
+label_parts n =
+    either (nothing (labelling n ∷ [])) (made (λ ps. labelling n ∷ ps) instruction)
 
--- a label, and the instruction that may stand behind it
-unfoldable pub label_parts : List ℕ → List Symbol → Option (List LineContent)
-label_parts n [] = Some (labelling n ∷ [])
-label_parts n (m ∷ ss) = option_map (λ ps. labelling n ∷ ps) (statement_by m ss)
-
--- what stands behind a label, or else a declaration
-abbrev pub label_or : List ℕ → List Symbol → Option (List Symbol) → Option (List LineContent)
-label_or n ss (Some rest) = label_parts n rest
-label_or n ss None = declaration ss
-
--- a line that begins with this name: a label, or a declaration
-unfoldable pub named_line : List ℕ → List Symbol → List Symbol → Option (List LineContent)
-named_line n rest ss = label_or n ss (label_rest rest)
-
--- a part that stands alone on its line
-abbrev pub only : LineContent → List Symbol → Option (List LineContent)
-only p [] = Some (p ∷ [])
-only p (s ∷ ss) = None
+-- a line that begins with a name: a label with what stands behind it, or a declaration
+unfoldable pub named_line : Form (List LineContent)
+named_line =
+    by is_labelled (behind name_of (λ n. after mark.Colon (label_parts n))) declaration
 
 -- a keyword: PROGRAM has a name, the others stand alone
-unfoldable pub keyword_line : Keyword → List Symbol → Option (List LineContent)
-keyword_line keyword.Program ss = option_map (λ n. heading n ∷ []) (only_name ss)
-keyword_line keyword.EndProgram ss = only ending ss
-keyword_line keyword.Var ss = only (opening Local) ss
-keyword_line keyword.VarExternal ss = only (opening External) ss
-keyword_line keyword.EndVar ss = only closing ss
+unfoldable pub keyword_line : Keyword → Form (List LineContent)
+keyword_line keyword.Program = made (λ n. heading n ∷ []) (one name_of)
+keyword_line keyword.EndProgram = nothing (ending ∷ [])
+keyword_line keyword.Var = nothing (opening Local ∷ [])
+keyword_line keyword.VarExternal = nothing (opening External ∷ [])
+keyword_line keyword.EndVar = nothing (closing ∷ [])
 
--- a line that begins with this mark
-unfoldable pub mark_parts : Mark → List Symbol → Option (List LineContent)
-mark_parts mark.Close ss = only leaving ss
-mark_parts other ss = None
+-- what stands behind a first token that is no name
+unfoldable pub other_line : Symbol → Form (List LineContent)
+other_line (keyword_word w) = keyword_line w
+other_line (mnemonic_word m) = statement m
+other_line (mark_symbol mark.Close) = nothing (leaving ∷ [])
+other_line other = none
 
--- the form of a line by its first token
-abbrev pub by_first : Symbol → List Symbol → List Symbol → Option (List LineContent)
-by_first (name n) rest ss = named_line n rest ss
-by_first (keyword_word w) rest ss = keyword_line w rest
-by_first (type_word k) rest ss = None
-by_first (literal v) rest ss = None
-by_first (mnemonic_word m) rest ss = statement m rest
-by_first (mark_symbol m) rest ss = mark_parts m rest
+-- a name stands first
+abbrev pub begins_named : List Symbol → Bool
+begins_named [] = false
+begins_named (s ∷ ss) = is_some (name_of s)
 
--- the parts of a line, where it has a form; a blank line has none
-unfoldable pub parts_of : List Symbol → Option (List LineContent)
-parts_of [] = Some []
-parts_of (s ∷ ss) = by_first s ss (s ∷ ss)
+-- A line: blank; PROGRAM with its name; a word of a block; a declaration; [name ":"] [instr]; `)`;
+-- END_PROGRAM.
+unfoldable pub whole_line : Form (List LineContent)
+whole_line = either (nothing []) (by begins_named named_line (behind (λ s. Some s) other_line))
+
+-- the parts of a line, where it has a form
+abbrev pub parts_of : List Symbol → Option (List LineContent)
+parts_of ts = whole_line.reads ts
+
+-- The parts that a line is read to are those that it spells; and a line that is read to none spells
+-- none.
+abbrev pub LinesAreProduced : Type 0
+LinesAreProduced =
+    (ts : List Symbol) (ps : List LineContent) → whole_line.Spells ts ps ↔ (parts_of ts ≡ Some ps)
 
 -- a token with which a line begins that has no other
 abbrev pub is_single : Symbol → Bool

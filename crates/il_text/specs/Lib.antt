@@ -10,9 +10,10 @@
 -- B.1) cut a text by longest match into blanks, line ends and tokens; a comment is blank, and its
 -- line ends still end lines. `Falling` (2.2.3.1) says durations by their grammar: numbers with
 -- units, each unit smaller than the one before. `Parts` and `Forms` (annexes B.1.4.3, B.1.5.3, B.2)
--- read a line by its form to its parts: `L: LD a` has two. `Productions` is the same as a relation.
--- `Grammar` (2.5.3, annex B.2) derives a program from the parts of its lines. `Listing`: a program
--- as plain data, with a line for each item; items nest. `Places`: the last line.
+-- say by its form which parts a line has (`L: LD a` has two): a form is made of smaller ones in the
+-- ways of `TokenForms`, and is both a function that reads tokens and a relation. `Grammar` (2.5.3,
+-- annex B.2) derives a program from the parts of its lines. `Listing`: a program as plain data,
+-- with a line for each item; items nest. `Places`: the last line.
 --
 -- `Respelling` and `LetterCase` (2.1.1, 2.1.4, 2.1.5): other blanks or whole comments, CR LF for LF
 -- and letters in either case change nothing but the spelling of names.
@@ -33,12 +34,12 @@ pub mod Literals
 pub mod Parts
 pub mod Pieces
 pub mod Places
-pub mod Productions
 pub mod Reading
 pub mod Respelling
 pub mod Steps
 pub mod Symbols
 pub mod Texts
+pub mod TokenForms
 pub mod Tokens
 pub mod Views
 pub mod Words

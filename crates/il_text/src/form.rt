@@ -1,9 +1,12 @@
 // The forms of lines.
-ghost use Rattle.std.specs.Prelude.{◌≡◌, ◌<◌, ◌≤◌, length, option_map, option_and_then};
+ghost use Rattle.std.specs.Prelude.{◌≡◌, [], ◌∷◌, ◌<◌, ◌≤◌, length, option_map, option_and_then};
 ghost use Rattle.std.specs.List.{position_or_len};
 ghost use Rattle.il_text.specs.FormViews.{halves_of, line_parts, statement_parts};
 ghost use Rattle.il_text.specs.Forms as spec;
 ghost use Rattle.il_text.specs.Listing as text;
+ghost use Rattle.il_text.specs.Parts.{acting};
+ghost use Rattle.il_text.specs.TokenForms.{nothing_of};
+ghost use Rattle.il_text.specs.Tokens.{mark_symbol, name as text_name};
 ghost use Rattle.il_text.specs.TokenViews.{symbol_of, symbols_of};
 ghost use Rattle.il_text.specs.Views.{action_of, argument_of, arguments_of, place_of, source_of};
 
@@ -109,7 +112,6 @@ pub(crate) fn is_mark(token: Token<'_>, mark: Mark) -> bool
 }
 
 // Reads exactly one name.
-#[tactic(auto, unfolding(crate::specs::Forms::only_name))]
 fn only_name<'a>(tokens: &[Token<'a>]) -> Option<&'a str>
     ensures { option_map (λ n. n.now) result ≡ spec.only_name (symbols_of tokens.now) }
 {
@@ -134,10 +136,11 @@ fn output_named(word: &str) -> Option<Output>
 }
 
 // Reads the output of a timer from the tokens of both names.
-#[tactic(auto, unfolding(crate::specs::Forms::output_by))]
 fn output_by<'a>(timer: Token<'a>, output: Token<'a>) -> Option<SymbolicVariable<'a>>
     ensures { option_map place_of result
-        ≡ spec.output_by (symbol_of timer.entry) (symbol_of output.entry) }
+        ≡ option_and_then
+        (λ t. option_map (text.output t) (spec.output_of (symbol_of output.entry)))
+        (spec.name_of (symbol_of timer.entry)) }
 {
     let timer = name_of(timer)?;
     let output = output_named(name_of(output)?)?;
@@ -147,7 +150,7 @@ fn output_by<'a>(timer: Token<'a>, output: Token<'a>) -> Option<SymbolicVariable
 // Reads a name, or a name with `.Q` or `.ET`.
 #[tactic(auto, unfolding(crate::specs::Forms::place))]
 fn place<'a>(tokens: &[Token<'a>]) -> Option<SymbolicVariable<'a>>
-    ensures { option_map place_of result ≡ spec.place (symbols_of tokens.now) }
+    ensures { option_map place_of result ≡ spec.place.reads (symbols_of tokens.now) }
 {
     match tokens {
         [only] => name_of(*only).map(SymbolicVariable::Name),
@@ -157,7 +160,6 @@ fn place<'a>(tokens: &[Token<'a>]) -> Option<SymbolicVariable<'a>>
 }
 
 // Reads exactly one literal.
-#[tactic(auto, unfolding(crate::specs::Forms::only_literal))]
 fn only_literal(tokens: &[Token<'_>]) -> Option<Literal>
     ensures { result ≡ spec.only_literal (symbols_of tokens.now) }
 {
@@ -170,7 +172,7 @@ fn only_literal(tokens: &[Token<'_>]) -> Option<Literal>
 // Reads a literal, or whatever `place` reads.
 #[tactic(auto, unfolding(crate::specs::Forms::operand))]
 fn operand<'a>(tokens: &[Token<'a>]) -> Option<Operand<'a>>
-    ensures { option_map source_of result ≡ spec.operand (symbols_of tokens.now) }
+    ensures { option_map source_of result ≡ spec.operand.reads (symbols_of tokens.now) }
 {
     match only_literal(tokens) {
         Some(value) => Some(Operand::Literal(value)),
@@ -195,7 +197,7 @@ fn input_named(word: &str) -> Option<Input>
 // Reads one argument of a call: an input and its operand.
 #[tactic(auto, unfolding(crate::specs::Forms::argument))]
 fn argument<'a>(tokens: &[Token<'a>]) -> Option<Argument<'a>>
-    ensures { option_map argument_of result ≡ spec.argument (symbols_of tokens.now) }
+    ensures { option_map argument_of result ≡ spec.argument.reads (symbols_of tokens.now) }
 {
     match tokens {
         [name, assign, rest @ ..] if is_mark(*assign, Mark::Assign) => {
@@ -252,16 +254,16 @@ fn parted<'t, 'a>(tokens: &'t [Token<'a>], mark: Mark) -> Option<Halves<'t, 'a>>
 }
 
 // Reads one argument or two.
+#[tactic(auto, unfolding(crate::specs::Forms::argument_list))]
 fn argument_list<'a>(tokens: &[Token<'a>]) -> Option<Arguments<'a>>
     ensures { option_map arguments_of result
-        ≡ spec.argument_list (symbols_of tokens.now)
-        (spec.split_at_mark Mark.Comma (symbols_of tokens.now)) }
+        ≡ spec.argument_list.reads (symbols_of tokens.now) }
 {
     match parted(tokens, Mark::Comma) {
         None => argument(tokens).map(Arguments::One),
         Some(halves) => {
-            let first = argument(halves.front)?;
             let second = argument(halves.rest)?;
+            let first = argument(halves.front)?;
             both(first, second)
         }
     }
@@ -270,7 +272,7 @@ fn argument_list<'a>(tokens: &[Token<'a>]) -> Option<Arguments<'a>>
 // Reads the arguments of a call: none, one or two.
 #[tactic(auto, unfolding(crate::specs::Forms::arguments))]
 fn arguments<'a>(tokens: &[Token<'a>]) -> Option<Arguments<'a>>
-    ensures { option_map arguments_of result ≡ spec.arguments (symbols_of tokens.now) }
+    ensures { option_map arguments_of result ≡ spec.arguments.reads (symbols_of tokens.now) }
 {
     match tokens {
         [] => Some(Arguments::None),
@@ -281,7 +283,7 @@ fn arguments<'a>(tokens: &[Token<'a>]) -> Option<Arguments<'a>>
 // Reads the arguments of a call and the `)` after them.
 #[tactic(auto, unfolding(crate::specs::Forms::closed_arguments))]
 fn closed_arguments<'a>(tokens: &[Token<'a>]) -> Option<Arguments<'a>>
-    ensures { option_map arguments_of result ≡ spec.closed_arguments (symbols_of tokens.now) }
+    ensures { option_map arguments_of result ≡ spec.closed_arguments.reads (symbols_of tokens.now) }
 {
     let halves = parted(tokens, Mark::Close)?;
     match halves.rest {
@@ -293,7 +295,7 @@ fn closed_arguments<'a>(tokens: &[Token<'a>]) -> Option<Arguments<'a>>
 // Reads the call of a timer.
 #[tactic(auto, unfolding(crate::specs::Forms::call_action))]
 fn called<'a>(tokens: &[Token<'a>]) -> Option<Instruction<'a>>
-    ensures { option_map action_of result ≡ spec.call_action (symbols_of tokens.now) }
+    ensures { option_map action_of result ≡ spec.call_action.reads (symbols_of tokens.now) }
 {
     match tokens {
         [timer, open, rest @ ..] if is_mark(*open, Mark::Open) => {
@@ -308,7 +310,7 @@ fn called<'a>(tokens: &[Token<'a>]) -> Option<Instruction<'a>>
 // Returns the instruction if no token follows its operator.
 fn alone<'a>(instruction: Instruction<'a>, tokens: &[Token<'a>]) -> Option<Statement<'a>>
     ensures { option_map statement_parts result
-        ≡ spec.alone (action_of instruction.entry) (symbols_of tokens.now) }
+        ≡ nothing_of (acting (action_of instruction.entry) ∷ []) (symbols_of tokens.now) }
 {
     if tokens.is_empty() {
         Some(Statement::Plain(instruction))
@@ -318,9 +320,10 @@ fn alone<'a>(instruction: Instruction<'a>, tokens: &[Token<'a>]) -> Option<State
 }
 
 // Reads what follows the `(` of an operator: an operand or nothing.
+#[tactic(auto, unfolding(crate::specs::Forms::parenthesis))]
 fn entered<'a>(operator: Operator, negated: bool, tokens: &[Token<'a>]) -> Option<Statement<'a>>
     ensures { option_map statement_parts result
-        ≡ spec.parenthesis_parts operator negated (symbols_of tokens.now) }
+        ≡ (spec.parenthesis operator negated).reads (symbols_of tokens.now) }
 {
     let operand = match tokens {
         [] => None,
@@ -334,12 +337,12 @@ fn entered<'a>(operator: Operator, negated: bool, tokens: &[Token<'a>]) -> Optio
 }
 
 // Reads what follows an operator that combines the current result with an operand.
+#[tactic(auto, unfolding(crate::specs::Forms::operator_parts))]
 fn combined<'a>(operator: Operator, negated: bool, tokens: &[Token<'a>]) -> Option<Statement<'a>>
     ensures { option_map statement_parts result
-        ≡ spec.operator_parts operator negated (symbols_of tokens.now) }
+        ≡ (spec.operator_parts operator negated).reads (symbols_of tokens.now) }
 {
     match tokens {
-        [] => None,
         [first, rest @ ..] if is_mark(*first, Mark::Open) => entered(operator, negated, rest),
         _ => {
             let operand = operand(tokens)?;
@@ -355,7 +358,7 @@ fn combined<'a>(operator: Operator, negated: bool, tokens: &[Token<'a>]) -> Opti
 // Reads the operand of `LD` or `LDN`.
 fn load<'a>(negated: bool, tokens: &[Token<'a>]) -> Option<Instruction<'a>>
     ensures { option_map action_of result
-        ≡ option_map (text.load negated) (spec.operand (symbols_of tokens.now)) }
+        ≡ option_map (text.load negated) (spec.operand.reads (symbols_of tokens.now)) }
 {
     let operand = operand(tokens)?;
     Some(Instruction::Load { negated, operand })
@@ -364,7 +367,7 @@ fn load<'a>(negated: bool, tokens: &[Token<'a>]) -> Option<Instruction<'a>>
 // Reads the variable that a store writes.
 fn store<'a>(kind: StoreKind, tokens: &[Token<'a>]) -> Option<Instruction<'a>>
     ensures { option_map action_of result
-        ≡ option_map (text.store kind) (spec.place (symbols_of tokens.now)) }
+        ≡ option_map (text.store kind) (spec.place.reads (symbols_of tokens.now)) }
 {
     let target = place(tokens)?;
     Some(Instruction::Store { kind, target })
@@ -382,7 +385,7 @@ fn jump<'a>(condition: Condition, tokens: &[Token<'a>]) -> Option<Instruction<'a
 // Reads what belongs to an operator.
 #[tactic(auto, unfolding(crate::specs::Forms::statement))]
 fn statement_of<'a>(mnemonic: Mnemonic, tokens: &[Token<'a>]) -> Option<Statement<'a>>
-    ensures { option_map statement_parts result ≡ spec.statement mnemonic (symbols_of tokens.now) }
+    ensures { option_map statement_parts result ≡ (spec.statement mnemonic).reads (symbols_of tokens.now) }
 {
     match mnemonic {
         Mnemonic::Load { negated } => load(negated, tokens).map(Statement::Plain),
@@ -399,7 +402,7 @@ fn statement_of<'a>(mnemonic: Mnemonic, tokens: &[Token<'a>]) -> Option<Statemen
 // Reads `type ;` or `type := literal ;`. A timer type takes no literal.
 #[tactic(auto, unfolding(crate::specs::Forms::tail))]
 fn tail_of(tokens: &[Token<'_>]) -> Option<Tail>
-    ensures { result ≡ spec.tail (symbols_of tokens.now) }
+    ensures { result ≡ spec.tail.reads (symbols_of tokens.now) }
 {
     match tokens {
         [kind, end] if is_mark(*end, Mark::Semicolon) => Some(Tail {
@@ -422,7 +425,7 @@ fn tail_of(tokens: &[Token<'_>]) -> Option<Tail>
 // Reads a declaration. Its names are not checked yet.
 #[tactic(auto, unfolding(crate::specs::Forms::declaration))]
 fn declaration<'t, 'a>(tokens: &'t [Token<'a>]) -> Option<Line<'t, 'a>>
-    ensures { option_and_then line_parts result ≡ spec.declaration (symbols_of tokens.now) }
+    ensures { option_and_then line_parts result ≡ spec.declaration.reads (symbols_of tokens.now) }
 {
     let halves = parted(tokens, Mark::Colon)?;
     let tail = tail_of(halves.rest)?;
@@ -443,22 +446,11 @@ fn may_follow_label(tokens: &[Token<'_>]) -> bool
     }
 }
 
-// Returns the tokens after the colon of a label.
-#[tactic(auto, unfolding(crate::specs::Forms::label_rest))]
-fn label_rest<'t, 'a>(tokens: &'t [Token<'a>]) -> Option<&'t [Token<'a>]>
-    ensures { option_map (λ ts. symbols_of ts.now) result
-        ≡ spec.label_rest (symbols_of tokens.now) }
-{
-    match tokens {
-        [colon, rest @ ..] if is_mark(*colon, Mark::Colon) && may_follow_label(rest) => Some(rest),
-        _ => None,
-    }
-}
-
 // Reads an operator, given as a token, and what belongs to it.
+#[tactic(auto, unfolding(crate::specs::Forms::instruction))]
 fn statement_by<'a>(first: Token<'a>, tokens: &[Token<'a>]) -> Option<Statement<'a>>
     ensures { option_map statement_parts result
-        ≡ spec.statement_by (symbol_of first.entry) (symbols_of tokens.now) }
+        ≡ spec.instruction.reads (symbol_of first.entry ∷ symbols_of tokens.now) }
 {
     match first {
         Token::Mnemonic(mnemonic) => statement_of(mnemonic, tokens),
@@ -470,7 +462,7 @@ fn statement_by<'a>(first: Token<'a>, tokens: &[Token<'a>]) -> Option<Statement<
 #[tactic(auto, unfolding(crate::specs::Forms::label_parts))]
 fn labelled<'t, 'a>(label: &'a str, tokens: &'t [Token<'a>]) -> Option<Line<'t, 'a>>
     ensures { option_and_then line_parts result
-        ≡ spec.label_parts label.now (symbols_of tokens.now) }
+        ≡ (spec.label_parts label.now).reads (symbols_of tokens.now) }
 {
     match tokens {
         [] => Some(Line::Label(label)),
@@ -484,7 +476,7 @@ fn labelled<'t, 'a>(label: &'a str, tokens: &'t [Token<'a>]) -> Option<Line<'t, 
 // Reads a line that begins with a keyword.
 #[tactic(auto, unfolding(crate::specs::Forms::keyword_line))]
 fn keyword_line<'t, 'a>(word: Keyword, tokens: &'t [Token<'a>]) -> Option<Line<'t, 'a>>
-    ensures { option_and_then line_parts result ≡ spec.keyword_line word (symbols_of tokens.now) }
+    ensures { option_and_then line_parts result ≡ (spec.keyword_line word).reads (symbols_of tokens.now) }
 {
     let line = match word {
         Keyword::Program => return only_name(tokens).map(Line::Heading),
@@ -503,35 +495,19 @@ fn named_line<'t, 'a>(
     rest: &'t [Token<'a>],
     tokens: &'t [Token<'a>],
 ) -> Option<Line<'t, 'a>>
-    ensures { option_and_then line_parts result
-        ≡ spec.named_line name.now (symbols_of rest.now) (symbols_of tokens.now) }
+    requires { symbols_of tokens.now ≡ text_name name.now ∷ symbols_of rest.now }
+    ensures { option_and_then line_parts result ≡ spec.named_line.reads (symbols_of tokens.now) }
 {
-    match label_rest(rest) {
-        Some(behind) => labelled(name, behind),
-        None => declaration(tokens),
+    match rest {
+        [colon, behind @ ..] if is_mark(*colon, Mark::Colon) && may_follow_label(behind) => {
+            labelled(name, behind)
+        }
+        _ => declaration(tokens),
     }
-}
-
-// Reads a line that begins with a mark: only `)` alone is one.
-#[tactic(auto, unfolding(crate::specs::Forms::mark_parts))]
-fn marked<'t, 'a>(mark: Mark, tokens: &'t [Token<'a>]) -> Option<Line<'t, 'a>>
-    ensures { option_and_then line_parts result ≡ spec.mark_parts mark (symbols_of tokens.now) }
-{
-    match (mark, tokens) {
-        (Mark::Close, []) => Some(Line::Leaving),
-        _ => None,
-    }
-}
-
-// Reads a line that begins with an operator.
-fn statement_line<'t, 'a>(mnemonic: Mnemonic, tokens: &'t [Token<'a>]) -> Option<Line<'t, 'a>>
-    ensures { option_and_then line_parts result ≡ spec.statement mnemonic (symbols_of tokens.now) }
-{
-    statement_of(mnemonic, tokens).map(Line::Statement)
 }
 
 /// Returns the form of a line that is not blank, or `None` if it has none.
-#[tactic(auto, unfolding(crate::specs::Forms::parts_of))]
+#[tactic(auto, unfolding(crate::specs::Forms::whole_line, crate::specs::Forms::other_line))]
 pub(crate) fn line_of<'t, 'a>(tokens: &'t [Token<'a>]) -> Option<Line<'t, 'a>>
     requires { 0 < length tokens.now }
     ensures { option_and_then line_parts result ≡ spec.parts_of (symbols_of tokens.now) }
@@ -542,9 +518,9 @@ pub(crate) fn line_of<'t, 'a>(tokens: &'t [Token<'a>]) -> Option<Line<'t, 'a>>
     match *first {
         Token::Name(name) => named_line(name, rest, tokens),
         Token::Keyword(word) => keyword_line(word, rest),
-        Token::Mnemonic(mnemonic) => statement_line(mnemonic, rest),
-        Token::Mark(mark) => marked(mark, rest),
-        Token::Type(_) | Token::Literal(_) => None,
+        Token::Mnemonic(mnemonic) => statement_of(mnemonic, rest).map(Line::Statement),
+        Token::Mark(Mark::Close) if rest.is_empty() => Some(Line::Leaving),
+        Token::Mark(_) | Token::Type(_) | Token::Literal(_) => None,
     }
 }
 

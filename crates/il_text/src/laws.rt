@@ -1,8 +1,8 @@
 // Laws of the definition of a text's program, each the contract of a function that does nothing.
 ghost use Rattle.il_text.specs.Falling.{DurationsFall};
+ghost use Rattle.il_text.specs.Forms.{LinesAreProduced};
 ghost use Rattle.il_text.specs.Grammar.{OneProgram};
 ghost use Rattle.il_text.specs.LetterCase.{LettersMayBeRespelled};
-ghost use Rattle.il_text.specs.Productions.{LinesAreProduced};
 ghost use Rattle.il_text.specs.Respelling.{BlanksMayBeRespelled, LineEndsMayBeRespelled};
 ghost use Rattle.il_text.specs.Texts.{OneReading, ProgramIsRead};
 
@@ -12,8 +12,8 @@ pub fn one_program_is_derived()
     ensures { OneProgram }
 {}
 
-/// A line of tokens is read to the parts of its production; a line without a production is read to
-/// no parts (IEC 61131-3:2003, annexes B.1.4.3, B.1.5.3 and B.2).
+/// A line of tokens is read to the parts that it spells by its grammar; a line that spells none is
+/// read to no parts (IEC 61131-3:2003, annexes B.1.4.3, B.1.5.3 and B.2).
 pub fn lines_are_produced()
     ensures { LinesAreProduced }
 {}

@@ -1,6 +1,6 @@
 use Rattle.std.proofs.Common.{◌≡◌, Some, sym}
 use Rattle.std.proofs.lemmas.List.{map-append}
-use Rattle.il_text.specs.Forms.{name_of}
+use Rattle.il_text.specs.TokenForms.{name_of}
 use Rattle.il_text.specs.TokenViews.{symbol_of}
 use Rattle.il_text.proofs.ListingLemmas.{at-name}
 use Rattle.il_text.proofs.declaring.declare_token.Goals as goal

@@ -1,0 +1,164 @@
+-- Forms: how the tokens of a line spell something, once as a function that reads them and once as a
+-- relation, made of smaller forms. A lemma for each way of making them says that the two agree.
+use Rattle.std.specs.Prelude.{ℕ, ◌≡◌, ◌⊎◌, Bool, true, false, List, [], ◌∷◌, ◌++◌, take, drop, Option, Some, None, option_map, option_and_then, is_some, if◌then◌else◌}
+use Rattle.std.specs.List.{list_any, position_or_len}
+use Rattle.il_text.specs.Tokens.{Symbol, name, mark_symbol}
+use Rattle.il_text.specs.declared.token.Mark.{Mark}
+use Rattle.il_text.specs.declared.token.Mark.TheVariants as mark
+
+-- what tokens are read as, if anything, and what they spell
+pub record Form (A : Type 0) : Type 1 where
+  pub reads : List Symbol → Option A
+  pub Spells : List Symbol → A → Type 0
+
+-- of what f reads
+abbrev pub made : {A B : Type 0} → (A → B) → Form A → Form B
+made make f = record {
+  reads = λ ts. option_map make (f.reads ts);
+  Spells = λ ts y. (x : _) × f.Spells ts x × (make x ≡ y);
+}
+
+-- the same, where there is something
+abbrev pub such : {A B : Type 0} → (A → Option B) → Form A → Form B
+such test f = record {
+  reads = λ ts. option_and_then test (f.reads ts);
+  Spells = λ ts y. (x : _) × f.Spells ts x × (test x ≡ Some y);
+}
+
+-- no tokens are anything
+abbrev pub none : {A : Type 0} → Form A
+none = record { reads = λ ts. None; Spells = λ ts x. ⊥ }
+
+abbrev pub nothing_of : {A : Type 0} → A → List Symbol → Option A
+nothing_of x [] = Some x
+nothing_of x (t ∷ ts) = None
+
+-- no token, which stands for this
+abbrev pub nothing : {A : Type 0} → A → Form A
+nothing x = record { reads = nothing_of x; Spells = λ ts y. (ts ≡ []) × (x ≡ y) }
+
+abbrev pub one_of : {A : Type 0} → (Symbol → Option A) → List Symbol → Option A
+one_of is [] = None
+one_of is (t ∷ []) = is t
+one_of is (t ∷ u ∷ ts) = None
+
+-- one token
+abbrev pub one : {A : Type 0} → (Symbol → Option A) → Form A
+one is = record {
+  reads = one_of is;
+  Spells = λ ts x. (t : Symbol) × (ts ≡ t ∷ []) × (is t ≡ Some x);
+}
+
+abbrev pub behind_of : {A B : Type 0} → (Symbol → Option A) → (A → List Symbol → Option B)
+    → List Symbol → Option B
+behind_of is f [] = None
+behind_of is f (t ∷ ts) = option_and_then (λ x. f x ts) (is t)
+
+-- one token, and by what it is, those behind it
+abbrev pub behind : {A B : Type 0} → (Symbol → Option A) → (A → Form B) → Form B
+behind is f = record {
+  reads = behind_of is (λ x. (f x).reads);
+  Spells = λ ts y. (t : Symbol) × (rest : List Symbol) × (x : _) × (ts ≡ t ∷ rest) × (is t ≡ Some x)
+      × (f x).Spells rest y;
+}
+
+-- the marks are one
+abbrev pub same_mark : Mark → Mark → Bool
+same_mark mark.Colon mark.Colon = true
+same_mark mark.Assign mark.Assign = true
+same_mark mark.Comma mark.Comma = true
+same_mark mark.Semicolon mark.Semicolon = true
+same_mark mark.Dot mark.Dot = true
+same_mark mark.Open mark.Open = true
+same_mark mark.Close mark.Close = true
+same_mark m other = false
+
+-- the token is this mark
+abbrev pub is_mark : Mark → Symbol → Bool
+is_mark m (mark_symbol n) = same_mark m n
+is_mark m other = false
+
+abbrev pub after_of : {A : Type 0} → Mark → (List Symbol → Option A) → List Symbol → Option A
+after_of m f [] = None
+after_of m f (t ∷ ts) = if is_mark m t then f ts else None
+
+-- a mark, and the tokens behind it
+abbrev pub after : {A : Type 0} → Mark → Form A → Form A
+after m f = record {
+  reads = after_of m f.reads;
+  Spells = λ ts x. (rest : List Symbol) × (ts ≡ mark_symbol m ∷ rest) × f.Spells rest x;
+}
+
+abbrev pub or_of : {A : Type 0} → Option A → Option A → Option A
+or_of (Some x) o = Some x
+or_of None o = o
+
+-- what f reads, or else what g does
+abbrev pub either : {A : Type 0} → Form A → Form A → Form A
+either f g = record {
+  reads = λ ts. or_of (f.reads ts) (g.reads ts);
+  Spells = λ ts x. f.Spells ts x ⊎ (((y : _) → f.Spells ts y → ⊥) × g.Spells ts x);
+}
+
+-- tokens of one form where they pass a test, and of another else
+abbrev pub by : {A : Type 0} → (List Symbol → Bool) → Form A → Form A → Form A
+by test f g = record {
+  reads = λ ts. if test ts then f.reads ts else g.reads ts;
+  Spells = λ ts x. ((test ts ≡ true) × f.Spells ts x) ⊎ ((test ts ≡ false) × g.Spells ts x);
+}
+
+-- what stands behind the first token, and the front as it is
+abbrev pub after_front : List Symbol → List Symbol → Option (List Symbol × List Symbol)
+after_front front [] = None
+after_front front (s ∷ rest) = Some (front, rest)
+
+-- what stands before and after the token at this place
+unfoldable pub parts_at : ℕ → List Symbol → Option (List Symbol × List Symbol)
+parts_at n ss = after_front (take n ss) (drop n ss)
+
+-- what stands before and after the first token of this mark
+abbrev pub split_at_mark : Mark → List Symbol → Option (List Symbol × List Symbol)
+split_at_mark m ss = parts_at (position_or_len (is_mark m) ss) ss
+
+-- the mark is among the tokens
+abbrev pub has_mark : Mark → List Symbol → Bool
+has_mark m ts = is_some (split_at_mark m ts)
+
+abbrev pub parted_of : {A B : Type 0} → (List Symbol → Option A) → (List Symbol → Option B)
+    → Option (List Symbol × List Symbol) → Option (A × B)
+parted_of f g None = None
+parted_of f g (Some p) = option_and_then (λ y. option_map (λ x. (x, y)) (f p.0)) (g p.1)
+
+-- the tokens before the first of a mark, and those behind it
+abbrev pub parted : {A B : Type 0} → Mark → Form A → Form B → Form (A × B)
+parted m f g = record {
+  reads = λ ts. parted_of f.reads g.reads (split_at_mark m ts);
+  Spells = λ ts x. (front : List Symbol) × (rest : List Symbol)
+      × (ts ≡ front ++ mark_symbol m ∷ rest) × (list_any (is_mark m) front ≡ false)
+      × f.Spells front x.0 × g.Spells rest x.1;
+}
+
+-- the name that a token is
+abbrev pub name_of : Symbol → Option (List ℕ)
+name_of (name n) = Some n
+name_of other = None
+
+-- name {"," name}, from a name on, or after one
+unfoldable pub names_from : Bool → List Symbol → Option (List (List ℕ))
+names_from false [] = None
+names_from true [] = Some []
+names_from false (s ∷ ss) =
+    option_and_then (λ n. option_map (λ ns. n ∷ ns) (names_from true ss)) (name_of s)
+names_from true (s ∷ ss) = if is_mark mark.Comma s then names_from false ss else None
+
+-- name {"," name}
+abbrev pub spelled_names : List ℕ → List (List ℕ) → List Symbol
+spelled_names n [] = name n ∷ []
+spelled_names n (m ∷ ns) = name n ∷ mark_symbol mark.Comma ∷ spelled_names m ns
+
+-- a list of names
+abbrev pub names : Form (List (List ℕ))
+names = record {
+  reads = names_from false;
+  Spells = λ ts x. (n : List ℕ) × (ns : List (List ℕ)) × (x ≡ n ∷ ns) × (ts ≡ spelled_names n ns);
+}
