@@ -35,7 +35,7 @@ use Rattle.il_text.specs.Places.{last_line}
 use Rattle.il_text.specs.Reading.{lines, onto, program_of, tokens_of}
 use Rattle.il_text.specs.Symbols.{is_line_end, literal_piece, mark_of, mark_piece, name_or_reserved, piece, pieces_of, plain_word, word}
 use Rattle.il_text.specs.Texts.{Allowed, OnParts, OnTokens, Reads, ReadsAs, Refused, TextLine, all_parts, numbered_parts}
-use Rattle.il_text.specs.TokenForms.{Form, nothing, spelled_names}
+use Rattle.il_text.specs.TokenForms.{Form as LineForm, nothing, spelled_names}
 use Rattle.il_text.specs.Tokens.{Symbol, name, keyword_word, mnemonic_word, mark_symbol, Piece, blank, line_end, token, bad_token, bad_literal}
 use Rattle.il_text.specs.Words.{reserved_symbol, symbol_of_word}
 use Rattle.il_text.specs.declared.literal.LiteralFault.{LiteralFault}
@@ -270,13 +270,13 @@ declaration-named ts ps all s =
     (subst (Each IsWord) (sym names.2) (spelled-named names.0 names.1 (rw names.3 at front)), tt)
 
 -- the parts of what declares no names
-record NamesNone (f : Form (List LineContent)) : Type 0 where
+record NamesNone (f : LineForm (List LineContent)) : Type 0 where
   are : (ts : List Symbol) (ps : List LineContent) → f.Spells ts ps → Each IsPartNamed ps
 
 none-of : (ps : List LineContent) → Each IsPartNamed ps → NamesNone (nothing ps)
 none-of ps named = record { are = λ ts qs s. subst (Each IsPartNamed) s.1 named }
 
-acts-none : (f : Form Action) → NamesNone (acts f)
+acts-none : (f : LineForm Action) → NamesNone (acts f)
 acts-none f = record { are = λ ts ps s. subst (Each IsPartNamed) s.2 (tt, tt) }
 
 parenthesis-none : (o : Operator) (n : Bool) → NamesNone (parenthesis o n)
@@ -325,7 +325,7 @@ line-named : (ts : List Symbol) (ps : List LineContent) → Each IsNamed ts → 
     → Each IsPartNamed ps
 unfolding whole_line named_line
 line-named ts ps all s = elim s [
-  | inl blank ↦ subst (Each IsPartNamed) blank.1 tt
+  | inl empty ↦ subst (Each IsPartNamed) empty.1 tt
   | inr more ↦ elim more.1 [
     | inl named ↦ elim named.1 [
       | inl label ↦ let is = label.1 in (label-none is.2).are is.5.0 ps is.5.2

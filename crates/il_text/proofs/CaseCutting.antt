@@ -81,7 +81,9 @@ joins-up x p =
 
 join-up : (x : ℕ) (ps : List (List ℕ)) → join (up x) (map (map up) ps) ≡ map (map up) (join x ps)
 join-up x [] = refl
-join-up x (p ∷ ps) = rw (joins-up x p) (cond-up (map (map up)) (joins x p) ((x ∷ p) ∷ ps) ((x ∷ []) ∷ p ∷ ps))
+join-up x (p ∷ ps) =
+    rw (joins-up x p)
+    (cond-up (map (map up)) (joins x p) ((x ∷ p) ∷ ps) ((x ∷ []) ∷ p ∷ ps))
 
 pieces-up : (xs : List ℕ) → pieces (map up xs) ≡ map (map up) (pieces xs)
 unfolding pieces
@@ -193,7 +195,8 @@ literal-up (Err OutOfRange) = refl
 named-by : (w : List ℕ) (o : Option Symbol)
     → name_or_reserved (map up w) (option_map upper_symbol o) ≡ upper_piece (name_or_reserved w o)
 named-by w (Some k) = refl
-named-by w None = rw (length-up w) (cond-up upper_piece (leb (length w) 64) (token (name w)) bad_token)
+named-by w None =
+    rw (length-up w) (cond-up upper_piece (leb (length w) 64) (token (name w)) bad_token)
 
 plain_word-up : (w : List ℕ) → plain_word (map up w) ≡ upper_piece (plain_word w)
 unfolding plain_word
@@ -211,7 +214,8 @@ word-by w None e false f =
     (literal-up (plain_literal (decimal w)))
 
 -- no mark is a name
-mark_piece-up : (p : List ℕ) → mark_piece (mark_of (map up p)) ≡ upper_piece (mark_piece (mark_of p))
+mark_piece-up : (p : List ℕ)
+    → mark_piece (mark_of (map up p)) ≡ upper_piece (mark_piece (mark_of p))
 mark_piece-up p = rw (mark-up p) (unfold mark_of in grind (arith, common_steps))
 
 piece-up : (p : List ℕ) → piece (map up p) ≡ upper_piece (piece p)

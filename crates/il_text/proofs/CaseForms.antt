@@ -1,11 +1,9 @@
 -- Letters in upper case: the forms of lines.
 use Rattle.std.proofs.Common.{arith}
 use Rattle.std.proofs.lemmas.Grind.{common_steps}
-use Rattle.std.proofs.Common.{◌≡◌, ℕ, Bool, true, false, cond, List, [], ◌∷◌, Option, Some, None, option_map, option_and_then, is_some, map, take, drop, codes, refl, ap, ◌∙◌}
-use Rattle.std.proofs.lemmas.List.{drop-map, take-map}
-use Rattle.std.specs.List.{position_or_len}
+use Rattle.std.proofs.Common.{◌≡◌, ℕ, Bool, true, false, cond, List, [], ◌∷◌, Option, Some, None, option_map, option_and_then, is_some, map, codes, refl, ap, ◌∙◌}
 use Rattle.il_text.specs.Forms as form
-use Rattle.il_text.specs.TokenForms.{Form, made, such, nothing, one, one_of, behind, after, after_of, either, or_of, by, split_at_mark, parts_at, after_front, has_mark, parted, parted_of, name_of, is_mark, names_from}
+use Rattle.il_text.specs.TokenForms.{Form, made, such, nothing, one, one_of, behind, after, after_of, either, or_of, by, split_at_mark, onto_front, has_mark, parted, parted_of, name_of, is_mark, names_from}
 use Rattle.il_text.specs.LetterCase.{upper_place, upper_source, upper_argument, upper_action}
 use Rattle.il_text.specs.Listing.{OperandData, Action}
 use Rattle.il_text.specs.Parts.{LineContent, heading, opening, declaring, closing, labelling, acting, entering, leaving, ending}
@@ -77,7 +75,8 @@ such-up {test = test} {g = g} h k =
 nothing-up : {A : Type 0} {u : A → A} {x y : A} → y ≡ u x → Up u (nothing y) (nothing x)
 nothing-up {A} {u} {x} {y} e = record { up = by-list }
   where
-    by-list : (ts : List Symbol) → (nothing y).reads (upper_symbols ts) ≡ option_map u ((nothing x).reads ts)
+    by-list : (ts : List Symbol)
+        → (nothing y).reads (upper_symbols ts) ≡ option_map u ((nothing x).reads ts)
     by-list [] = ap Some e
     by-list (t ∷ ts) = refl
 
@@ -93,7 +92,8 @@ behind-up : {A B : Type 0} (u : A → A) {v : B → B} {is : Symbol → Option A
     → IsUp u is → ((x : A) → Up v (f (u x)) (f x)) → Up v (behind is f) (behind is f)
 behind-up {A} {B} u {v} {is} {f} h k = record { up = by-list }
   where
-    by-list : (ts : List Symbol) → (behind is f).reads (upper_symbols ts) ≡ option_map v ((behind is f).reads ts)
+    by-list : (ts : List Symbol)
+        → (behind is f).reads (upper_symbols ts) ≡ option_map v ((behind is f).reads ts)
     by-list [] = refl
     by-list (t ∷ ts) =
         ap (option_and_then (λ x. (f x).reads (upper_symbols ts))) (h t)
@@ -103,13 +103,15 @@ mark-up : (m : Mark) (s : Symbol) → is_mark m (upper_symbol s) ≡ is_mark m s
 mark-up m (name n) = refl
 mark-up m i = refl
 
-after-up : {A : Type 0} {u : A → A} {m : Mark} {f g : Form A} → Up u f g → Up u (after m f) (after m g)
+after-up : {A : Type 0} {u : A → A} {m : Mark} {f g : Form A} → Up u f g
+    → Up u (after m f) (after m g)
 after-up {A} {u} {m} {f} {g} k = record { up = by-list }
   where
     by-list : (ts : List Symbol)
         → after_of m f.reads (upper_symbols ts) ≡ option_map u (after_of m g.reads ts)
     by-list [] = refl
-    by-list (t ∷ ts) = rw (mark-up m t, k.up ts) (cond-up (option_map _) (is_mark m t) (g.reads ts) None)
+    by-list (t ∷ ts) =
+        rw (mark-up m t, k.up ts) (cond-up (option_map _) (is_mark m t) (g.reads ts) None)
 
 either-up : {A : Type 0} {u : A → A} {f g d e : Form A} → Up u f d → Up u g e
     → Up u (either f g) (either d e)
@@ -124,31 +126,25 @@ by-up : {A : Type 0} {u : A → A} {test : List Symbol → Bool} {f g d e : Form
     → ((ts : List Symbol) → test (upper_symbols ts) ≡ test ts) → Up u f d → Up u g e
     → Up u (by test f g) (by test d e)
 by-up {test = test} {d = d} {e = e} h k l =
-    record { up = λ ts. rw (h ts, k.up ts, l.up ts) (cond-up (option_map _) (test ts) (d.reads ts) (e.reads ts)) }
+    record {
+      up = λ ts. rw (h ts, k.up ts, l.up ts)
+          (cond-up (option_map _) (test ts) (d.reads ts) (e.reads ts));
+    }
 
 abbrev up_both : List Symbol × List Symbol → List Symbol × List Symbol
 up_both p = (upper_symbols p.0, upper_symbols p.1)
 
 split-up : (m : Mark) (ts : List Symbol)
     → split_at_mark m (upper_symbols ts) ≡ option_map up_both (split_at_mark m ts)
-unfolding parts_at
-split-up m ts =
-    ap (λ (n : ℕ). parts_at n (upper_symbols ts)) (place-up ts)
-    ∙ rw (take-map upper_symbol at ts, drop-map upper_symbol at ts) (by-back (take at ts) (drop at ts))
+split-up m [] = refl
+split-up m (s ∷ ss) = rw (mark-up m s, split-up m ss) (by-test (is_mark m s) (split_at_mark m ss))
   where
-    at : ℕ
-    at = position_or_len (is_mark m) ts
-
-    place-up : (ss : List Symbol)
-        → position_or_len (is_mark m) (upper_symbols ss) ≡ position_or_len (is_mark m) ss
-    place-up [] = refl
-    place-up (s ∷ ss) = rw (mark-up m s, place-up ss) refl
-
-    by-back : (front back : List Symbol)
-        → after_front (upper_symbols front) (upper_symbols back)
-        ≡ option_map up_both (after_front front back)
-    by-back front [] = refl
-    by-back front (s ∷ rest) = refl
+    by-test : (b : Bool) (o : Option (List Symbol × List Symbol))
+        → cond b (Some ([], upper_symbols ss))
+        (option_map (onto_front (upper_symbol s)) (option_map up_both o))
+        ≡ option_map up_both (cond b (Some ([], ss)) (option_map (onto_front s) o))
+    by-test true o = refl
+    by-test false o = mapped _ _ _ _ (λ p. refl) o
 
 parted-up : {A B : Type 0} {u : A → A} {v : B → B} {m : Mark} {f d : Form A} {g e : Form B}
     → Up u f d → Up v g e → Up (λ p. (u p.0, v p.1)) (parted m f g) (parted m d e)
@@ -202,10 +198,14 @@ word-up {A} {f} h s = rw (name-up s) (then-up _ _ _ _ (λ w. h w ∙ by-same (f 
     by-same (Some x) = refl
 
 output-up : IsUp same form.output_of
-output-up = word-up (λ w. (unfold form.output_named in rw (same-up w (codes "Q"), same-up w (codes "ET")) refl))
+output-up =
+    word-up (λ w. (unfold form.output_named in
+    rw (same-up w (codes "Q"), same-up w (codes "ET")) refl))
 
 input-up : IsUp same form.input_of
-input-up = word-up (λ w. (unfold form.input_named in rw (same-up w (codes "IN"), same-up w (codes "PT")) refl))
+input-up =
+    word-up (λ w. (unfold form.input_named in
+    rw (same-up w (codes "IN"), same-up w (codes "PT")) refl))
 
 place-up : Up upper_place form.place form.place
 unfolding form.place
@@ -257,7 +257,8 @@ call-up =
 acts-up : {f g : Form Action} → Up upper_action f g → Up upper_parts (form.acts f) (form.acts g)
 acts-up k = made-up (λ a. refl) k
 
-parenthesis-up : (o : Operator) (n : Bool) → Up upper_parts (form.parenthesis o n) (form.parenthesis o n)
+parenthesis-up : (o : Operator) (n : Bool)
+    → Up upper_parts (form.parenthesis o n) (form.parenthesis o n)
 unfolding form.parenthesis
 parenthesis-up o n = either-up (nothing-up refl) (made-up (λ x. refl) operand-up)
 
@@ -308,7 +309,8 @@ operator-first : (s : Symbol) → form.is_mnemonic (upper_symbol s) ≡ form.is_
 operator-first (name n) = refl
 operator-first i = refl
 
-follows-up : (ts : List Symbol) → form.may_follow_label (upper_symbols ts) ≡ form.may_follow_label ts
+follows-up : (ts : List Symbol)
+    → form.may_follow_label (upper_symbols ts) ≡ form.may_follow_label ts
 unfolding form.may_follow_label
 follows-up [] = refl
 follows-up (t ∷ ts) = operator-first t
@@ -320,7 +322,8 @@ labelled-up (s ∷ c ∷ ts) = rw (mark-up mark.Colon c, follows-up ts) refl
 
 named-up : Up upper_parts form.named_line form.named_line
 unfolding form.named_line
-named-up = by-up labelled-up (behind-up (map up) name-up (λ n. after-up (label-up n))) declaration-up
+named-up =
+    by-up labelled-up (behind-up (map up) name-up (λ n. after-up (label-up n))) declaration-up
 
 keyword-up : (w : Keyword) → Up upper_parts (form.keyword_line w) (form.keyword_line w)
 unfolding form.keyword_line

@@ -176,11 +176,13 @@ step-up n r (labelling name) =
     rw (stand-up r, item-up r (label n name))
     (reached-if (may_stand r) (Some (with_item (label n name) r)))
 step-up n r (acting a) =
-    rw (act-up r a, item-up r (action n a)) (reached-if (may_act r a) (Some (with_item (action n a) r)))
+    rw (act-up r a, item-up r (action n a))
+    (reached-if (may_act r a) (Some (with_item (action n a) r)))
 step-up n r (entering o g) =
     rw (enter-up r) (reached-if (may_enter r) (Some (with_opened n o g r)))
 step-up n r leaving =
-    rw (leave-up r, left-up n r r.parentheses) (reached-if (may_leave r) (left_here n r r.parentheses))
+    rw (leave-up r, left-up n r r.parentheses)
+    (reached-if (may_leave r) (left_here n r r.parentheses))
 step-up n r ending = rw (stand-up r) (reached-if (may_stand r) (Some (at_place place.Finished r)))
 
 steps-up : (n : ℕ) (r : Reached) (ps : List LineContent)
@@ -238,7 +240,8 @@ forms-up n last r (Some ps) =
     ∙ stepped-up n last r.instructions ps (steps n r.reached ps)
 
 after-up : (n last : ℕ) (r : Read) (ss : List Symbol)
-    → after_line n last (upper_read r) (upper_symbols ss) ≡ on_ok upper_read (after_line n last r ss)
+    → after_line n last (upper_read r) (upper_symbols ss)
+    ≡ on_ok upper_read (after_line n last r ss)
 unfolding after_line
 after-up n last r ss =
     ap (after_parts n last (upper_read r)) (parts-up ss) ∙ forms-up n last r (parts_of ss)

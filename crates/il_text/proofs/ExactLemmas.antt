@@ -1,11 +1,13 @@
 -- What a form reads is what it spells: a lemma for each way of making forms of others.
 use Rattle.std.proofs.Common.{◌≡◌, ℕ, zero, suc, ◌≤◌, Bool, true, false, cond, List, [], ◌∷◌, ◌++◌, length, Option, Some, None, option_map, option_and_then, refl, sym, ap, ◌∙◌, subst, inl, inr, arith}
+use Rattle.std.proofs.lemmas.Bool.{or_parts}
+use Rattle.std.proofs.lemmas.Grind.{common_steps}
 use Rattle.std.proofs.lemmas.Option.{same_Some}
+use Rattle.std.specs.List.{list_any}
 use Rattle.il_text.specs.Tokens.{Symbol, name, mark_symbol}
-use Rattle.il_text.specs.TokenForms.{Form, made, such, none, nothing, nothing_of, one, one_of, behind, after, after_of, either, or_of, by, split_at_mark, parted, parted_of, name_of, is_mark, names, names_from, spelled_names}
+use Rattle.il_text.specs.TokenForms.{Form, made, such, none, nothing, nothing_of, one, one_of, behind, after, after_of, either, or_of, by, same_mark, split_at_mark, onto_front, parted, parted_of, name_of, is_mark, names, names_from, spelled_names}
 use Rattle.il_text.specs.declared.token.Mark.{Mark}
 use Rattle.il_text.specs.declared.token.Mark.TheVariants as mark
-use Rattle.il_text.proofs.TokenLemmas.{only-mark, parted-at, was-parted}
 
 -- What f reads is what it spells.
 pub record Exact {A : Type 0} (f : Form A) : Type 0 where
@@ -75,6 +77,13 @@ behind-exact is f e = record {
   back = behind-back is f e;
 }
 
+mark-is : (m n : Mark) → same_mark m n ≡ true → n ≡ m
+mark-is m n h = grind (arith, common_steps)
+
+pub only-mark : (m : Mark) (s : Symbol) → is_mark m s ≡ true → s ≡ mark_symbol m
+only-mark m (mark_symbol n) e = ap (λ (k : Mark). mark_symbol k) (mark-is m n e)
+only-mark m i e = absurd cc
+
 mark-same : (m : Mark) → is_mark m (mark_symbol m) ≡ true
 mark-same mark.Colon = refl
 mark-same mark.Assign = refl
@@ -137,19 +146,48 @@ by-exact {A} test {f} {g} d e = record {
     pick ts x true is h = inl (is, d.back ts x h)
     pick ts x false is h = inr (is, e.back ts x h)
 
+-- a mark parts the tokens, and does not stand in the first part
+abbrev IsParted : Mark → List Symbol → List Symbol × List Symbol → Type 0
+IsParted m ts p = (ts ≡ p.0 ++ mark_symbol m ∷ p.1) × (list_any (is_mark m) p.0 ≡ false)
+
+parted-at : (m : Mark) (front rest : List Symbol) → list_any (is_mark m) front ≡ false
+    → split_at_mark m (front ++ mark_symbol m ∷ rest) ≡ Some (front, rest)
+parted-at m [] rest none = rw (mark-same m) refl
+parted-at m (s ∷ front) rest none =
+    let two = or_parts (is_mark m s) (list_any (is_mark m) front) none in
+    rw (two.0, parted-at m front rest two.1) refl
+
+was-parted : (m : Mark) (ts : List Symbol) (p : List Symbol × List Symbol)
+    → split_at_mark m ts ≡ Some p → IsParted m ts p
+was-parted m [] p e = absurd cc
+was-parted m (s ∷ ss) p e = by-test (is_mark m s) refl e (was-parted m ss)
+  where
+    by-test : (b : Bool) → is_mark m s ≡ b
+        → cond b (Some ([], ss)) (option_map (onto_front s) (split_at_mark m ss)) ≡ Some p
+        → ((q : List Symbol × List Symbol) → split_at_mark m ss ≡ Some q → IsParted m ss q)
+        → IsParted m (s ∷ ss) p
+    by-test true is e again =
+        let first : List Symbol × List Symbol = ([], ss) in
+        subst (IsParted m (s ∷ ss)) (same_Some first p e)
+        (ap (λ (t : Symbol). t ∷ ss) (only-mark m s is), refl)
+    by-test false is e again =
+        let q = map-some (onto_front s) (split_at_mark m ss) p e in
+        let more = again q.0 q.1 in
+        subst (IsParted m (s ∷ ss)) q.2 (ap (λ (ts : List Symbol). s ∷ ts) more.0, rw is more.1)
+
 parted-back : {A B : Type 0} (m : Mark) (f : Form A) (g : Form B) → Exact f → Exact g
     → (ts : List Symbol) (x : A × B) (o : Option (List Symbol × List Symbol))
     → split_at_mark m ts ≡ o → parted_of f.reads g.reads o ≡ Some x → (parted m f g).Spells ts x
 parted-back m f g d e ts x None is h = absurd cc
 parted-back {A} {B} m f g d e ts x (Some p) is h =
-    let c = was-parted m ts p.0 p.1 is in
+    let c = was-parted m ts p is in
     let y = then-some (λ y. option_map (λ x. (x, y)) (f.reads p.0)) (g.reads p.1) x h in
     let z = map-some (λ z. (z, y.0)) (f.reads p.0) x y.2 in
     subst (λ (q : A × B). (parted m f g).Spells ts q) z.2 (
       p.0,
       p.1,
-      c.is ∙ ap (λ (s : Symbol). p.0 ++ s ∷ p.1) (only-mark m c.at c.passes),
-      c.none,
+      c.0,
+      c.1,
       d.back p.0 z.0 z.1,
       e.back p.1 y.0 y.1,
     )
@@ -159,14 +197,15 @@ pub parted-exact : {A B : Type 0} (m : Mark) {f : Form A} {g : Form B} → Exact
 parted-exact m {f} {g} d e = record {
   read = λ ts x s.
       ap (λ (us : List Symbol). parted_of f.reads g.reads (split_at_mark m us)) s.2
-      ∙ ap (parted_of f.reads g.reads) (parted-at m s.0 s.1 (mark_symbol m) s.3 (mark-same m))
+      ∙ ap (parted_of f.reads g.reads) (parted-at m s.0 s.1 s.3)
       ∙ rw (d.read s.0 x.0 s.4, e.read s.1 x.1 s.5) refl;
   back = λ ts x h. parted-back m f g d e ts x (split_at_mark m ts) refl h;
 }
 
 -- ---- a list of names
 
-names-are : (n : List ℕ) (ns : List (List ℕ)) → names_from false (spelled_names n ns) ≡ Some (n ∷ ns)
+names-are : (n : List ℕ) (ns : List (List ℕ))
+    → names_from false (spelled_names n ns) ≡ Some (n ∷ ns)
 unfolding names_from
 names-are n [] = refl
 names-are n (m ∷ ns) =
@@ -177,8 +216,8 @@ named-is (name m) n e = ap (λ (x : List ℕ). name x) (same_Some m n e)
 named-is i n e = absurd cc
 
 -- the names behind one that is known
-names-behind : (s : Symbol) (n : List ℕ) (ss : List Symbol) (ns : List (List ℕ)) → name_of s ≡ Some n
-    → names_from true ss ≡ Some ns
+names-behind : (s : Symbol) (n : List ℕ) (ss : List Symbol) (ns : List (List ℕ))
+    → name_of s ≡ Some n → names_from true ss ≡ Some ns
     → ((cs : List Symbol) (c : Symbol) → ss ≡ c ∷ cs → names_from false cs ≡ Some ns
     → names.Spells cs ns) → names.Spells (s ∷ ss) (n ∷ ns)
 unfolding names_from

@@ -1,21 +1,42 @@
 -- Parts of a line's tokens.
-use Rattle.std.proofs.Common.{◌≡◌, ℕ, Bool, List, [], ◌∷◌, take, drop, refl}
+use Rattle.std.proofs.Common.{◌≡◌, ℕ, suc, ◌+◌, not, Bool, true, false, cond, List, [], ◌∷◌, Option, Some, None, option_map, take, drop, refl, ap, ◌∙◌, arith}
 use Rattle.std.specs.List.{position_or_len}
-use Rattle.std.proofs.lemmas.List.{take-map, drop-map}
+use Rattle.il_text.specs.TokenForms.{is_mark, split_at_mark, onto_front}
 use Rattle.il_text.specs.Tokens.{Symbol}
 use Rattle.il_text.specs.TokenViews.{symbol_of, symbols_of}
+use Rattle.il_text.specs.declared.token.Mark.{Mark}
 use Rattle.il_text.specs.declared.token.Token.{Token}
 
--- the place of a token is that of its symbol
-pub place_of : (f : Symbol → Bool) (ts : List Token)
-    → position_or_len f (symbols_of ts) ≡ position_or_len (λ t. f (symbol_of t)) ts
-place_of f [] = refl
-place_of f (t ∷ ts) = rw (place_of f ts) refl
+-- the front, and what stands behind the first of the others
+abbrev pub halved : List Token → List Token → Option (List Symbol × List Symbol)
+halved front [] = None
+halved front (t ∷ rest) = Some (symbols_of front, symbols_of rest)
 
-pub symbols-take : (n : ℕ) (ts : List Token) → take n (symbols_of ts) ≡ symbols_of (take n ts)
-symbols-take n ts = take-map symbol_of n ts
+halved-more : (t : Token) (front back : List Token)
+    → option_map (onto_front (symbol_of t)) (halved front back) ≡ halved (t ∷ front) back
+halved-more t front [] = refl
+halved-more t front (u ∷ back) = refl
 
-pub symbols-drop : (n : ℕ) (ts : List Token) → drop n (symbols_of ts) ≡ symbols_of (drop n ts)
-symbols-drop n ts = drop-map symbol_of n ts
+-- the place of the first token of a mark
+abbrev pub mark_place : Mark → List Token → ℕ
+mark_place m ts = position_or_len (λ t. is_mark m (symbol_of t)) ts
 
-pub ruleset parts_rules = (symbols-take, symbols-drop)
+pub split-at : (m : Mark) (ts : List Token)
+    → split_at_mark m (symbols_of ts)
+    ≡ halved (take (mark_place m ts) ts) (drop (mark_place m ts) ts)
+split-at m [] = refl
+split-at m (t ∷ ts) = rw (split-at m ts) (by-test (is_mark m (symbol_of t)))
+  where
+    by-test : (b : Bool)
+        → cond b (Some ([], symbols_of ts))
+        (option_map (onto_front (symbol_of t))
+        (halved (take (mark_place m ts) ts) (drop (mark_place m ts) ts)))
+        ≡ halved (take (cond (not b) (1 + mark_place m ts) 0) (t ∷ ts))
+        (drop (cond (not b) (1 + mark_place m ts) 0) (t ∷ ts))
+    by-test true = refl
+    by-test false =
+        let n : suc (mark_place m ts) ≡ 1 + mark_place m ts = omega arith in
+        halved-more t _ _
+        ∙ ap (λ (k : ℕ). halved (take k (t ∷ ts)) (drop k (t ∷ ts))) n
+
+pub ruleset split_rules = (split-at)

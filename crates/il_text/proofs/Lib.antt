@@ -20,5 +20,4 @@ pub mod PlaceLemmas
 pub mod ReadLemmas
 pub mod RespellingLemmas
 pub mod TextLemmas
-pub mod TokenLemmas
 pub mod UniqueLemmas

@@ -1,12 +1,11 @@
 -- One piece, or one character of a comment.
-use Rattle.std.proofs.Common.{◌≡◌, ◌≢◌, ℕ, ◌+◌, ◌<◌, ◌≤◌, suc, not, ◌||◌, Bool, true, false, Option, Some, option_and_then, take, List, [], ◌∷◌, ◌++◌, None, Ok, Err, Result, map, length, drop, slice_index, slice_range, eqb, refl, sym, ap, subst, ◌∙◌, arith, append-nil}
+use Rattle.std.proofs.Common.{◌≡◌, ◌≢◌, ℕ, ◌+◌, ◌<◌, ◌≤◌, not, ◌||◌, Bool, true, false, Option, Some, option_and_then, option_map, List, [], ◌∷◌, ◌++◌, None, Ok, Err, Result, map, length, drop, slice_index, slice_range, eqb, refl, sym, ap, subst, ◌∙◌, arith, append-nil}
 use Rattle.std.proofs.lemmas.Bool.{false≢true, eqb-true, ne_eqb}
 use Rattle.std.proofs.lemmas.List.{map-append}
 use Rattle.std.proofs.Math.Bool.{and-false}
 use Rattle.il_text.specs.Characters.{are_linked}
 use Rattle.il_text.specs.Forms.{tail, declaration, named_line, other_line, whole_line, is_hopeless, parts_of}
-use Rattle.il_text.specs.TokenForms.{names, names_from, parted_of, after_front, parts_at, is_mark}
-use Rattle.std.specs.List.{position_or_len}
+use Rattle.il_text.specs.TokenForms.{names, names_from, parted_of, split_at_mark, onto_front, is_mark}
 use Rattle.bay_base.specs.Results.{◌>>=◌}
 use Rattle.il_text.specs.Listing.{PlainProgram}
 use Rattle.il_text.specs.declared.token.Mark.TheVariants as mark
@@ -298,19 +297,13 @@ none-then : {A B : Type 0} (o : Option A) → option_and_then {U = B} (λ x. Non
 none-then None = refl
 none-then (Some x) = refl
 
-fronted-names : (n : List ℕ) (c : Symbol) (xs back : List Symbol) → is_mark mark.Comma c ≡ false
-    → parted_of names.reads tail.reads (after_front (name n ∷ c ∷ xs) back) ≡ None
+fronted-names : (n : List ℕ) (c : Symbol) (o : Option (List Symbol × List Symbol))
+    → is_mark mark.Comma c ≡ false
+    → parted_of names.reads tail.reads
+    (option_map (onto_front (name n)) (option_map (onto_front c) o)) ≡ None
 unfolding names_from
-fronted-names n c xs [] h = refl
-fronted-names n c xs (s ∷ rest) h = rw h (none-then (tail.reads rest))
-
-two-more : (k : ℕ) → 1 + (1 + k) ≡ suc (suc k)
-two-more k = omega arith
-
-position_names : (n : List ℕ) (c : Symbol) (more : List Symbol) → is_mark mark.Colon c ≡ false
-    → position_or_len (is_mark mark.Colon) (name n ∷ c ∷ more)
-    ≡ suc (suc (position_or_len (is_mark mark.Colon) more))
-position_names n c more h = rw h (two-more (position_or_len (is_mark mark.Colon) more))
+fronted-names n c None h = refl
+fronted-names n c (Some p) h = rw h (none-then (tail.reads p.1))
 
 neither : (a b : Bool) → not (a || b) ≡ true → (a ≡ false) × (b ≡ false)
 neither true b h = absurd (false≢true h)
@@ -319,10 +312,8 @@ neither false false h = (refl, refl)
 
 no-declaration : (n : List ℕ) (c : Symbol) (more : List Symbol) → is_mark mark.Colon c ≡ false
     → is_mark mark.Comma c ≡ false → declaration.reads (name n ∷ c ∷ more) ≡ None
-unfolding declaration parts_at
-no-declaration n c more h k =
-    let at = position_or_len (is_mark mark.Colon) more in
-    rw (position_names n c more h, fronted-names n c (take at more) (drop at more) k) refl
+unfolding declaration
+no-declaration n c more h k = rw (h, fronted-names n c (split_at_mark mark.Colon more) k) refl
 
 named-nothing : (n : List ℕ) (c : Symbol) (more : List Symbol)
     → not (is_mark mark.Colon c || is_mark mark.Comma c) ≡ true

@@ -5,7 +5,7 @@ use Rattle.bay_base.specs.Names.{same_name}
 use Rattle.il_text.specs.Listing.{Place, named, output, OperandData, constant, variable, Action, load, store, combine, invert, convert, jump, leave, call}
 use Rattle.il_text.specs.Parts.{LineContent, heading, opening, declaring, closing, labelling, acting, entering, leaving, ending}
 use Rattle.il_text.specs.Tokens.{Symbol, name, keyword_word, type_word, literal, mnemonic_word, mark_symbol}
-pub use Rattle.il_text.specs.TokenForms.{name_of, is_mark, parts_at, split_at_mark}
+pub use Rattle.il_text.specs.TokenForms.{name_of, is_mark, split_at_mark}
 use Rattle.il_text.specs.TokenForms.{Form, made, such, none, nothing, one, one_of, behind, after, either, by, parted, has_mark, names, names_from}
 use Rattle.il_text.specs.declared.form.Tail.{Tail}
 use Rattle.il_text.specs.declared.program.DeclaredType.{DeclaredType}

@@ -1,7 +1,7 @@
 -- Forms: how the tokens of a line spell something, once as a function that reads them and once as a
 -- relation, made of smaller forms. A lemma for each way of making them says that the two agree.
-use Rattle.std.specs.Prelude.{ℕ, ◌≡◌, ◌⊎◌, Bool, true, false, List, [], ◌∷◌, ◌++◌, take, drop, Option, Some, None, option_map, option_and_then, is_some, if◌then◌else◌}
-use Rattle.std.specs.List.{list_any, position_or_len}
+use Rattle.std.specs.Prelude.{ℕ, ◌≡◌, ◌⊎◌, Bool, true, false, List, [], ◌∷◌, ◌++◌, Option, Some, None, option_map, option_and_then, is_some, if◌then◌else◌}
+use Rattle.std.specs.List.{list_any}
 use Rattle.il_text.specs.Tokens.{Symbol, name, mark_symbol}
 use Rattle.il_text.specs.declared.token.Mark.{Mark}
 use Rattle.il_text.specs.declared.token.Mark.TheVariants as mark
@@ -107,18 +107,15 @@ by test f g = record {
   Spells = λ ts x. ((test ts ≡ true) × f.Spells ts x) ⊎ ((test ts ≡ false) × g.Spells ts x);
 }
 
--- what stands behind the first token, and the front as it is
-abbrev pub after_front : List Symbol → List Symbol → Option (List Symbol × List Symbol)
-after_front front [] = None
-after_front front (s ∷ rest) = Some (front, rest)
-
--- what stands before and after the token at this place
-unfoldable pub parts_at : ℕ → List Symbol → Option (List Symbol × List Symbol)
-parts_at n ss = after_front (take n ss) (drop n ss)
+-- a token in front of the first of two parts
+abbrev pub onto_front : Symbol → List Symbol × List Symbol → List Symbol × List Symbol
+onto_front s p = (s ∷ p.0, p.1)
 
 -- what stands before and after the first token of this mark
 abbrev pub split_at_mark : Mark → List Symbol → Option (List Symbol × List Symbol)
-split_at_mark m ss = parts_at (position_or_len (is_mark m) ss) ss
+split_at_mark m [] = None
+split_at_mark m (s ∷ ss) =
+    if is_mark m s then Some ([], ss) else option_map (onto_front s) (split_at_mark m ss)
 
 -- the mark is among the tokens
 abbrev pub has_mark : Mark → List Symbol → Bool

@@ -232,25 +232,14 @@ fn mark_at(tokens: &[Token<'_>], mark: Mark) -> usize
         .count()
 }
 
-// Returns the tokens before and after the one at this index.
-#[tactic(auto, using(crate::proofs::FormLemmas::parts_rules), unfolding(crate::specs::Forms::parts_at))]
-fn parts_at<'t, 'a>(tokens: &'t [Token<'a>], at: usize) -> Option<Halves<'t, 'a>>
-    requires { at ≤ length tokens.now }
-    ensures { option_map halves_of result ≡ spec.parts_at at (symbols_of tokens.now) }
-{
-    let (front, back) = tokens.split_at(at);
-    match back {
-        [] => None,
-        [_, rest @ ..] => Some(Halves { front, rest }),
-    }
-}
-
 // Returns the tokens before and after the first one of this mark.
-#[tactic(auto, using(crate::proofs::FormLemmas::place_of))]
+#[tactic(auto, using(crate::proofs::FormLemmas::split_rules))]
 fn parted<'t, 'a>(tokens: &'t [Token<'a>], mark: Mark) -> Option<Halves<'t, 'a>>
     ensures { option_map halves_of result ≡ spec.split_at_mark mark (symbols_of tokens.now) }
 {
-    parts_at(tokens, mark_at(tokens, mark))
+    let (front, back) = tokens.split_at(mark_at(tokens, mark));
+    let (_, rest) = back.split_first()?;
+    Some(Halves { front, rest })
 }
 
 // Reads one argument or two.
@@ -385,7 +374,8 @@ fn jump<'a>(condition: Condition, tokens: &[Token<'a>]) -> Option<Instruction<'a
 // Reads what belongs to an operator.
 #[tactic(auto, unfolding(crate::specs::Forms::statement))]
 fn statement_of<'a>(mnemonic: Mnemonic, tokens: &[Token<'a>]) -> Option<Statement<'a>>
-    ensures { option_map statement_parts result ≡ (spec.statement mnemonic).reads (symbols_of tokens.now) }
+    ensures { option_map statement_parts result
+        ≡ (spec.statement mnemonic).reads (symbols_of tokens.now) }
 {
     match mnemonic {
         Mnemonic::Load { negated } => load(negated, tokens).map(Statement::Plain),
@@ -476,7 +466,8 @@ fn labelled<'t, 'a>(label: &'a str, tokens: &'t [Token<'a>]) -> Option<Line<'t, 
 // Reads a line that begins with a keyword.
 #[tactic(auto, unfolding(crate::specs::Forms::keyword_line))]
 fn keyword_line<'t, 'a>(word: Keyword, tokens: &'t [Token<'a>]) -> Option<Line<'t, 'a>>
-    ensures { option_and_then line_parts result ≡ (spec.keyword_line word).reads (symbols_of tokens.now) }
+    ensures { option_and_then line_parts result
+        ≡ (spec.keyword_line word).reads (symbols_of tokens.now) }
 {
     let line = match word {
         Keyword::Program => return only_name(tokens).map(Line::Heading),
