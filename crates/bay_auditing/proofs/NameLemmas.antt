@@ -264,7 +264,7 @@ declaration-named : (ts : List Symbol) (ps : List LineContent) → Each IsNamed 
     → declaration.Spells ts ps → Each IsPartNamed ps
 unfolding declaration
 declaration-named ts ps all s =
-    let names = s.1.4 in
+    let names = s.1.3 in
     let front = each-left IsNamed s.1.0 _ (rw s.1.2 at all) in
     subst (Each IsPartNamed) s.2
     (subst (Each IsWord) (sym names.2) (spelled-named names.0 names.1 (rw names.3 at front)), tt)
@@ -284,7 +284,7 @@ unfolding parenthesis
 parenthesis-none o n = record {
   are = λ ts ps s. elim s [
     | inl alone ↦ subst (Each IsPartNamed) alone.1 (tt, tt)
-    | inr loads ↦ subst (Each IsPartNamed) loads.1.2 (tt, (tt, tt))
+    | inr loads ↦ subst (Each IsPartNamed) loads.2 (tt, (tt, tt))
   ];
 }
 
@@ -292,8 +292,8 @@ statement-none : (m : Mnemonic) → NamesNone (statement m)
 unfolding statement operator_parts
 statement-none (mnemonic.Combine o n) = record {
   are = λ ts ps s. elim s [
-    | inl opens ↦ (parenthesis-none o n).are opens.1.0 ps opens.1.2
-    | inr other ↦ subst (Each IsPartNamed) other.1.2 (tt, tt)
+    | inl opens ↦ (parenthesis-none o n).are opens.0 ps opens.2
+    | inr other ↦ subst (Each IsPartNamed) other.2 (tt, tt)
   ];
 }
 statement-none mnemonic.Not = none-of _ (tt, tt)
@@ -307,8 +307,8 @@ label-none n = record {
   are = λ ts ps s. elim s [
     | inl alone ↦ subst (Each IsPartNamed) alone.1 (tt, tt)
     | inr more ↦
-        let is = more.1.1 in
-        subst (Each IsPartNamed) more.1.2 (tt, (statement-none is.2).are is.1 more.1.0 is.5)
+        subst (Each IsPartNamed) more.2
+        (tt, (statement-none more.1.2).are more.1.1 more.0 more.1.5)
   ];
 }
 
@@ -326,12 +326,12 @@ line-named : (ts : List Symbol) (ps : List LineContent) → Each IsNamed ts → 
 unfolding whole_line named_line
 line-named ts ps all s = elim s [
   | inl empty ↦ subst (Each IsPartNamed) empty.1 tt
-  | inr more ↦ elim more.1 [
-    | inl named ↦ elim named.1 [
-      | inl label ↦ let is = label.1 in (label-none is.2).are is.5.0 ps is.5.2
-      | inr declares ↦ declaration-named ts ps all declares.1
+  | inr more ↦ elim more [
+    | inl named ↦ elim named [
+      | inl label ↦ (label-none label.2).are label.5.0 ps label.5.2
+      | inr declares ↦ declaration-named ts ps all declares
     ]
-    | inr other ↦ let is = other.1 in (other-none is.2).are is.1 ps is.5
+    | inr other ↦ (other-none other.2).are other.1 ps other.5
   ]
 ]
 

@@ -19,7 +19,7 @@ map-some : {A B : Type 0} (f : A → B) (o : Option A) (y : B) → option_map f 
 map-some f None y e = absurd cc
 map-some f (Some x) y e = (x, refl, same_Some (f x) y e)
 
-then-some : {A B : Type 0} (f : A → Option B) (o : Option A) (y : B)
+pub then-some : {A B : Type 0} (f : A → Option B) (o : Option A) (y : B)
     → option_and_then f o ≡ Some y
     → (x : A) × (o ≡ Some x) × (f x ≡ Some y)
 then-some f None y e = absurd cc
@@ -111,51 +111,49 @@ after-exact m {f} e = record {
   back = after-back m f e;
 }
 
-pub either-exact : {A : Type 0} {f g : Form A} → Exact f → Exact g → Exact (either f g)
-either-exact {A} {f} {g} d e = record {
+-- where g spells, f reads nothing
+pub either-exact : {A : Type 0} {f g : Form A} → Exact f → Exact g
+    → ((ts : List Symbol) (x : A) → g.Spells ts x → f.reads ts ≡ None) → Exact (either f g)
+either-exact {A} {f} {g} d e apart = record {
   read = λ ts x s. elim s [
     | inl here ↦ rw (d.read ts x here) refl
-    | inr other ↦ later ts x other.0 (f.reads ts) refl (e.read ts x other.1)
+    | inr other ↦ rw (apart ts x other) (e.read ts x other)
   ];
   back = λ ts x h. pick ts x (f.reads ts) refl h;
 }
   where
-    later : (ts : List Symbol) (x : A) → ((y : A) → f.Spells ts y → ⊥) → (o : Option A)
-        → f.reads ts ≡ o → g.reads ts ≡ Some x → or_of o (g.reads ts) ≡ Some x
-    later ts x fails None is h = h
-    later ts x fails (Some y) is h = absurd (fails y (d.back ts y is))
-
     pick : (ts : List Symbol) (x : A) (o : Option A) → f.reads ts ≡ o
         → or_of o (g.reads ts) ≡ Some x → (either f g).Spells ts x
     pick ts x (Some y) is h = inl (d.back ts x (is ∙ h))
-    pick ts x None is h =
-        inr (λ y s. (let some : None ≡ Some y = sym is ∙ d.read ts y s in absurd cc), e.back ts x h)
+    pick ts x None is h = inr (e.back ts x h)
 
+-- what f spells passes the test, and what g spells does not
 pub by-exact : {A : Type 0} (test : List Symbol → Bool) {f g : Form A} → Exact f → Exact g
-    → Exact (by test f g)
-by-exact {A} test {f} {g} d e = record {
+    → ((ts : List Symbol) (x : A) → f.Spells ts x → test ts ≡ true)
+    → ((ts : List Symbol) (x : A) → g.Spells ts x → test ts ≡ false) → Exact (by test f g)
+by-exact {A} test {f} {g} d e passes fails = record {
   read = λ ts x s. elim s [
-    | inl here ↦ rw here.0 (d.read ts x here.1)
-    | inr other ↦ rw other.0 (e.read ts x other.1)
+    | inl here ↦ rw (passes ts x here) (d.read ts x here)
+    | inr other ↦ rw (fails ts x other) (e.read ts x other)
   ];
-  back = λ ts x h. pick ts x (test ts) refl h;
+  back = λ ts x h. pick ts x (test ts) h;
 }
   where
-    pick : (ts : List Symbol) (x : A) (b : Bool) → test ts ≡ b
-        → cond b (f.reads ts) (g.reads ts) ≡ Some x → (by test f g).Spells ts x
-    pick ts x true is h = inl (is, d.back ts x h)
-    pick ts x false is h = inr (is, e.back ts x h)
+    pick : (ts : List Symbol) (x : A) (b : Bool) → cond b (f.reads ts) (g.reads ts) ≡ Some x
+        → (by test f g).Spells ts x
+    pick ts x true h = inl (d.back ts x h)
+    pick ts x false h = inr (e.back ts x h)
 
--- a mark parts the tokens, and does not stand in the first part
-abbrev IsParted : Mark → List Symbol → List Symbol × List Symbol → Type 0
-IsParted m ts p = (ts ≡ p.0 ++ mark_symbol m ∷ p.1) × (list_any (is_mark m) p.0 ≡ false)
-
-parted-at : (m : Mark) (front rest : List Symbol) → list_any (is_mark m) front ≡ false
+pub parted-at : (m : Mark) (front rest : List Symbol) → list_any (is_mark m) front ≡ false
     → split_at_mark m (front ++ mark_symbol m ∷ rest) ≡ Some (front, rest)
 parted-at m [] rest none = rw (mark-same m) refl
 parted-at m (s ∷ front) rest none =
     let two = or_parts (is_mark m s) (list_any (is_mark m) front) none in
     rw (two.0, parted-at m front rest two.1) refl
+
+-- a mark parts the tokens
+abbrev IsParted : Mark → List Symbol → List Symbol × List Symbol → Type 0
+IsParted m ts p = ts ≡ p.0 ++ mark_symbol m ∷ p.1
 
 was-parted : (m : Mark) (ts : List Symbol) (p : List Symbol × List Symbol)
     → split_at_mark m ts ≡ Some p → IsParted m ts p
@@ -169,36 +167,32 @@ was-parted m (s ∷ ss) p e = by-test (is_mark m s) refl e (was-parted m ss)
     by-test true is e again =
         let first : List Symbol × List Symbol = ([], ss) in
         subst (IsParted m (s ∷ ss)) (same_Some first p e)
-        (ap (λ (t : Symbol). t ∷ ss) (only-mark m s is), refl)
+        (ap (λ (t : Symbol). t ∷ ss) (only-mark m s is))
     by-test false is e again =
         let q = map-some (onto_front s) (split_at_mark m ss) p e in
-        let more = again q.0 q.1 in
-        subst (IsParted m (s ∷ ss)) q.2 (ap (λ (ts : List Symbol). s ∷ ts) more.0, rw is more.1)
+        subst (IsParted m (s ∷ ss)) q.2 (ap (λ (ts : List Symbol). s ∷ ts) (again q.0 q.1))
 
 parted-back : {A B : Type 0} (m : Mark) (f : Form A) (g : Form B) → Exact f → Exact g
     → (ts : List Symbol) (x : A × B) (o : Option (List Symbol × List Symbol))
     → split_at_mark m ts ≡ o → parted_of f.reads g.reads o ≡ Some x → (parted m f g).Spells ts x
 parted-back m f g d e ts x None is h = absurd cc
 parted-back {A} {B} m f g d e ts x (Some p) is h =
-    let c = was-parted m ts p is in
     let y = then-some (λ y. option_map (λ x. (x, y)) (f.reads p.0)) (g.reads p.1) x h in
     let z = map-some (λ z. (z, y.0)) (f.reads p.0) x y.2 in
-    subst (λ (q : A × B). (parted m f g).Spells ts q) z.2 (
-      p.0,
-      p.1,
-      c.0,
-      c.1,
-      d.back p.0 z.0 z.1,
-      e.back p.1 y.0 y.1,
-    )
+    subst (λ (q : A × B). (parted m f g).Spells ts q) z.2
+    (p.0, p.1, was-parted m ts p is, d.back p.0 z.0 z.1, e.back p.1 y.0 y.1)
+
+-- the mark stands in nothing that f spells
+abbrev pub Lacks : {A : Type 0} → Mark → Form A → Type 0
+Lacks m f = (ts : List Symbol) (x : _) → f.Spells ts x → list_any (is_mark m) ts ≡ false
 
 pub parted-exact : {A B : Type 0} (m : Mark) {f : Form A} {g : Form B} → Exact f → Exact g
-    → Exact (parted m f g)
-parted-exact m {f} {g} d e = record {
+    → Lacks m f → Exact (parted m f g)
+parted-exact m {f} {g} d e lacks = record {
   read = λ ts x s.
       ap (λ (us : List Symbol). parted_of f.reads g.reads (split_at_mark m us)) s.2
-      ∙ ap (parted_of f.reads g.reads) (parted-at m s.0 s.1 s.3)
-      ∙ rw (d.read s.0 x.0 s.4, e.read s.1 x.1 s.5) refl;
+      ∙ ap (parted_of f.reads g.reads) (parted-at m s.0 s.1 (lacks s.0 x.0 s.3))
+      ∙ rw (d.read s.0 x.0 s.3, e.read s.1 x.1 s.4) refl;
   back = λ ts x h. parted-back m f g d e ts x (split_at_mark m ts) refl h;
 }
 
@@ -265,8 +259,5 @@ pub ruleset exacts = (
   nothing-exact,
   one-exact,
   after-exact,
-  either-exact,
-  by-exact,
-  parted-exact,
   names-exact,
 )

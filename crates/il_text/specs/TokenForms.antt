@@ -1,7 +1,6 @@
 -- Forms: how the tokens of a line spell something, once as a function that reads them and once as a
 -- relation, made of smaller forms. A lemma for each way of making them says that the two agree.
 use Rattle.std.specs.Prelude.{ℕ, ◌≡◌, ◌⊎◌, Bool, true, false, List, [], ◌∷◌, ◌++◌, Option, Some, None, option_map, option_and_then, is_some, if◌then◌else◌}
-use Rattle.std.specs.List.{list_any}
 use Rattle.il_text.specs.Tokens.{Symbol, name, mark_symbol}
 use Rattle.il_text.specs.declared.token.Mark.{Mark}
 use Rattle.il_text.specs.declared.token.Mark.TheVariants as mark
@@ -93,18 +92,18 @@ abbrev pub or_of : {A : Type 0} → Option A → Option A → Option A
 or_of (Some x) o = Some x
 or_of None o = o
 
--- what f reads, or else what g does
+-- one of two forms; where f reads nothing, it is g
 abbrev pub either : {A : Type 0} → Form A → Form A → Form A
 either f g = record {
   reads = λ ts. or_of (f.reads ts) (g.reads ts);
-  Spells = λ ts x. f.Spells ts x ⊎ (((y : _) → f.Spells ts y → ⊥) × g.Spells ts x);
+  Spells = λ ts x. f.Spells ts x ⊎ g.Spells ts x;
 }
 
--- tokens of one form where they pass a test, and of another else
+-- one of two forms, of which a test of the tokens says which it may be
 abbrev pub by : {A : Type 0} → (List Symbol → Bool) → Form A → Form A → Form A
 by test f g = record {
   reads = λ ts. if test ts then f.reads ts else g.reads ts;
-  Spells = λ ts x. ((test ts ≡ true) × f.Spells ts x) ⊎ ((test ts ≡ false) × g.Spells ts x);
+  Spells = λ ts x. f.Spells ts x ⊎ g.Spells ts x;
 }
 
 -- a token in front of the first of two parts
@@ -131,8 +130,7 @@ abbrev pub parted : {A B : Type 0} → Mark → Form A → Form B → Form (A ×
 parted m f g = record {
   reads = λ ts. parted_of f.reads g.reads (split_at_mark m ts);
   Spells = λ ts x. (front : List Symbol) × (rest : List Symbol)
-      × (ts ≡ front ++ mark_symbol m ∷ rest) × (list_any (is_mark m) front ≡ false)
-      × f.Spells front x.0 × g.Spells rest x.1;
+      × (ts ≡ front ++ mark_symbol m ∷ rest) × f.Spells front x.0 × g.Spells rest x.1;
 }
 
 -- the name that a token is
