@@ -22,7 +22,7 @@ use Rattle.il_image.specs.Values.{number_of, type_of}
 use Rattle.il_image.proofs.ReadLemmas.{back-number, back-signed}
 use Rattle.il_image.proofs.ValueLemmas.{value-back, value_is}
 use Rattle.il_image.proofs.CodeLemmas.{faultless}
-use Rattle.il_image.proofs.TookLemmas.{IsKind}
+use Rattle.il_image.proofs.PieceLemmas.{Any}
 
 -- An item's spelling is read back whatever follows it.
 abbrev Reads : {A : Type 0} → (A → List ℕ) → (A → Type 0) → (List ℕ → Read A) → Type 0
@@ -94,12 +94,12 @@ back-variable v rest good =
     let number = back-signed size.Eight (number_of v) rest fits in
     rw (back-type t (signed_octets size.Eight (number_of v) ++ rest), number, is) refl
 
-back-timer : Reads (timer_octets Two) IsKind (timer_at Two)
+back-timer : Reads (timer_octets Two) Any (timer_at Two)
 unfolding timer_at
 back-timer OnDelay rest good = refl
 back-timer OffDelay rest good = refl
 
-each-kind : (kinds : List TimerKind) → Each IsKind kinds
+each-kind : (kinds : List TimerKind) → Each Any kinds
 each-kind [] = tt
 each-kind (kind ∷ kinds) = (tt, each-kind kinds)
 
@@ -127,6 +127,6 @@ back-image i is =
     back-counted (variable_octets Two) IsValue (variable_at Two) back-variable i.variables rest3
     is.variables is.values in
     let timers =
-    back-counted (timer_octets Two) IsKind (timer_at Two) back-timer i.timers code is.timers
+    back-counted (timer_octets Two) Any (timer_at Two) back-timer i.timers code is.timers
     (each-kind i.timers) in
     rw (points, variables, timers, back-code i.code is.size is.code) refl

@@ -1,4 +1,5 @@
 -- Code that is cut short: others complete it, or it ends in an instruction that has no room.
+use Rattle.std.proofs.lemmas.Grind.{common_steps}
 use Rattle.std.proofs.Common.{◌≡◌, ℕ, zero, suc, ◌+◌, ◌-◌, ◌^◌, ◌<◌, ◌≤◌, Bool, true, false, cond, eqb, List, [], ◌∷◌, ◌++◌, length, take, drop, Option, Some, None, refl, sym, subst, ap, ◌∙◌, arith, append-nil, inl, inr}
 use Rattle.std.proofs.lemmas.Option.{same_Some}
 use Rattle.std.specs.Prelude.{Ok, Err, Result, ◌⊎◌}
@@ -24,18 +25,20 @@ use Rattle.il_image.specs.declared.opcode.Version.TheVariants.{One, Two}
 use Rattle.il_image.specs.declared.value.Value.{Value}
 use Rattle.il_image.specs.Cuts.{IsInstrOf, IsShortOf}
 use Rattle.il_image.specs.Decoding.{code_at, code_fault, code_of_length, fault_behind, unless}
+use Rattle.il_image.specs.Images.{IsCode}
 use Rattle.il_image.specs.Octets.{AreOctets, number_octets, octet_count, size_of, most_counted}
 use Rattle.il_image.specs.Opcodes.{is_known, opcode_of, width_of}
 use Rattle.il_image.specs.Reading.{Read, instr_from, known_value, known_opcode, number_at, operand_from, value_at}
 use Rattle.il_image.specs.Spelling.{spelling}
 use Rattle.il_image.specs.Values.{default_value}
-use Rattle.il_image.proofs.CodeLemmas.{fault-step, less}
-use Rattle.il_image.proofs.EndLemmas.{EndsIn, Few, IsAll, all-told, are-more, are-none, few-told, join-octets, known-never, pass}
-use Rattle.il_image.proofs.InstrLemmas.{behind-octets}
+use Rattle.il_image.proofs.CodeLemmas.{code-sound, fault-step, less}
+use Rattle.il_image.proofs.FewLemmas.{Few, IsAll, all-told, few-told}
+use Rattle.il_image.proofs.FormatLemmas.{IsNumber, number-lawful}
+use Rattle.il_image.proofs.InstrLemmas.{instr-sound}
+use Rattle.il_image.proofs.PieceLemmas.{Any, Behind, EndsIn, Lawful, again, are-more, are-none, copies, copies-fit, copies-size, err-same, join-octets, lawful-so, lawful-then, ok-is, spoilt}
 use Rattle.il_image.proofs.PlaceLemmas.{spelled-so}
-use Rattle.il_image.proofs.ReadLemmas.{take_octets, took-number}
-use Rattle.il_image.proofs.SoundLemmas.{again, err-same, ok-is, sound-instr, sound-number}
-use Rattle.il_image.proofs.ShortLemmas.{behind-number, copies, copies-fit, copies-size, err-mapped, number-completes, take-all, taken-short, value-few}
+use Rattle.il_image.proofs.ReadLemmas.{behind-octets, take_octets}
+use Rattle.il_image.proofs.ShortLemmas.{err-mapped, known-never, taken-short, value-few}
 
 -- ---- code
 
@@ -84,13 +87,12 @@ code-cut version (suc n) (x ∷ octets) le fits e =
               ∙ sym (append_assoc (spelling i) c.done c.cut);
           whole =
               fault-step version (spelling i ++ c.done) i c.done
-              (again (spelling i) i (sound-instr version) (x ∷ octets) rest fits is
-              (λ front good is. (spelled-so version front i [] good is).1) c.done) ∙ c.whole;
+              (again (instr-sound version) (x ∷ octets) i rest fits is c.done) ∙ c.whole;
           some = c.some;
           short = c.short;
           on = λ more h.
               fault-step version (x ∷ octets ++ more) i (rest ++ more)
-              (ok-is (sound-instr version) (x ∷ octets) more i rest is)
+              (ok-is (instr-sound version) (x ∷ octets) more i rest is)
               ∙ c.on more h;
         }
 
@@ -112,7 +114,7 @@ code-whole version (suc n) (x ∷ octets) more le e h =
     go on (Ok (i, rest)) is e =
         let fewer = less version (x ∷ octets) i rest is in
         fault-step version (x ∷ octets ++ more) i (rest ++ more)
-        (ok-is (sound-instr version) (x ∷ octets) more i rest is)
+        (ok-is (instr-sound version) (x ∷ octets) more i rest is)
         ∙ on rest (omega arith) e
 
 -- An instruction of the version has the part's first octet, and more octets.
@@ -235,9 +237,8 @@ halts version (suc n) =
     fault-step version (1 ∷ copies 1 n) instr.Halt (copies 1 n) (halt-reads version (copies 1 n))
     ∙ halts version n
 
--- nothing is asked
-abbrev pub Any : {B : Type 0} → B → Type 0
-Any x = Unit {0}
+pub take-all : (n : ℕ) (xs : List ℕ) → length xs ≤ n → take n xs ≡ xs
+take-all n xs h = grind (arith, common_steps)
 
 code-reads : (version : Version) (n : ℕ) (octets more : List ℕ) → AreOctets more
     → length (octets ++ more) ≡ n
@@ -253,7 +254,7 @@ code-reads version n octets more fits size none =
       ends = tt;
     }
 
-pub code-start : (version : Version) (n : ℕ) → EndsIn (code_of_length version n) Any []
+code-start : (version : Version) (n : ℕ) → EndsIn (code_of_length version n) Any []
 code-start version n =
     code-reads version n [] (copies 1 n) (copies-fit 1 n (omega arith)) (copies-size 1 n)
     (halts version n)
@@ -361,7 +362,7 @@ module _ (version : Version) (n : ℕ) (octets : List ℕ) (fits : AreOctets oct
           ap (λ (xs : List ℕ). code_fault version (length xs) xs)
           (sym (append_assoc c.cut f.octets (copies 1 k)))
           ∙ fault-step version ((c.cut ++ f.octets) ++ copies 1 k) f.is.0 (copies 1 k)
-          (ok-is (sound-instr version) (c.cut ++ f.octets) (copies 1 k)
+          (ok-is (instr-sound version) (c.cut ++ f.octets) (copies 1 k)
           f.is.0 [] f.is.1) ∙ halts version k in
           code-reads version n octets more
           (join-octets f.octets (copies 1 k) f.fits (copies-fit 1 k (omega arith))) size
@@ -438,30 +439,25 @@ module _ (version : Version) (n : ℕ) (octets : List ℕ) (fits : AreOctets oct
           (take_octets n octets fits) (is ∙ ap (λ (x : ImageFault). Some x) same))
 
 -- Code behind its length, with others behind it or cut short within an instruction.
-pub record CodeCut (version : Version) (octets : List ℕ) : Type 0 where
-  pub size : ℕ
-  pub small : size ≤ most_counted
-  pub rest : List ℕ
-  pub parts : octets ≡ number_octets size ++ rest
-  pub is : Past version size rest ⊎ Part version size rest
+abbrev pub CodeCut : Version → List ℕ → Type 0
+CodeCut version = Behind IsNumber number_at (λ n rest. Past version n rest ⊎ Part version n rest)
 
-pub code-short : (version : Version) (octets : List ℕ) → AreOctets octets
-    → code_at version octets ≡ Err Truncated → EndsIn (code_at version) Any octets
-    ⊎ CodeCut version octets
+pub code-lawful : (version : Version)
+    → Lawful spoilt Any
+    (λ octets code. (octets ≡ number_octets (length code) ++ code)
+    × (length code ≤ most_counted) × IsCode code) (CodeCut version) (code_at version)
 unfolding code_at
-code-short version octets fits e =
-    elim (pass _ sound-number (λ n rest. Past version n rest ⊎ Part version n rest) octets
-    (number-completes.short octets) (code-start version)
-    (λ n rest is f. length-of-code version n rest (behind-number octets n rest fits is) f) e) [
-      | inl a ↦ inl a
-      | inr d ↦ inr (
-          let took = took-number octets d.0.0 d.0.1 d.1 in
-          let small : d.0.0 < 2 ^ 16 = took.1 fits in
-          record {
-            size = d.0.0;
-            small = omega arith;
-            rest = d.0.1;
-            parts = took.0.parts ∙ ap (λ (ys : List ℕ). ys ++ d.0.1) (took.0.is fits);
-            is = d.2;
-          })
-    ]
+code-lawful version =
+    lawful-so (lawful-then _ number-lawful (λ n. record {
+      sound = code-sound version n;
+      start = code-start version n;
+      short = length-of-code version n;
+    }))
+    (λ octets code fits d. (
+    let small : d.what < 2 ^ 16 = d.first.good in
+    let size : length code ≡ d.what = d.later.1 in (
+      rw (d.parts, d.first.parts, d.later.0, size) refl,
+      omega arith,
+      d.later.2,
+    )))
+    (λ octets c. elim c [ inl n ↦ absurd n | inr b ↦ b ])

@@ -1,10 +1,10 @@
 -- Instructions: one spelling each, which is read back whatever follows.
 use Rattle.std.proofs.lemmas.Grind.{common_steps}
-use Rattle.std.proofs.Common.{◌≡◌, ℕ, suc, ◌^◌, ◌<◌, ℤ, Bool, true, false, cond, eqb, List, [], ◌∷◌, ◌++◌, length, Option, Some, None, refl, subst, sym, ap, ◌∙◌, arith}
+use Rattle.std.proofs.Common.{◌≡◌, ℕ, ◌+◌, ◌^◌, ◌<◌, ◌≤◌, ℤ, Bool, true, false, cond, eqb, ltb, List, [], ◌∷◌, ◌++◌, length, drop, Option, Some, None, refl, subst, sym, ap, ◌∙◌, append-nil, arith}
 use Rattle.std.specs.Prelude.{Result, Ok, Err, IsSome, find}
 use Rattle.std.proofs.lemmas.Bool.Decides.{nat_tests}
-use Rattle.std.proofs.lemmas.Bool.{eqb-true}
-use Rattle.std.proofs.lemmas.List.{append_assoc, length-append}
+use Rattle.std.proofs.lemmas.Bool.{eqb-true, ltb-false}
+use Rattle.std.proofs.lemmas.List.{length-drop}
 use Rattle.bay_base.specs.Results.{◌>>=◌}
 use Rattle.bay_base.specs.declared.types.ElementaryType.{ElementaryType}
 use Rattle.bay_base.specs.declared.types.ElementaryType.TheVariants as elementary
@@ -13,7 +13,7 @@ use Rattle.il_image.specs.declared.arithmetic.Width.TheVariants as width
 use Rattle.il_image.specs.declared.arithmetic.ArithmeticOperation.TheVariants.{Add}
 use Rattle.il_image.specs.declared.arithmetic.Comparison.TheVariants.{Gt}
 use Rattle.il_image.specs.declared.fault.ImageFault.{ImageFault}
-use Rattle.il_image.specs.declared.fault.ImageFault.TheVariants.{BadOpcode}
+use Rattle.il_image.specs.declared.fault.ImageFault.TheVariants.{BadOpcode, Truncated}
 use Rattle.il_image.specs.declared.instr.Instr.{Instr}
 use Rattle.il_image.specs.declared.instr.Instr.TheVariants as instr
 use Rattle.il_image.specs.declared.opcode.Connective.TheVariants.{And}
@@ -27,12 +27,14 @@ use Rattle.il_image.specs.declared.opcode.Version.{Version}
 use Rattle.il_image.specs.declared.opcode.Version.TheVariants.{One, Two}
 use Rattle.il_image.specs.declared.value.Value.{Value}
 use Rattle.il_image.specs.declared.write.Size.{Size}
-use Rattle.il_image.specs.Octets.{AreOctets, octet_count, number_octets, signed_octets, size_of}
+use Rattle.il_image.specs.Octets.{octet_count, number_octets, signed_octets, size_of}
 use Rattle.il_image.specs.Opcodes.{octet_of, opcodes, opcode_of, is_known, width_octet, width_of}
-use Rattle.il_image.specs.Reading.{Read, known_value, known_opcode, octet_at, number_at, signed_at, value_at, width_at, with_number, operand_from, instr_from}
+use Rattle.il_image.specs.Reading.{Read, known_value, known_opcode, number_at, signed_at, value_at, width_at, with_number, operand_from, instr_from}
 use Rattle.il_image.specs.Spelling.{opcode_of_instr, operand_of, spelling, IsInstr}
 use Rattle.il_image.specs.Values.{type_of, number_of, value_of}
-use Rattle.il_image.proofs.ReadLemmas.{bind-ok, bind-is, known-ok, ok-same, Front, took-octet, took-number, took-signed, back-number, back-signed}
+use Rattle.il_image.proofs.ReadLemmas.{back-number, back-signed, bind-is, bind-ok, chosen-ok, known-ok, ok-same}
+use Rattle.il_image.proofs.PieceLemmas.{Any, Empty, Is, Lawful, Never, Sound, known-entry, lawful-ok, lawful-table, left, sound-err, sound-known, sound-so, sound-then}
+use Rattle.il_image.proofs.FormatLemmas.{no-opcode, number-lawful, octet-lawful, signed-lawful}
 use Rattle.il_image.proofs.ValueLemmas.{value_is, value-back}
 
 -- ---- opcodes
@@ -77,192 +79,231 @@ known-is version (Some o) opcode e = go version o opcode (is_known version o) re
 
 -- ---- values and widths
 
--- A value that was read: its number is spelled, and it is the value of the type that the number
--- gives.
-pub record TookValue (size : Size) (t : ElementaryType) (octets : List ℕ) (v : Value)
-    (rest : List ℕ) : Type 0 where
-  pub front : Front (octet_count size) (signed_octets size (number_of v)) octets rest
-  pub type : type_of v ≡ t
-  pub is : value_of t (number_of v) ≡ Some v
+-- A value of a type was read: its number is spelled.
+pub record IsValueAs (size : Size) (t : ElementaryType) (octets : List ℕ) (r : Value × List ℕ)
+    : Type 0 where
+  pub parts : octets ≡ signed_octets size (number_of r.0)
+  pub type : type_of r.0 ≡ t
+  pub is : value_of t (number_of r.0) ≡ Some r.0
 
-pub took-value : (size : Size) (t : ElementaryType) (octets : List ℕ) (v : Value) (rest : List ℕ)
-    → value_at size t octets ≡ Ok (v, rest) → TookValue size t octets v rest
-took-value size t octets v rest e =
-    let a = bind-ok (signed_at size octets) _ _ e
-    in
-    let z = a.0.0 in
-    let b = bind-ok (known_value (value_of t z)) _ _ a.2 in
-    let same = ok-same (b.0, a.0.1) (v, rest) b.2 in
-    let is : value_of t z ≡ Some v =
-    known-ok (value_of t z) b.0 b.1 ∙ ap Some (ap (λ q. q.0) same) in
-    let of = value_is t z v is in
+pub value-sound : (s : Size) (t : ElementaryType)
+    → Sound left Empty (IsValueAs s t) (value_at s t)
+value-sound s t =
+    sound-so (sound-then _ (signed-lawful s).sound (λ z. sound-known (value_of t z) (λ v. lawful-ok.sound)))
+    (λ octets r fits d. (
+    let of = value_is t d.what d.later.0 d.later.1 in
     record {
-      front = subst (λ (y : ℤ). Front (octet_count size) (signed_octets size y) octets rest)
-          (sym of.number) (took-signed size octets z rest
-          (a.1 ∙ ap (λ (r : List ℕ). Ok (z, r)) (ap (λ q. q.1) same)));
-      type = of.type;
-      is = subst (λ (y : ℤ). value_of t y ≡ Some v) (sym of.number) is;
-    }
+      parts = rw (
+        d.parts,
+        d.first,
+        d.later.2.0,
+        d.later.2.1,
+        of.number,
+        append-nil (signed_octets s d.what),
+      ) refl;
+      type = rw d.later.2.1 of.type;
+      is = rw (d.later.2.1, of.number) d.later.1;
+    }))
 
 width-is : (version : Version) (octet : ℕ) (w : Width) → width_of version octet ≡ Some w
-    → octet ≡ width_octet w
+    → octet ∷ [] ≡ width_octet w ∷ []
 width-is One octet w e = grind (arith, nat_tests)
 width-is Two octet w e = grind (arith, nat_tests)
 
-took-width : (version : Version) (octets : List ℕ) (w : Width) (rest : List ℕ)
-    → width_at version octets ≡ Ok (w, rest) → Front 1 (width_octet w ∷ []) octets rest
-took-width version octets w rest e =
-    let a = bind-ok (octet_at octets) _ _ e in
-    let b = bind-ok (known_value (width_of version a.0.0)) _ _ a.2 in
-    let same = ok-same (b.0, a.0.1) (w, rest) b.2 in
-    let is =
-    width-is version a.0.0 w
-    (known-ok (width_of version a.0.0) b.0 b.1 ∙ ap Some (ap (λ q. q.0) same)) in
-    subst (λ (x : ℕ). Front 1 (x ∷ []) octets rest) is
-    (took-octet octets a.0.0 rest
-    (a.1 ∙ ap (λ (r : List ℕ). Ok (a.0.0, r)) (ap (λ q. q.1) same)))
+first-width : (version : Version) → width_of version 2 ≡ Some width.Int
+first-width One = refl
+first-width Two = refl
+
+width-lawful : (version : Version)
+    → Lawful left Empty (Is (λ w. width_octet w ∷ []) Any) Never (width_at version)
+width-lawful version =
+    lawful-table BadOpcode (width_of version) (λ w. width_octet w ∷ []) Any 2 width.Int no-opcode
+    (omega arith) (first-width version) refl (λ x rest. known-entry (width_of version x) rest)
+    (λ x w e. record { parts = width-is version x w e; good = tt })
 
 -- ---- operands
 
--- An instruction of the opcode that was read: its operand is spelled, and is one that can be.
-pub record TookOperand (opcode : Opcode) (octets : List ℕ) (i : Instr) (rest : List ℕ)
-    : Type 0 where
-  pub opcode_is : opcode_of_instr i ≡ opcode
-  pub front : Front (length (operand_of i)) (operand_of i) octets rest
-  pub good : AreOctets octets → IsInstr i
+-- The operand of an instruction of the opcode.
+pub record IsOperand (opcode : Opcode) (octets : List ℕ) (r : Instr × List ℕ) : Type 0 where
+  pub opcode_is : opcode_of_instr r.0 ≡ opcode
+  pub parts : octets ≡ operand_of r.0
+  pub good : IsInstr r.0
 
-none-taken : (octets rest : List ℕ) → octets ≡ rest → Front 0 [] octets rest
-none-taken octets rest e = record { front = []; parts = e; len = refl; is = λ fits. refl }
+none-sound : (i : Instr) → operand_of i ≡ [] → IsInstr i
+    → Sound left Empty (IsOperand (opcode_of_instr i)) (λ octets. Ok (i, octets))
+none-sound i none good =
+    sound-so lawful-ok.sound (λ octets r fits d. record {
+      opcode_is = ap opcode_of_instr d.1;
+      parts = rw (d.0, d.1, none) refl;
+      good = subst IsInstr (sym d.1) good;
+    })
 
-took-none : (opcode : Opcode) (i : Instr) (octets : List ℕ) (j : Instr) (rest : List ℕ)
-    → opcode_of_instr i ≡ opcode → operand_of i ≡ [] → IsInstr i
-    → (◌≡◌ {A = Read Instr} (Ok (i, octets)) (Ok (j, rest))) → TookOperand opcode octets j rest
-took-none opcode i octets j rest is none good e =
-    let same = ok-same (i, octets) (j, rest) e in
-    let made : TookOperand opcode octets i rest = record {
-      opcode_is = is;
-      front = subst (λ (text : List ℕ). Front (length text) text octets rest) (sym none)
-          (none-taken octets rest (ap (λ q. q.1) same));
-      good = λ fits. good;
-    } in
-    subst (λ (k : Instr). TookOperand opcode octets k rest) (ap (λ q. q.0) same) made
-
-took-numbered : (opcode : Opcode) (make : ℕ → Instr) (octets : List ℕ) (i : Instr) (rest : List ℕ)
-    → ((n : ℕ) → opcode_of_instr (make n) ≡ opcode)
+numbered-sound : (opcode : Opcode) (make : ℕ → Instr) → ((n : ℕ) → opcode_of_instr (make n) ≡ opcode)
     → ((n : ℕ) → operand_of (make n) ≡ number_octets n) → ((n : ℕ) → n < 2 ^ 16 → IsInstr (make n))
-    → with_number make octets ≡ Ok (i, rest) → TookOperand opcode octets i rest
-took-numbered opcode make octets i rest is text good e =
-    let a = bind-ok (number_at octets) _ _ e in
-    let n = a.0.0 in
-    let same = ok-same (make n, a.0.1) (i, rest) a.2 in
-    let took =
-    took-number octets n rest (a.1 ∙ ap (λ (r : List ℕ). Ok (n, r)) (ap (λ q. q.1) same)) in
-    let made : TookOperand opcode octets (make n) rest = record {
-      opcode_is = is n;
-      front = subst (λ (t : List ℕ). Front (length t) t octets rest) (sym (text n)) took.0;
-      good = λ fits. good n (took.1 fits);
-    } in
-    subst (λ (k : Instr). TookOperand opcode octets k rest) (ap (λ q. q.0) same) made
+    → Sound left Empty (IsOperand opcode) (with_number make)
+numbered-sound opcode make is text good =
+    sound-so (sound-then _ number-lawful.sound (λ n. lawful-ok.sound)) (λ octets r fits d. record {
+      opcode_is = ap opcode_of_instr d.later.1 ∙ is d.what;
+      parts = rw (
+        d.parts,
+        d.first.parts,
+        d.later.0,
+        d.later.1,
+        text d.what,
+        append-nil (number_octets d.what),
+      ) refl;
+      good = subst IsInstr (sym d.later.1) (good d.what d.first.good);
+    })
 
-some-is : {A : Type 0} (o : Option A) (x : A) → o ≡ Some x → IsSome o
-some-is None x e = absurd cc
-some-is (Some y) x e = refl
+operand-sound : (version : Version) (o : Opcode)
+    → Sound left Empty (IsOperand o) (operand_from version o)
+operand-sound version (Push t) =
+    sound-so (sound-then _ (value-sound (size_of t) t) (λ v. lawful-ok.sound))
+    (λ octets r fits d. record {
+      opcode_is = rw d.later.1 (ap Push d.first.type);
+      parts = rw (
+        d.parts,
+        d.first.parts,
+        d.later.0,
+        d.later.1,
+        d.first.type,
+        append-nil (signed_octets (size_of t) (number_of d.what)),
+      ) refl;
+      good = rw (d.later.1, d.first.type, d.first.is) refl;
+    })
+operand-sound version (Compute o) =
+    sound-so (sound-then _ (width-lawful version).sound (λ w. lawful-ok.sound))
+    (λ octets r fits d. record {
+      opcode_is = rw d.later.1 refl;
+      parts = rw (d.parts, d.first.parts, d.later.0, d.later.1) refl;
+      good = rw d.later.1 tt;
+    })
+operand-sound version (Slot u) =
+    numbered-sound (Slot u) (λ n. instr.Slot u n) (λ n. refl) (λ n. refl) (λ n small. small)
+operand-sound version (Jump when) =
+    numbered-sound (Jump when) (λ n. instr.Jump when n) (λ n. refl) (λ n. refl) (λ n small. small)
+operand-sound version (Timer u) =
+    numbered-sound (Timer u) (λ n. instr.Timer u n) (λ n. refl) (λ n. refl) (λ n small. small)
+operand-sound version Halt = none-sound instr.Halt refl tt
+operand-sound version Drop = none-sound instr.Drop refl tt
+operand-sound version Not = none-sound instr.Not refl tt
+operand-sound version (Combine c) = none-sound (instr.Combine c) refl tt
+operand-sound version (Compare c) = none-sound (instr.Compare c) refl tt
+operand-sound version (Widen w) = none-sound (instr.Widen w) refl tt
+
+-- ---- instructions
+
+pub instr-sound : (version : Version) → Sound left Empty (Is spelling IsInstr) (instr_from version)
+unfolding instr_from
+instr-sound version =
+    sound-so (sound-then _ octet-lawful.sound (λ n. of-opcode (known_opcode version (opcode_of n))))
+    (λ octets r fits d. (
+    let known = known-is version (opcode_of d.what) d.later.0 d.later.1 in
+    record {
+      parts = rw (
+        d.parts,
+        d.first.parts,
+        d.later.2.parts,
+        opcode_is d.what d.later.0 known.0,
+        d.later.2.opcode_is,
+      ) refl;
+      good = d.later.2.good;
+    }))
+  where
+    of-opcode : (q : Result Opcode ImageFault)
+        → Sound left Empty (λ octets r. (o : Opcode) × (q ≡ Ok o) × IsOperand o octets r)
+        (λ octets. q >>= (λ o. operand_from version o octets))
+    of-opcode (Ok o) = sound-so (operand-sound version o) (λ octets r fits d. (o, refl, d))
+    of-opcode (Err e) = sound-err e
+
+-- ---- how many octets are read
+
+taken-size : {A : Type 0} (n : ℕ) (x : A) (octets : List ℕ) (y : A) (rest : List ℕ)
+    → ◌≡◌ {A = Read A} (cond (ltb (length octets) n) (Err Truncated) (Ok (x, drop n octets)))
+    (Ok (y, rest)) → length octets ≡ n + length rest
+taken-size n x octets y rest e =
+    let p = chosen-ok (ltb (length octets) n) (x, drop n octets) (y, rest) e in
+    let enough : n ≤ length octets = ltb-false (length octets) n p.0 in
+    let same : drop n octets ≡ rest = ap (λ q. q.1) p.1 in
+    omega (arith, length-drop n octets, ap length same)
 
 length-signed : (s : Size) (z : ℤ) → length (signed_octets s z) ≡ octet_count s
 length-signed s z = grind (arith, common_steps)
 
-pub took-operand : (version : Version) (opcode : Opcode) (octets : List ℕ) (i : Instr)
-    (rest : List ℕ) → operand_from version opcode octets ≡ Ok (i, rest)
-    → TookOperand opcode octets i rest
-took-operand version Halt octets i rest e = took-none Halt instr.Halt octets i rest refl refl tt e
-took-operand version (Push t) octets i rest e =
-    let a = bind-ok (value_at (size_of t) t octets) _ _ e in
-    let v = a.0.0 in
-    let same = ok-same (instr.Push v, a.0.1) (i, rest) a.2 in
-    let took =
-    took-value (size_of t) t octets v rest
-    (a.1 ∙ ap (λ (r : List ℕ). Ok (v, r)) (ap (λ q. q.1) same)) in
-    let sized : Front (length (signed_octets (size_of t) (number_of v)))
-    (signed_octets (size_of t) (number_of v)) octets rest =
-    subst (λ (n : ℕ). Front n (signed_octets (size_of t) (number_of v)) octets rest)
-    (sym (length-signed (size_of t) (number_of v))) took.front in
-    let made : TookOperand (Push t) octets (instr.Push v) rest = record {
-      opcode_is = ap Push took.type;
-      front = subst (λ (u : ElementaryType). Front
-          (length (signed_octets (size_of u) (number_of v)))
-          (signed_octets (size_of u) (number_of v)) octets rest) (sym took.type) sized;
-      good = λ fits. subst (λ (u : ElementaryType). IsSome (value_of u (number_of v)))
-          (sym took.type) (some-is (value_of t (number_of v)) v took.is);
-    } in
-    subst (λ (k : Instr). TookOperand (Push t) octets k rest) (ap (λ q. q.0) same) made
-took-operand version Drop octets i rest e = took-none Drop instr.Drop octets i rest refl refl tt e
-took-operand version (Slot u) octets i rest e =
-    took-numbered (Slot u) (λ n. instr.Slot u n) octets i rest (λ n. refl) (λ n. refl)
-    (λ n small. small) e
-took-operand version Not octets i rest e = took-none Not instr.Not octets i rest refl refl tt e
-took-operand version (Combine c) octets i rest e =
-    took-none (Combine c) (instr.Combine c) octets i rest refl refl tt e
-took-operand version (Compute o) octets i rest e =
-    let a = bind-ok (width_at version octets) _ _ e in
-    let w = a.0.0 in
-    let same = ok-same (instr.Compute o w, a.0.1) (i, rest) a.2 in
-    let made : TookOperand (Compute o) octets (instr.Compute o w) rest = record {
-      opcode_is = refl;
-      front = took-width version octets w rest
-          (a.1 ∙ ap (λ (r : List ℕ). Ok (w, r)) (ap (λ q. q.1) same));
-      good = λ fits. tt;
-    } in
-    subst (λ (k : Instr). TookOperand (Compute o) octets k rest) (ap (λ q. q.0) same) made
-took-operand version (Compare c) octets i rest e =
-    took-none (Compare c) (instr.Compare c) octets i rest refl refl tt e
-took-operand version (Widen w) octets i rest e =
-    took-none (Widen w) (instr.Widen w) octets i rest refl refl tt e
-took-operand version (Jump when) octets i rest e =
-    took-numbered (Jump when) (λ n. instr.Jump when n) octets i rest (λ n. refl) (λ n. refl)
-    (λ n small. small) e
-took-operand version (Timer u) octets i rest e =
-    took-numbered (Timer u) (λ n. instr.Timer u n) octets i rest (λ n. refl) (λ n. refl)
-    (λ n small. small) e
+mapped-size : {A : Type 0} (make : A → Instr) (octets : List ℕ) (r : Read A)
+    (i : Instr) (rest : List ℕ) → ((x : A) (rest : List ℕ) → r ≡ Ok (x, rest)
+    → length octets ≡ length (operand_of (make x)) + length rest)
+    → ◌≡◌ {A = Read Instr} (r >>= (λ x. Ok (make x.0, x.1))) (Ok (i, rest))
+    → length octets ≡ length (operand_of i) + length rest
+mapped-size make octets r i rest is e =
+    let a = bind-ok r _ _ e in
+    let same = ok-same (make a.0.0, a.0.1) (i, rest) a.2 in
+    is a.0.0 a.0.1 a.1
+    ∙ ap (λ (q : Instr × List ℕ). length (operand_of q.0) + length q.1) same
 
--- ---- instructions
+value-size : (t : ElementaryType) (octets : List ℕ) (v : Value) (rest : List ℕ)
+    → value_at (size_of t) t octets ≡ Ok (v, rest)
+    → length octets ≡ length (operand_of (instr.Push v)) + length rest
+value-size t octets v rest e =
+    let a = bind-ok (signed_at (size_of t) octets) _ _ e in
+    let b = bind-ok (known_value (value_of t a.0.0)) _ _ a.2 in
+    let same = ok-same (b.0, a.0.1) (v, rest) b.2 in
+    let type : type_of v ≡ t =
+    ap type_of (sym (ap (λ q. q.0) same)) ∙ (value_is t a.0.0 b.0 (known-ok _ b.0 b.1)).type in
+    rw (length-signed (size_of (type_of v)) (number_of v), type)
+    (taken-size (octet_count (size_of t)) _ octets a.0.0 a.0.1 a.1
+    ∙ ap (λ (q : Value × List ℕ). octet_count (size_of t) + length q.1) same)
 
-pub behind-octets : (front rest : List ℕ) → AreOctets (front ++ rest) → AreOctets rest
-behind-octets [] rest fits = fits
-behind-octets (x ∷ front) rest fits = behind-octets front rest (λ i. fits (suc i))
+width-size : (version : Version) (octets : List ℕ) (w : Width) (rest : List ℕ)
+    → width_at version octets ≡ Ok (w, rest) → length octets ≡ 1 + length rest
+width-size version [] w rest e = absurd cc
+width-size version (x ∷ octets) w rest e =
+    let a = bind-ok (known_value (width_of version x)) _ _ e in
+    let same : length octets ≡ length rest =
+    ap (λ (q : Width × List ℕ). length q.1) (ok-same (a.0, octets) (w, rest) a.2) in
+    omega arith
 
--- An instruction that was read is spelled, and is one that can be, of an opcode that the version
--- has.
-pub record TookInstr (version : Version) (octets : List ℕ) (i : Instr) (rest : List ℕ)
-    : Type 0 where
-  pub front : Front (length (spelling i)) (spelling i) octets rest
-  pub good : AreOctets octets → IsInstr i
-  pub known : is_known version (opcode_of_instr i) ≡ true
+none-size : (i : Instr) (octets : List ℕ) (j : Instr) (rest : List ℕ)
+    → length octets ≡ length (operand_of i) + length octets
+    → ◌≡◌ {A = Read Instr} (Ok (i, octets)) (Ok (j, rest))
+    → length octets ≡ length (operand_of j) + length rest
+none-size i octets j rest none e =
+    none ∙ ap (λ (q : Instr × List ℕ). length (operand_of q.0) + length q.1)
+    (ok-same (i, octets) (j, rest) e)
 
-pub took-instr : (version : Version) (octets : List ℕ) (i : Instr) (rest : List ℕ)
-    → instr_from version octets ≡ Ok (i, rest) → TookInstr version octets i rest
+operand-size : (version : Version) (o : Opcode) (octets : List ℕ) (i : Instr) (rest : List ℕ)
+    → operand_from version o octets ≡ Ok (i, rest)
+    → length octets ≡ length (operand_of i) + length rest
+operand-size version (Push t) octets i rest =
+    mapped-size instr.Push octets (value_at (size_of t) t octets) i rest (value-size t octets)
+operand-size version (Compute o) octets i rest =
+    mapped-size (λ w. instr.Compute o w) octets (width_at version octets) i rest
+    (width-size version octets)
+operand-size version (Slot u) octets i rest =
+    mapped-size (λ n. instr.Slot u n) octets (number_at octets) i rest (taken-size 2 _ octets)
+operand-size version (Jump when) octets i rest =
+    mapped-size (λ n. instr.Jump when n) octets (number_at octets) i rest (taken-size 2 _ octets)
+operand-size version (Timer u) octets i rest =
+    mapped-size (λ n. instr.Timer u n) octets (number_at octets) i rest (taken-size 2 _ octets)
+operand-size version Halt octets i rest = none-size instr.Halt octets i rest (omega arith)
+operand-size version Drop octets i rest = none-size instr.Drop octets i rest (omega arith)
+operand-size version Not octets i rest = none-size instr.Not octets i rest (omega arith)
+operand-size version (Combine c) octets i rest =
+    none-size (instr.Combine c) octets i rest (omega arith)
+operand-size version (Compare c) octets i rest =
+    none-size (instr.Compare c) octets i rest (omega arith)
+operand-size version (Widen w) octets i rest = none-size (instr.Widen w) octets i rest (omega arith)
+
+pub instr-size : (version : Version) (octets : List ℕ) (i : Instr) (rest : List ℕ)
+    → instr_from version octets ≡ Ok (i, rest) → length octets ≡ length (spelling i) + length rest
 unfolding instr_from
-took-instr version octets i rest e =
-    let a = bind-ok (octet_at octets) _ _ e in
-    let b = bind-ok (known_opcode version (opcode_of a.0.0)) _ _ a.2 in
-    let is = known-is version (opcode_of a.0.0) b.0 b.1 in
-    let first = took-octet octets a.0.0 a.0.1 a.1 in
-    let operand = took-operand version b.0 a.0.1 i rest b.2 in
-    let octet : a.0.0 ≡ octet_of (opcode_of_instr i) =
-    opcode_is a.0.0 b.0 is.0 ∙ ap octet_of (sym operand.opcode_is) in
-    let behind : AreOctets octets → AreOctets a.0.1 =
-    λ fits. behind-octets first.front a.0.1 (subst AreOctets first.parts fits) in
-    record {
-      front = record {
-        front = first.front ++ operand.front.front;
-        parts = first.parts ∙ ap (λ (xs : List ℕ). first.front ++ xs) operand.front.parts
-            ∙ sym (append_assoc first.front operand.front.front rest);
-        len = length-append first.front operand.front.front
-            ∙ omega (arith, first.len, operand.front.len);
-        is = λ fits. rw (first.is fits, operand.front.is (behind fits), octet) refl;
-      };
-      good = λ fits. operand.good (behind fits);
-      known = ap (is_known version) operand.opcode_is ∙ is.1;
-    }
+instr-size version [] i rest e = absurd cc
+instr-size version (x ∷ octets) i rest e =
+    let a = bind-ok (known_opcode version (opcode_of x)) _ _ e in
+    let size = operand-size version a.0 octets i rest a.2 in
+    omega arith
+
+-- ---- back again
 
 width-back : (w : Width) → width_of Two (width_octet w) ≡ Some w
 width-back width.Int = refl

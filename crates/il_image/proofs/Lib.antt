@@ -4,8 +4,9 @@ pub mod CodeCuts
 pub mod CodeLemmas
 pub mod CutLemmas
 pub mod EachLemmas
-pub mod EndLemmas
+pub mod FewLemmas
 pub mod FinalLemmas
+pub mod FormatLemmas
 pub mod FrontLemmas
 pub mod ImageLemmas
 pub mod InstrLemmas
@@ -14,12 +15,11 @@ pub mod KindLemmas
 pub mod MapLemmas
 pub mod NameLemmas
 pub mod OctetLemmas
+pub mod PieceLemmas
 pub mod PlaceLemmas
 pub mod ReadLemmas
 pub mod SetLemmas
 pub mod ShortLemmas
-pub mod SoundLemmas
 pub mod TimerLemmas
-pub mod TookLemmas
 pub mod ValueLemmas
 pub mod WrapLemmas

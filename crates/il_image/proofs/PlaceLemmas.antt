@@ -2,7 +2,7 @@
 use Rattle.std.proofs.Common.{◌≡◌, ℕ, ◌+◌, ◌-◌, ◌<◌, ◌≤◌, List, ◌++◌, length, take, drop, Option, Some, None, refl, subst, sym, ap, ◌∙◌, arith}
 use Rattle.std.proofs.lemmas.Option.{same_Some}
 use Rattle.std.specs.Prelude.{Ok, Err, IfSome, ◌↔◌}
-use Rattle.std.proofs.lemmas.List.{length-append, length-drop}
+use Rattle.std.proofs.lemmas.List.{length-drop}
 use Rattle.std.proofs.Math.Seq.{drop-append_seam, drop-drop, take-length}
 use Rattle.std.proofs.Math.ListN.{drop_of_length-le}
 use Rattle.il_image.specs.declared.instr.Instr.{Instr}
@@ -12,7 +12,8 @@ use Rattle.il_image.specs.Octets.{AreOctets}
 use Rattle.il_image.specs.Reading.{Read, instr_from, instr_at, with_next_place, StandsAt}
 use Rattle.il_image.specs.Spelling.{spelling, IsInstr}
 use Rattle.il_image.proofs.ReadLemmas.{drop-octets}
-use Rattle.il_image.proofs.InstrLemmas.{took-instr, back-instr}
+use Rattle.il_image.proofs.InstrLemmas.{back-instr, instr-size, instr-sound}
+use Rattle.il_image.proofs.PieceLemmas.{spelled-first}
 
 -- what was read at a place
 pub record Placed (code : List ℕ) (place : ℕ) (i : Instr) (next : ℕ) : Type 0 where
@@ -47,19 +48,15 @@ pub record Forward (code : List ℕ) (place : ℕ) (i : Instr) (rest : List ℕ)
 pub forward : (code : List ℕ) (place : ℕ) (i : Instr) (rest : List ℕ)
     → instr_from Two (drop place code) ≡ Ok (i, rest) → Forward code place i rest
 forward code place i rest e =
-    let took = took-instr Two (drop place code) i rest e in
-    let all : length (drop place code) ≡ length took.front.front + length rest =
-    ap length took.front.parts ∙ length-append took.front.front rest in
+    let all = instr-size Two (drop place code) i rest e in
     let cut : length (drop place code) ≡ length code - place = length-drop place code in
-    let size = took.front.len in
     record { next = omega arith; within = omega arith; small = omega arith }
 
-behind : (place n next : ℕ) (code front rest : List ℕ) → drop place code ≡ front ++ rest
-    → length front ≡ n → next ≡ place + n → drop next code ≡ rest
-behind place n next code front rest e size is =
-    ap (λ (m : ℕ). drop m code) (is ∙ ap (λ (k : ℕ). place + k) (sym size))
-    ∙ sym (drop-drop (length front) place code) ∙ ap (drop (length front)) e
-    ∙ drop-append_seam front rest
+-- what was read of octets is spelled by their front
+pub spelled-so : (version : Version) (octets : List ℕ) (i : Instr) (rest : List ℕ)
+    → AreOctets octets → instr_from version octets ≡ Ok (i, rest)
+    → IsInstr i × (octets ≡ spelling i ++ rest)
+spelled-so version = spelled-first (instr-sound version)
 
 -- an instruction that is read at a place is spelled there
 pub stands : (code : List ℕ) (place : ℕ) (i : Instr) (next : ℕ) → AreOctets code
@@ -67,17 +64,14 @@ pub stands : (code : List ℕ) (place : ℕ) (i : Instr) (next : ℕ) → AreOct
 stands code place i next fits e =
     let p = read-at code place i next e in
     let f = forward code place i p.rest p.read in
-    let took = took-instr Two (drop place code) i p.rest p.read in
-    let octets = drop-octets place code fits in
-    let is : drop place code ≡ spelling i ++ p.rest =
-    took.front.parts ∙ ap (λ (xs : List ℕ). xs ++ p.rest) (took.front.is octets) in
+    let s = spelled-so Two (drop place code) i p.rest (drop-octets place code fits) p.read in
     let size : next ≡ place + length (spelling i) = p.is ∙ f.next in
     let rest : drop next code ≡ p.rest =
-    behind place (length (spelling i)) next code took.front.front p.rest took.front.parts
-    took.front.len size in
+    ap (λ (n : ℕ). drop n code) size ∙ sym (drop-drop (length (spelling i)) place code)
+    ∙ ap (drop (length (spelling i))) s.1 ∙ drop-append_seam (spelling i) p.rest in
     record {
-      is_instr = took.good octets;
-      spelled = is ∙ ap (λ (xs : List ℕ). spelling i ++ xs) (sym rest);
+      is_instr = s.0;
+      spelled = s.1 ∙ ap (λ (xs : List ℕ). spelling i ++ xs) (sym rest);
       size = size;
       within = subst (λ (n : ℕ). n ≤ length code) (sym size) f.within;
     }
@@ -134,14 +128,6 @@ found-forward code place (Some r) e = goes-forward code place r.0 r.1 (sym e)
 pub stands-or-none : (code : List ℕ) (place : ℕ) (i : Instr) (next : ℕ) → AreOctets code
     → (instr_at code place ≡ Some (i, next)) ↔ StandsAt code place i next
 stands-or-none code place i next fits = (stands code place i next fits, stood code place i next)
-
--- what was read of octets is spelled by their front
-pub spelled-so : (version : Version) (octets : List ℕ) (i : Instr) (rest : List ℕ)
-    → AreOctets octets → instr_from version octets ≡ Ok (i, rest)
-    → IsInstr i × (octets ≡ spelling i ++ rest)
-spelled-so version octets i rest fits e =
-    let took = took-instr version octets i rest e in
-    (took.good fits, took.front.parts ∙ ap (λ (xs : List ℕ). xs ++ rest) (took.front.is fits))
 
 -- what version 1 reads version 2 reads
 pub newer-reads : (octets : List ℕ) (i : Instr) (rest : List ℕ) → AreOctets octets

@@ -1,17 +1,17 @@
 -- Reading an item: what is read is spelled so, and what is spelled is read back whatever follows.
-use Rattle.std.proofs.Common.{◌≡◌, ℕ, zero, suc, ◌-◌, ◌^◌, ◌<◌, ◌≤◌, ℤ, FitsSigned, Bool, true, false, cond, ltb, List, [], ◌∷◌, ◌++◌, length, take, drop, Option, Some, None, refl, subst, sym, ap, ◌∙◌, arith}
+use Rattle.std.proofs.Common.{◌≡◌, ℕ, zero, suc, ◌-◌, ◌^◌, ◌<◌, ◌≤◌, ℤ, FitsSigned, Bool, true, false, cond, ltb, List, [], ◌∷◌, ◌++◌, length, take, drop, Option, Some, None, refl, sym, ap, ◌∙◌, arith}
 use Rattle.std.specs.Prelude.{Result, Ok, Err}
-use Rattle.std.specs.Int.{w16, cast_signed, from_be_bytes}
-use Rattle.std.proofs.lemmas.Bool.{le-ltb, ltb-false}
-use Rattle.std.proofs.lemmas.List.{take-append-drop, length-take-le, get_or-take, take_rest}
+use Rattle.std.specs.Int.{cast_signed, from_be_bytes}
+use Rattle.std.proofs.lemmas.Bool.{le-ltb}
+use Rattle.std.proofs.lemmas.List.{get_or-take, take_rest}
 use Rattle.bay_base.specs.Results.{◌>>=◌}
 use Rattle.il_image.specs.declared.fault.ImageFault.{ImageFault}
 use Rattle.il_image.specs.declared.fault.ImageFault.TheVariants.{Truncated}
 use Rattle.il_image.specs.declared.write.Size.{Size}
 use Rattle.il_image.specs.declared.write.Size.TheVariants.{One, Two, Four, Eight}
 use Rattle.il_image.specs.Octets.{AreOctets, octet_count, bits_of_size, number_octets, signed_octets}
-use Rattle.il_image.specs.Reading.{known_value, octet_at, number_at, signed_at}
-use Rattle.il_image.proofs.OctetLemmas.{written-number, written-signed, read_number, read-signed, number-below}
+use Rattle.il_image.specs.Reading.{known_value, number_at, signed_at}
+use Rattle.il_image.proofs.OctetLemmas.{written-number, written-signed}
 
 -- ---- steps
 
@@ -37,14 +37,7 @@ pub chosen-ok : {A : Type 0} (b : Bool) (x y : A)
 chosen-ok true x y e = absurd cc
 chosen-ok false x y e = (refl, cc)
 
--- ---- fronts
-
--- A front of this length, which is this text if the octets are octets, and the rest.
-pub record Front (size : ℕ) (text octets rest : List ℕ) : Type 0 where
-  pub front : List ℕ
-  pub parts : octets ≡ front ++ rest
-  pub len : length front ≡ size
-  pub is : AreOctets octets → front ≡ text
+-- ---- octets
 
 pub take_octets : (n : ℕ) (octets : List ℕ) → AreOctets octets → AreOctets (take n octets)
 take_octets zero octets fits = λ i. omega arith
@@ -62,33 +55,9 @@ drop-octets zero octets fits = fits
 drop-octets (suc n) [] fits = fits
 drop-octets (suc n) (x ∷ octets) fits = drop-octets n octets (λ i. fits (suc i))
 
--- the octets taken and the rest
-taken : (n : ℕ) (text octets rest : List ℕ) → ltb (length octets) n ≡ false → drop n octets ≡ rest
-    → (AreOctets (take n octets) → length (take n octets) ≡ n → take n octets ≡ text)
-    → Front n text octets rest
-taken n text octets rest enough e is =
-    let ge = ltb-false (length octets) n enough in
-    let len = length-take-le n octets ge in
-    record {
-      front = take n octets;
-      parts = sym (take-append-drop n octets) ∙ ap (λ xs. take n octets ++ xs) e;
-      len = len;
-      is = λ fits. is (take_octets n octets fits) len;
-    }
-
--- ---- octets and numbers
-
-pub took-octet : (octets : List ℕ) (octet : ℕ) (rest : List ℕ) → octet_at octets ≡ Ok (octet, rest)
-    → Front 1 (octet ∷ []) octets rest
-took-octet [] octet rest e = absurd cc
-took-octet (x ∷ xs) octet rest e =
-    let p = ok-same (x, xs) (octet, rest) e in
-    record {
-      front = x ∷ [];
-      parts = ap (λ ys. x ∷ ys) (ap (λ q. q.1) p);
-      len = refl;
-      is = λ fits. ap (λ y. y ∷ []) (ap (λ q. q.0) p);
-    }
+pub behind-octets : (front rest : List ℕ) → AreOctets (front ++ rest) → AreOctets rest
+behind-octets [] rest fits = fits
+behind-octets (x ∷ front) rest fits = behind-octets front rest (λ i. fits (suc i))
 
 pub from-front : (size : Size) (octets : List ℕ)
     → from_be_bytes (bits_of_size size) (take (octet_count size) octets)
@@ -114,33 +83,6 @@ from-front Eight octets =
       get_or-take 8 octets 6 0 (omega arith),
       get_or-take 8 octets 7 0 (omega arith),
     ) refl
-
-pub took-number : (octets : List ℕ) (n : ℕ) (rest : List ℕ) → number_at octets ≡ Ok (n, rest)
-    → Front 2 (number_octets n) octets rest × (AreOctets octets → n < 2 ^ 16)
-took-number octets n rest e =
-    let p = chosen-ok (ltb (length octets) 2) (from_be_bytes w16 octets, drop 2 octets) (n, rest) e
-    in
-    let number : from_be_bytes w16 (take 2 octets) ≡ n =
-    from-front Two octets ∙ ap (λ q. q.0) p.1 in (
-      taken 2 (number_octets n) octets rest p.0 (ap (λ q. q.1) p.1)
-          (λ fits len. sym (read_number (take 2 octets) len fits) ∙ ap number_octets number),
-      λ fits. subst (λ (m : ℕ). m < 2 ^ 16) number
-          (number-below (take 2 octets) (take_octets 2 octets fits)),
-    )
-
-pub took-signed : (size : Size) (octets : List ℕ) (z : ℤ) (rest : List ℕ)
-    → signed_at size octets ≡ Ok (z, rest)
-    → Front (octet_count size) (signed_octets size z) octets rest
-took-signed size octets z rest e =
-    let w = bits_of_size size in
-    let n = octet_count size in
-    let p = chosen-ok (ltb (length octets) n)
-    (cast_signed w (from_be_bytes w octets), drop n octets) (z, rest) e in
-    let number : cast_signed w (from_be_bytes w (take n octets)) ≡ z =
-    ap (cast_signed w) (from-front size octets) ∙ ap (λ q. q.0) p.1 in
-    taken n (signed_octets size z) octets rest p.0 (ap (λ q. q.1) p.1)
-    (λ fits len. sym (read-signed size (take n octets) len fits)
-    ∙ ap (signed_octets size) number)
 
 -- a number that is whole, and what is left behind it
 pub whole-signed : (size : Size) (octets : List ℕ) (z : ℤ) → octet_count size ≤ length octets

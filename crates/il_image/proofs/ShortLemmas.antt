@@ -1,183 +1,42 @@
--- Readers that find too few octets: others complete them, or no initial value begins so.
+-- An initial value that is cut short: others complete it, or no value begins so.
 use Rattle.std.proofs.lemmas.Grind.{common_steps}
-use Rattle.std.proofs.Common.{◌≡◌, ℕ, zero, suc, ◌-◌, ◌<◌, ◌≤◌, ◌&&◌, ◌||◌, Bool, true, false, cond, eqb, ltb, List, [], ◌∷◌, ◌++◌, length, take, drop, Option, Some, None, refl, sym, subst, ap, ◌∙◌, arith, append-nil, inl, inr}
+use Rattle.std.proofs.Common.{◌≡◌, ℕ, suc, ◌<◌, ◌≤◌, Bool, true, false, cond, ltb, List, [], ◌∷◌, ◌++◌, length, take, drop, Option, Some, None, refl, sym, ap, ◌∙◌, arith, append-nil, inl, inr}
 use Rattle.std.specs.Prelude.{Ok, Err, Result, ◌⊎◌}
-use Rattle.std.specs.Int.{cast_signed, from_be_bytes, w16}
-use Rattle.std.specs.List.{list_all}
-use Rattle.std.proofs.lemmas.Bool.{le-ltb, ltb-true}
+use Rattle.std.specs.Int.{cast_signed, from_be_bytes}
+use Rattle.std.proofs.lemmas.Bool.{ltb-true}
 use Rattle.std.proofs.lemmas.List.{length-append}
-use Rattle.std.proofs.lemmas.List.Folds.{list_all-append}
-use Rattle.std.proofs.Math.ListN.{drop_of_length-le}
 use Rattle.bay_base.specs.Results.{◌>>=◌}
 use Rattle.bay_base.specs.declared.types.ElementaryType.{ElementaryType}
-use Rattle.bay_base.specs.declared.types.ElementaryType.TheVariants as elementary
-use Rattle.bay_base.specs.declared.types.TimerKind.TheVariants.{OnDelay}
 use Rattle.il_image.specs.declared.fault.ImageFault.{ImageFault}
-use Rattle.il_image.specs.declared.fault.ImageFault.TheVariants.{BadVersion, BadOpcode, Truncated}
+use Rattle.il_image.specs.declared.fault.ImageFault.TheVariants.{Truncated}
 use Rattle.il_image.specs.declared.opcode.Version.{Version}
 use Rattle.il_image.specs.declared.opcode.Version.TheVariants.{One, Two}
 use Rattle.il_image.specs.declared.value.Value.{Value}
 use Rattle.il_image.specs.declared.value.Value.TheVariants.{Truth}
 use Rattle.il_image.specs.declared.write.Size.{Size}
 use Rattle.il_image.specs.Cuts.{IsShortOf, IsValueOf}
-use Rattle.il_image.specs.Decoding.{access_of, kind_of_octet, name_at, name_of_length, point_at, timer_at, type_of_octet, variable_at, version_at}
-use Rattle.il_image.specs.Images.{is_name_octet, value_size, variable_octets}
+use Rattle.il_image.specs.Decoding.{type_of_octet, variable_at}
+use Rattle.il_image.specs.Images.{IsValue, value_size, variable_octets}
 use Rattle.il_image.specs.Octets.{AreOctets, bits_of_size, octet_count}
-use Rattle.il_image.specs.Reading.{Read, known_value, number_at, value_at}
+use Rattle.il_image.specs.Reading.{Read, known_value, value_at}
 use Rattle.il_image.specs.Values.{default_value, value_of}
-use Rattle.il_image.proofs.EndLemmas.{Completes, Ends, IsAll, all-told, are-more, are-none, completes-ok, completes-table, completes-then, few-told, known-never}
-use Rattle.il_image.proofs.InstrLemmas.{behind-octets}
-use Rattle.il_image.proofs.ReadLemmas.{took-number}
-use Rattle.il_image.proofs.SoundLemmas.{err-same, sound-access, sound-name, sound-type}
-use Rattle.il_image.proofs.TookLemmas.{took-variable}
+use Rattle.il_image.proofs.FewLemmas.{IsAll, all-told, few-told}
+use Rattle.il_image.proofs.InstrLemmas.{value-sound}
+use Rattle.il_image.proofs.FormatLemmas.{type-lawful}
+use Rattle.il_image.proofs.PieceLemmas.{Empty, EndsIn, Is, Lawful, Sound, are-more, copies, copies-fit, copies-size, err-same, left, sound-so, sound-then, spelled-first}
 
--- ---- readers that are completed always
+-- an initial value that is read is spelled, and is one of its type
+variable-sound : (version : Version)
+    → Sound left Empty (Is (variable_octets version) IsValue) (variable_at version)
+unfolding variable_at
+variable-sound version =
+    sound-so (sound-then _ (type-lawful version).sound (λ t. value-sound (value_size version) t))
+    (λ octets r fits d. record {
+      parts = rw (d.parts, d.first.parts, d.later.parts, d.later.type) refl;
+      good = rw (d.later.type, d.later.is) refl;
+    })
 
-version-short : (octets : List ℕ) → version_at octets ≡ Err Truncated → Ends version_at octets
-version-short [] e =
-    record {
-      more = 1 ∷ [];
-      fits = are-more 1 [] (omega arith) are-none;
-      what = (One, []);
-      is = refl;
-      ends = refl;
-    }
-version-short (x ∷ octets) e = absurd (never (eqb x 1) (eqb x 2) e)
-  where
-    never : (a b : Bool) → ◌≡◌ {A = Read Version}
-        (cond a (Ok (One, octets)) (cond b (Ok (Two, octets)) (Err BadVersion))) (Err Truncated)
-        → ⊥
-    never true b e = absurd cc
-    never false true e = absurd cc
-    never false false e = absurd cc
-
-number-short : (octets : List ℕ) → number_at octets ≡ Err Truncated → Ends number_at octets
-number-short [] e = record {
-  more = 0 ∷ 0 ∷ [];
-  fits = are-more 0 (0 ∷ []) (omega arith) (are-more 0 [] (omega arith) are-none);
-  what = (from_be_bytes w16 (0 ∷ 0 ∷ []), []);
-  is = refl;
-  ends = refl;
-}
-number-short (h ∷ []) e = record {
-  more = 0 ∷ [];
-  fits = are-more 0 [] (omega arith) are-none;
-  what = (from_be_bytes w16 (h ∷ 0 ∷ []), []);
-  is = refl;
-  ends = refl;
-}
-number-short (h ∷ l ∷ octets) e =
-    absurd (enough (ltb (length (h ∷ l ∷ octets)) 2)
-    (le-ltb (length (h ∷ l ∷ octets)) 2 (omega arith)) e)
-  where
-    enough : (b : Bool) → b ≡ false → ◌≡◌ {A = Read ℕ}
-        (cond b (Err Truncated) (Ok (from_be_bytes w16 (h ∷ l ∷ octets), octets))) (Err Truncated)
-        → ⊥
-    enough true is e = absurd cc
-    enough false is e = absurd cc
-
-pub version-completes : Completes version_at
-version-completes = record { start = version-short [] refl; short = version-short }
-
-pub number-completes : Completes number_at
-number-completes = record { start = number-short [] refl; short = number-short }
-
--- so many times an octet
-unfoldable pub copies : ℕ → ℕ → List ℕ
-copies x zero = []
-copies x (suc n) = x ∷ copies x n
-
-pub copies-fit : (x n : ℕ) → x < 256 → AreOctets (copies x n)
-unfolding copies
-copies-fit x zero small = are-none
-copies-fit x (suc n) small = are-more x (copies x n) small (copies-fit x n small)
-
-pub copies-size : (x n : ℕ) → length (copies x n) ≡ n
-unfolding copies
-copies-size x zero = refl
-copies-size x (suc n) = ap suc (copies-size x n)
-
-copies-name : (n : ℕ) → list_all is_name_octet (copies 0x41 n) ≡ true
-unfolding copies
-copies-name zero = refl
-copies-name (suc n) = copies-name n
-
-pub take-all : (n : ℕ) (xs : List ℕ) → length xs ≤ n → take n xs ≡ xs
-take-all n xs h = grind (arith, common_steps)
-
-length-short : (n : ℕ) (octets : List ℕ) → name_of_length n octets ≡ Err Truncated
-    → Ends (name_of_length n) octets
-length-short n octets e =
-    go (list_all is_name_octet (take n octets)) (ltb (length octets) n) refl refl e
-  where
-    go : (a b : Bool) → list_all is_name_octet (take n octets) ≡ a → ltb (length octets) n ≡ b
-        → ◌≡◌ {A = Read (List ℕ)}
-        (cond a (cond b (Err Truncated) (Ok (take n octets, drop n octets))) (Err BadOpcode))
-        (Err Truncated) → Ends (name_of_length n) octets
-    go false b f g e = absurd cc
-    go true false f g e = absurd cc
-    go true true f g e =
-        let lt : length octets < n = ltb-true (length octets) n g in
-        let more = copies 0x41 (n - length octets) in
-        let size : length (octets ++ more) ≡ n =
-        omega (arith, length-append octets more, copies-size 0x41 (n - length octets)) in
-        let all : take n (octets ++ more) ≡ octets ++ more =
-        take-all n (octets ++ more) (omega arith) in
-        let none : drop n (octets ++ more) ≡ [] =
-        drop_of_length-le (octets ++ more) (omega arith) in
-        let front : list_all is_name_octet octets ≡ true =
-        ap (list_all is_name_octet) (sym (take-all n octets (omega arith))) ∙ f in
-        let good : list_all is_name_octet (octets ++ more) ≡ true =
-        list_all-append is_name_octet octets more
-        ∙ ap (λ (b : Bool). b && list_all is_name_octet more) front
-        ∙ copies-name (n - length octets) in
-        let enough : ltb (length (octets ++ more)) n ≡ false =
-        le-ltb (length (octets ++ more)) n (omega arith) in
-        record {
-          more = more;
-          fits = copies-fit 0x41 (n - length octets) (omega arith);
-          what = (octets ++ more, []);
-          is = rw (all, good, enough, none) refl;
-          ends = refl;
-        }
-
-name-short : (octets : List ℕ) → name_at octets ≡ Err Truncated → Ends name_at octets
-name-short [] e = record {
-  more = 1 ∷ 0x41 ∷ [];
-  fits = are-more 1 (0x41 ∷ []) (omega arith) (are-more 0x41 [] (omega arith) are-none);
-  what = (0x41 ∷ [], []);
-  is = refl;
-  ends = refl;
-}
-name-short (x ∷ octets) e = go (eqb x 0 || ltb 64 x) refl e
-  where
-    go : (b : Bool) → (eqb x 0 || ltb 64 x) ≡ b
-        → ◌≡◌ {A = Read (List ℕ)} (cond b (Err BadOpcode) (name_of_length x octets)) (Err Truncated)
-        → Ends name_at (x ∷ octets)
-    go true f e = absurd cc
-    go false f e =
-        let a = length-short x octets e in
-        record { more = a.more; fits = a.fits; what = a.what; is = rw f a.is; ends = a.ends }
-
-name-completes : Completes name_at
-name-completes = record { start = name-short [] refl; short = name-short }
-
-pub point-completes : (version : Version) → Completes (point_at version)
-unfolding point_at
-point-completes version =
-    completes-then _ (sound-type version)
-    (completes-table (type_of_octet version) 1 elementary.Bool (omega arith) refl)
-    (λ t. completes-then _ sound-access (completes-table access_of 0 false (omega arith) refl)
-    (λ w. completes-then _ sound-name name-completes (λ n. completes-ok)))
-
-pub timer-completes : (version : Version) → Completes (timer_at version)
-unfolding timer_at
-timer-completes One = completes-ok
-timer-completes Two = completes-table kind_of_octet 1 OnDelay (omega arith) refl
-
--- ---- initial values
-
-pub variable-start : (version : Version) → Ends (variable_at version) []
+variable-start : (version : Version) → EndsIn (variable_at version) Empty []
 unfolding variable_at copies
 variable-start One = record {
   more = 1 ∷ copies 0 4;
@@ -193,6 +52,11 @@ variable-start Two = record {
   is = refl;
   ends = refl;
 }
+
+pub known-never : {A : Type 0} (o : Option A) (octets : List ℕ)
+    → ◌≡◌ {A = Read A} (known_value o >>= (λ (t : A). Ok (t, octets))) (Err Truncated) → ⊥
+known-never None octets e = absurd cc
+known-never (Some x) octets e = absurd cc
 
 -- what is mapped, and a number that is taken
 pub err-mapped : {A B : Type 0} (r : Result A ImageFault) (h : A → B)
@@ -253,7 +117,7 @@ value-begins version x octets small e = typed (type_of_octet version x) refl e
         let read : variable_at version (x ∷ copies 0 n) ≡ Ok (default_value t, []) =
         rw is (zero-value version t) in
         let same : x ∷ copies 0 n ≡ variable_octets version (default_value t) =
-        (took-variable version (x ∷ copies 0 n) (default_value t) [] fits read).parts
+        (spelled-first (variable-sound version) (x ∷ copies 0 n) (default_value t) [] fits read).1
         ∙ append-nil (variable_octets version (default_value t)) in
         let fewer = value-few (value_size version) t octets e in
         let size : suc (length (copies 0 n)) ≡ length (variable_octets version (default_value t)) =
@@ -267,9 +131,9 @@ length-variable : (version : Version) (v : Value) → length (variable_octets ve
 length-variable One v = omega arith
 length-variable Two v = omega arith
 
-pub variable-short : (version : Version) (octets : List ℕ) → AreOctets octets
+variable-short : (version : Version) (octets : List ℕ) → AreOctets octets
     → variable_at version octets ≡ Err Truncated
-    → Ends (variable_at version) octets ⊎ NoValue version octets
+    → EndsIn (variable_at version) Empty octets ⊎ NoValue version octets
 variable-short version [] fits e = inl (variable-start version)
 variable-short version (x ∷ octets) fits e = elim (few-told
     (λ more. IsAll (variable_at version (x ∷ octets ++ more)))
@@ -294,9 +158,11 @@ variable-short version (x ∷ octets) fits e = elim (few-told
       })
     ]
 
--- what stands behind a number
-pub behind-number : (octets : List ℕ) (n : ℕ) (rest : List ℕ) → AreOctets octets
-    → number_at octets ≡ Ok (n, rest) → AreOctets rest
-behind-number octets n rest fits e =
-    let took = took-number octets n rest e in
-    behind-octets took.0.front rest (subst AreOctets took.0.parts fits)
+pub variable-lawful : (version : Version)
+    → Lawful left Empty (Is (variable_octets version) IsValue) (NoValue version)
+    (variable_at version)
+variable-lawful version = record {
+  sound = variable-sound version;
+  start = variable-start version;
+  short = variable-short version;
+}
