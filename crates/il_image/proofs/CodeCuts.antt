@@ -31,10 +31,10 @@ use Rattle.il_image.specs.Opcodes.{is_known, opcode_of, width_of}
 use Rattle.il_image.specs.Reading.{Read, instr_from, known_value, known_opcode, number_at, operand_from, value_at}
 use Rattle.il_image.specs.Spelling.{spelling}
 use Rattle.il_image.specs.Values.{default_value}
-use Rattle.il_image.proofs.CodeLemmas.{code-sound, fault-step, less}
+use Rattle.il_image.proofs.CodeLemmas.{code-sound, fault-step}
 use Rattle.il_image.proofs.FewLemmas.{Few, IsAll, all-told, few-told}
 use Rattle.il_image.proofs.FormatLemmas.{IsNumber, number-lawful}
-use Rattle.il_image.proofs.InstrLemmas.{instr-sound}
+use Rattle.il_image.proofs.InstrLemmas.{instr-sound, less}
 use Rattle.il_image.proofs.PieceLemmas.{Any, Behind, EndsIn, Lawful, again, are-more, are-none, copies, copies-fit, copies-size, err-same, join-octets, lawful-so, lawful-then, ok-is, spoilt}
 use Rattle.il_image.proofs.PlaceLemmas.{spelled-so}
 use Rattle.il_image.proofs.ReadLemmas.{behind-octets, take_octets}

@@ -16,17 +16,10 @@ use Rattle.il_image.specs.Images.{Each, IsCode, all_spelled}
 use Rattle.il_image.specs.Octets.{AreOctets}
 use Rattle.il_image.specs.Reading.{Read, instr_from}
 use Rattle.il_image.specs.Spelling.{IsInstr, spelling}
-use Rattle.il_image.proofs.InstrLemmas.{back-instr, instr-size, instr-sound}
+use Rattle.il_image.proofs.InstrLemmas.{back-instr, instr-sound, less}
 use Rattle.il_image.proofs.PieceLemmas.{Any, Sound, err-is, ok-is, spoilt}
 use Rattle.il_image.proofs.ReadLemmas.{behind-octets, ok-same}
 use Rattle.il_image.proofs.PlaceLemmas.{spelled-so}
-
--- what is read leaves fewer octets
-pub less : (version : Version) (octets : List ℕ) (i : Instr) (rest : List ℕ)
-    → instr_from version octets ≡ Ok (i, rest) → length rest < length octets
-less version octets i rest e =
-    let size = instr-size version octets i rest e in
-    omega arith
 
 -- It does not matter how many instructions are allowed, where they are enough.
 enough : (version : Version) (n m : ℕ) (octets : List ℕ) → length octets ≤ n → length octets ≤ m

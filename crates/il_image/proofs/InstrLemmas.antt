@@ -1,10 +1,9 @@
 -- Instructions: one spelling each, which is read back whatever follows.
-use Rattle.std.proofs.lemmas.Grind.{common_steps}
-use Rattle.std.proofs.Common.{◌≡◌, ℕ, ◌+◌, ◌^◌, ◌<◌, ◌≤◌, ℤ, Bool, true, false, cond, eqb, ltb, List, [], ◌∷◌, ◌++◌, length, drop, Option, Some, None, refl, subst, sym, ap, ◌∙◌, append-nil, arith}
+use Rattle.std.proofs.Common.{◌≡◌, ℕ, ◌^◌, ◌<◌, ℤ, Bool, true, false, cond, eqb, List, [], ◌∷◌, ◌++◌, length, Option, Some, None, refl, subst, sym, ap, ◌∙◌, append-nil, arith}
 use Rattle.std.specs.Prelude.{Result, Ok, Err, IsSome, find}
 use Rattle.std.proofs.lemmas.Bool.Decides.{nat_tests}
-use Rattle.std.proofs.lemmas.Bool.{eqb-true, ltb-false}
-use Rattle.std.proofs.lemmas.List.{length-drop}
+use Rattle.std.proofs.lemmas.Bool.{eqb-true}
+use Rattle.std.proofs.lemmas.List.{length-append}
 use Rattle.bay_base.specs.Results.{◌>>=◌}
 use Rattle.bay_base.specs.declared.types.ElementaryType.{ElementaryType}
 use Rattle.bay_base.specs.declared.types.ElementaryType.TheVariants as elementary
@@ -13,7 +12,7 @@ use Rattle.il_image.specs.declared.arithmetic.Width.TheVariants as width
 use Rattle.il_image.specs.declared.arithmetic.ArithmeticOperation.TheVariants.{Add}
 use Rattle.il_image.specs.declared.arithmetic.Comparison.TheVariants.{Gt}
 use Rattle.il_image.specs.declared.fault.ImageFault.{ImageFault}
-use Rattle.il_image.specs.declared.fault.ImageFault.TheVariants.{BadOpcode, Truncated}
+use Rattle.il_image.specs.declared.fault.ImageFault.TheVariants.{BadOpcode}
 use Rattle.il_image.specs.declared.instr.Instr.{Instr}
 use Rattle.il_image.specs.declared.instr.Instr.TheVariants as instr
 use Rattle.il_image.specs.declared.opcode.Connective.TheVariants.{And}
@@ -27,13 +26,13 @@ use Rattle.il_image.specs.declared.opcode.Version.{Version}
 use Rattle.il_image.specs.declared.opcode.Version.TheVariants.{One, Two}
 use Rattle.il_image.specs.declared.value.Value.{Value}
 use Rattle.il_image.specs.declared.write.Size.{Size}
-use Rattle.il_image.specs.Octets.{octet_count, number_octets, signed_octets, size_of}
+use Rattle.il_image.specs.Octets.{number_octets, signed_octets, size_of}
 use Rattle.il_image.specs.Opcodes.{octet_of, opcodes, opcode_of, is_known, width_octet, width_of}
-use Rattle.il_image.specs.Reading.{Read, known_value, known_opcode, number_at, signed_at, value_at, width_at, with_number, operand_from, instr_from}
+use Rattle.il_image.specs.Reading.{known_value, known_opcode, number_at, signed_at, value_at, width_at, with_number, operand_from, instr_from}
 use Rattle.il_image.specs.Spelling.{opcode_of_instr, operand_of, spelling, IsInstr}
 use Rattle.il_image.specs.Values.{type_of, number_of, value_of}
-use Rattle.il_image.proofs.ReadLemmas.{back-number, back-signed, bind-is, bind-ok, chosen-ok, known-ok, ok-same}
-use Rattle.il_image.proofs.PieceLemmas.{Any, Empty, Is, Lawful, Never, Sound, known-entry, lawful-ok, lawful-table, left, sound-err, sound-known, sound-so, sound-then}
+use Rattle.il_image.proofs.ReadLemmas.{back-number, back-signed, bind-is, ok-same}
+use Rattle.il_image.proofs.PieceLemmas.{Any, item-took, Empty, Is, Lawful, Never, Sound, known-entry, lawful-ok, lawful-table, left, sound-err, sound-known, sound-so, sound-then}
 use Rattle.il_image.proofs.FormatLemmas.{no-opcode, number-lawful, octet-lawful, signed-lawful}
 use Rattle.il_image.proofs.ValueLemmas.{value_is, value-back}
 
@@ -216,92 +215,17 @@ instr-sound version =
     of-opcode (Ok o) = sound-so (operand-sound version o) (λ octets r fits d. (o, refl, d))
     of-opcode (Err e) = sound-err e
 
--- ---- how many octets are read
-
-taken-size : {A : Type 0} (n : ℕ) (x : A) (octets : List ℕ) (y : A) (rest : List ℕ)
-    → ◌≡◌ {A = Read A} (cond (ltb (length octets) n) (Err Truncated) (Ok (x, drop n octets)))
-    (Ok (y, rest)) → length octets ≡ n + length rest
-taken-size n x octets y rest e =
-    let p = chosen-ok (ltb (length octets) n) (x, drop n octets) (y, rest) e in
-    let enough : n ≤ length octets = ltb-false (length octets) n p.0 in
-    let same : drop n octets ≡ rest = ap (λ q. q.1) p.1 in
-    omega (arith, length-drop n octets, ap length same)
-
-length-signed : (s : Size) (z : ℤ) → length (signed_octets s z) ≡ octet_count s
-length-signed s z = grind (arith, common_steps)
-
-mapped-size : {A : Type 0} (make : A → Instr) (octets : List ℕ) (r : Read A)
-    (i : Instr) (rest : List ℕ) → ((x : A) (rest : List ℕ) → r ≡ Ok (x, rest)
-    → length octets ≡ length (operand_of (make x)) + length rest)
-    → ◌≡◌ {A = Read Instr} (r >>= (λ x. Ok (make x.0, x.1))) (Ok (i, rest))
-    → length octets ≡ length (operand_of i) + length rest
-mapped-size make octets r i rest is e =
-    let a = bind-ok r _ _ e in
-    let same = ok-same (make a.0.0, a.0.1) (i, rest) a.2 in
-    is a.0.0 a.0.1 a.1
-    ∙ ap (λ (q : Instr × List ℕ). length (operand_of q.0) + length q.1) same
-
-value-size : (t : ElementaryType) (octets : List ℕ) (v : Value) (rest : List ℕ)
-    → value_at (size_of t) t octets ≡ Ok (v, rest)
-    → length octets ≡ length (operand_of (instr.Push v)) + length rest
-value-size t octets v rest e =
-    let a = bind-ok (signed_at (size_of t) octets) _ _ e in
-    let b = bind-ok (known_value (value_of t a.0.0)) _ _ a.2 in
-    let same = ok-same (b.0, a.0.1) (v, rest) b.2 in
-    let type : type_of v ≡ t =
-    ap type_of (sym (ap (λ q. q.0) same)) ∙ (value_is t a.0.0 b.0 (known-ok _ b.0 b.1)).type in
-    rw (length-signed (size_of (type_of v)) (number_of v), type)
-    (taken-size (octet_count (size_of t)) _ octets a.0.0 a.0.1 a.1
-    ∙ ap (λ (q : Value × List ℕ). octet_count (size_of t) + length q.1) same)
-
-width-size : (version : Version) (octets : List ℕ) (w : Width) (rest : List ℕ)
-    → width_at version octets ≡ Ok (w, rest) → length octets ≡ 1 + length rest
-width-size version [] w rest e = absurd cc
-width-size version (x ∷ octets) w rest e =
-    let a = bind-ok (known_value (width_of version x)) _ _ e in
-    let same : length octets ≡ length rest =
-    ap (λ (q : Width × List ℕ). length q.1) (ok-same (a.0, octets) (w, rest) a.2) in
-    omega arith
-
-none-size : (i : Instr) (octets : List ℕ) (j : Instr) (rest : List ℕ)
-    → length octets ≡ length (operand_of i) + length octets
-    → ◌≡◌ {A = Read Instr} (Ok (i, octets)) (Ok (j, rest))
-    → length octets ≡ length (operand_of j) + length rest
-none-size i octets j rest none e =
-    none ∙ ap (λ (q : Instr × List ℕ). length (operand_of q.0) + length q.1)
-    (ok-same (i, octets) (j, rest) e)
-
-operand-size : (version : Version) (o : Opcode) (octets : List ℕ) (i : Instr) (rest : List ℕ)
-    → operand_from version o octets ≡ Ok (i, rest)
-    → length octets ≡ length (operand_of i) + length rest
-operand-size version (Push t) octets i rest =
-    mapped-size instr.Push octets (value_at (size_of t) t octets) i rest (value-size t octets)
-operand-size version (Compute o) octets i rest =
-    mapped-size (λ w. instr.Compute o w) octets (width_at version octets) i rest
-    (width-size version octets)
-operand-size version (Slot u) octets i rest =
-    mapped-size (λ n. instr.Slot u n) octets (number_at octets) i rest (taken-size 2 _ octets)
-operand-size version (Jump when) octets i rest =
-    mapped-size (λ n. instr.Jump when n) octets (number_at octets) i rest (taken-size 2 _ octets)
-operand-size version (Timer u) octets i rest =
-    mapped-size (λ n. instr.Timer u n) octets (number_at octets) i rest (taken-size 2 _ octets)
-operand-size version Halt octets i rest = none-size instr.Halt octets i rest (omega arith)
-operand-size version Drop octets i rest = none-size instr.Drop octets i rest (omega arith)
-operand-size version Not octets i rest = none-size instr.Not octets i rest (omega arith)
-operand-size version (Combine c) octets i rest =
-    none-size (instr.Combine c) octets i rest (omega arith)
-operand-size version (Compare c) octets i rest =
-    none-size (instr.Compare c) octets i rest (omega arith)
-operand-size version (Widen w) octets i rest = none-size (instr.Widen w) octets i rest (omega arith)
-
-pub instr-size : (version : Version) (octets : List ℕ) (i : Instr) (rest : List ℕ)
-    → instr_from version octets ≡ Ok (i, rest) → length octets ≡ length (spelling i) + length rest
+-- reading an instruction leaves fewer octets
+pub less : (version : Version) (octets : List ℕ) (i : Instr) (rest : List ℕ)
+    → instr_from version octets ≡ Ok (i, rest) → length rest < length octets
 unfolding instr_from
-instr-size version [] i rest e = absurd cc
-instr-size version (x ∷ octets) i rest e =
-    let a = bind-ok (known_opcode version (opcode_of x)) _ _ e in
-    let size = operand-size version a.0 octets i rest a.2 in
-    omega arith
+less version octets i rest e = let t = item-took (instr-sound version) octets i rest e in
+    go t.0 t.1 t.2
+  where
+    go : (front : List ℕ) → octets ≡ front ++ rest → instr_from version front ≡ Ok (i, [])
+        → length rest < length octets
+    go [] parts is = absurd cc
+    go (x ∷ front) parts is = rw parts (omega (arith, length-append front rest))
 
 -- ---- back again
 

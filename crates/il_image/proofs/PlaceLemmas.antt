@@ -1,8 +1,8 @@
 -- Instructions at places of the code.
-use Rattle.std.proofs.Common.{◌≡◌, ℕ, ◌+◌, ◌-◌, ◌<◌, ◌≤◌, List, ◌++◌, length, take, drop, Option, Some, None, refl, subst, sym, ap, ◌∙◌, arith}
+use Rattle.std.proofs.Common.{◌≡◌, ℕ, ◌+◌, ◌-◌, ◌<◌, ◌≤◌, List, ◌++◌, length, take, drop, Option, Some, None, refl, sym, ap, ◌∙◌, arith}
 use Rattle.std.proofs.lemmas.Option.{same_Some}
 use Rattle.std.specs.Prelude.{Ok, Err, IfSome, ◌↔◌}
-use Rattle.std.proofs.lemmas.List.{length-drop}
+use Rattle.std.proofs.lemmas.List.{length-append, length-drop}
 use Rattle.std.proofs.Math.Seq.{drop-append_seam, drop-drop, take-length}
 use Rattle.std.proofs.Math.ListN.{drop_of_length-le}
 use Rattle.il_image.specs.declared.instr.Instr.{Instr}
@@ -12,7 +12,7 @@ use Rattle.il_image.specs.Octets.{AreOctets}
 use Rattle.il_image.specs.Reading.{Read, instr_from, instr_at, with_next_place, StandsAt}
 use Rattle.il_image.specs.Spelling.{spelling, IsInstr}
 use Rattle.il_image.proofs.ReadLemmas.{drop-octets}
-use Rattle.il_image.proofs.InstrLemmas.{back-instr, instr-size, instr-sound}
+use Rattle.il_image.proofs.InstrLemmas.{back-instr, instr-sound, less}
 use Rattle.il_image.proofs.PieceLemmas.{spelled-first}
 
 -- what was read at a place
@@ -38,20 +38,6 @@ read-at code place i next e = let h =
     placed-is (length code) (instr_from Two (drop place code)) i next e in
     record { rest = h.0; read = h.1; is = h.2 }
 
--- what is read behind a front leads forward, to a place of the code or its end
-pub record Forward (code : List ℕ) (place : ℕ) (i : Instr) (rest : List ℕ) : Type 0 where
-  pub next : length code - length rest ≡ place + length (spelling i)
-  pub within : place + length (spelling i) ≤ length code
-  pub small : length rest ≤ length code
-
--- an instruction that is read goes forward
-pub forward : (code : List ℕ) (place : ℕ) (i : Instr) (rest : List ℕ)
-    → instr_from Two (drop place code) ≡ Ok (i, rest) → Forward code place i rest
-forward code place i rest e =
-    let all = instr-size Two (drop place code) i rest e in
-    let cut : length (drop place code) ≡ length code - place = length-drop place code in
-    record { next = omega arith; within = omega arith; small = omega arith }
-
 -- what was read of octets is spelled by their front
 pub spelled-so : (version : Version) (octets : List ℕ) (i : Instr) (rest : List ℕ)
     → AreOctets octets → instr_from version octets ≡ Ok (i, rest)
@@ -63,9 +49,11 @@ pub stands : (code : List ℕ) (place : ℕ) (i : Instr) (next : ℕ) → AreOct
     → instr_at code place ≡ Some (i, next) → StandsAt code place i next
 stands code place i next fits e =
     let p = read-at code place i next e in
-    let f = forward code place i p.rest p.read in
     let s = spelled-so Two (drop place code) i p.rest (drop-octets place code fits) p.read in
-    let size : next ≡ place + length (spelling i) = p.is ∙ f.next in
+    let parts = ap length s.1 ∙ length-append (spelling i) p.rest in
+    let cut = length-drop place code in
+    let is = p.is in
+    let size : next ≡ place + length (spelling i) = omega arith in
     let rest : drop next code ≡ p.rest =
     ap (λ (n : ℕ). drop n code) size ∙ sym (drop-drop (length (spelling i)) place code)
     ∙ ap (drop (length (spelling i))) s.1 ∙ drop-append_seam (spelling i) p.rest in
@@ -73,7 +61,7 @@ stands code place i next fits e =
       is_instr = s.0;
       spelled = s.1 ∙ ap (λ (xs : List ℕ). spelling i ++ xs) (sym rest);
       size = size;
-      within = subst (λ (n : ℕ). n ≤ length code) (sym size) f.within;
+      within = omega arith;
     }
 
 -- an instruction that is spelled at a place is read there
@@ -92,18 +80,13 @@ pub none-past-end : (code : List ℕ) (place : ℕ) → length code ≤ place �
 unfolding instr_at instr_from
 none-past-end code place past = rw (drop_of_length-le code past) refl
 
--- reading an instruction leaves no more octets
-pub shorter : (octets : List ℕ) (i : Instr) (rest : List ℕ) → instr_from Two octets ≡ Ok (i, rest)
-    → length rest ≤ length octets
-shorter octets i rest e = (forward octets 0 i rest e).small
-
 pub goes-forward : (code : List ℕ) (place : ℕ) (i : Instr) (next : ℕ)
     → instr_at code place ≡ Some (i, next) → (place < next) × (next ≤ length code)
 goes-forward code place i next e =
     let p = read-at code place i next e in
-    let f = forward code place i p.rest p.read in
-    let size : next ≡ place + length (spelling i) = p.is ∙ f.next in
-    let within = f.within in
+    let fewer = less Two (drop place code) i p.rest p.read in
+    let cut = length-drop place code in
+    let is = p.is in
     (omega arith, omega arith)
 
 -- the octets from a place on

@@ -5,15 +5,14 @@ use Rattle.std.specs.Prelude.{◌↔◌, option_map, slice_get}
 use Rattle.std.proofs.Math.ListN.{replicate, set}
 use Rattle.std.proofs.Math.Seq.{drop-append_seam, drop-drop}
 use Rattle.std.proofs.lemmas.Bool.{cases_lt, cases_eq}
-use Rattle.std.proofs.lemmas.List.{length-drop}
+use Rattle.std.proofs.lemmas.List.{length-append, length-drop}
 use Rattle.il_image.specs.declared.instr.Instr.{Instr}
-use Rattle.il_image.specs.declared.opcode.Version.TheVariants.{Two}
 use Rattle.il_image.specs.Images.{Each, IsCode, all_spelled}
-use Rattle.il_image.specs.Reading.{instr_at, instr_from}
+use Rattle.il_image.specs.Reading.{instr_at}
 use Rattle.il_image.specs.Spelling.{IsInstr, spelling}
 use Rattle.il_image.specs.Tables.{IsPlace, behind_place, place_of}
 use Rattle.il_image.proofs.InstrLemmas.{back-instr}
-use Rattle.il_image.proofs.PlaceLemmas.{Forward, forward, goes-forward}
+use Rattle.il_image.proofs.PlaceLemmas.{goes-forward}
 use Rattle.il_image.proofs.SetLemmas.{set-here, set-elsewhere}
 use Rattle.il_verify.specs.Frames.{MarksPlaces}
 use Rattle.il_verify.proofs.EffectLemmas.{not-both}
@@ -119,10 +118,9 @@ rest-behind code place next j (i ∷ more) are e here =
     (sym (read-first code place i more are.0 e) ∙ here) in
     let second : length code - length (all_spelled more) ≡ next =
     ap (λ (q : Instr × ℕ). q.1) pair in
-    let f : Forward code place i (all_spelled more) =
-    forward code place i (all_spelled more)
-    (ap (instr_from Two) e ∙ back-instr i (all_spelled more) are.0) in
-    let size : next ≡ place + length (spelling i) = sym second ∙ f.next in
+    let parts = ap length e ∙ length-append (spelling i) (all_spelled more) in
+    let cut = length-drop place code in
+    let size : next ≡ place + length (spelling i) = omega arith in
     record {
       instrs = more;
       are = are.1;

@@ -1,6 +1,7 @@
 use Rattle.std.proofs.Common.{◌≡◌, ◌∙◌, Some, length, rules}
 use Rattle.il_image.specs.Decoding.{code_fault}
-use Rattle.il_image.proofs.CodeLemmas.{fault-here, fault-step, less}
+use Rattle.il_image.proofs.CodeLemmas.{fault-here, fault-step}
+use Rattle.il_image.proofs.InstrLemmas.{less}
 use Rattle.il_image.proofs.decode.check_code.Goals as goal
 
 pub returns-in_err-behind : goal.returns-in_err-behind
