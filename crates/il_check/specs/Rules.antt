@@ -5,7 +5,7 @@ use Rattle.bay_base.specs.declared.types.ElementaryType.{ElementaryType}
 use Rattle.bay_base.specs.declared.types.ElementaryType.TheVariants as elementary
 use Rattle.bay_base.specs.Types.{same_type}
 use Rattle.il_text.specs.declared.program.Operator.{Operator}
-use Rattle.il_text.specs.declared.program.Operator.TheVariants.{And, Or, Xor, Add, Sub, Mul, Div, Mod, Gt, Ge, Eq, Ne, Le, Lt}
+use Rattle.il_text.specs.declared.program.Operator.TheVariants.{Div, Mod}
 use Rattle.il_text.specs.declared.program.StoreKind.{StoreKind}
 use Rattle.il_text.specs.declared.program.StoreKind.TheVariants as store
 use Rattle.il_text.specs.declared.program.Condition.{Condition}
@@ -16,6 +16,7 @@ use Rattle.il_text.specs.declared.program.Input.{Input}
 use Rattle.il_text.specs.declared.program.Input.TheVariants as input
 use Rattle.il_image.specs.declared.value.Value.{Value}
 use Rattle.il_image.specs.Values.{value_of}
+use Rattle.il_check.specs.Operators.{result_type}
 use Rattle.il_check.specs.declared.typed.TypedOperand.{TypedOperand}
 use Rattle.il_check.specs.declared.typed.TypedOperand.TheVariants as operand
 use Rattle.il_check.specs.declared.given.Given.{Given}
@@ -70,39 +71,18 @@ is_number elementary.Bool = false
 is_number elementary.Time = false
 is_number other = true
 
--- the types that an operator takes on both sides
-abbrev pub takes : Operator → ElementaryType → Bool
-takes And kind = is_boolean kind
-takes Or kind = is_boolean kind
-takes Xor kind = is_boolean kind
-takes Add kind = is_number kind
-takes Sub kind = is_number kind
-takes Mul kind = is_number kind
-takes Div kind = is_number kind
-takes Mod kind = is_number kind
-takes Gt kind = not (is_boolean kind)
-takes Ge kind = not (is_boolean kind)
-takes Eq kind = true
-takes Ne kind = true
-takes Le kind = not (is_boolean kind)
-takes Lt kind = not (is_boolean kind)
+-- the type that is given, if there is one, or else the same
+abbrev pub or_same : ElementaryType → Option ElementaryType → ElementaryType
+or_same kind None = kind
+or_same kind (Some given) = given
 
--- the type of what an operator gives: comparisons give BOOL, and all others the type of both sides
+-- an operator takes a type on both sides where its table has a row
+abbrev pub takes : Operator → ElementaryType → Bool
+takes operator kind = is_some (result_type operator kind kind)
+
+-- the type of what an operator gives, where it takes the type
 abbrev pub gives : Operator → ElementaryType → ElementaryType
-gives And kind = kind
-gives Or kind = kind
-gives Xor kind = kind
-gives Add kind = kind
-gives Sub kind = kind
-gives Mul kind = kind
-gives Div kind = kind
-gives Mod kind = kind
-gives Gt kind = elementary.Bool
-gives Ge kind = elementary.Bool
-gives Eq kind = elementary.Bool
-gives Ne kind = elementary.Bool
-gives Le kind = elementary.Bool
-gives Lt kind = elementary.Bool
+gives operator kind = or_same kind (result_type operator kind kind)
 
 -- the operator divides by its operand
 abbrev pub divides : Operator → Bool

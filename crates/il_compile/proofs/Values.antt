@@ -1,5 +1,6 @@
 -- What operators make of values of the types that they take.
-use Rattle.std.proofs.Common.{◌≡◌, ℤ, pos, ◌&&◌, ◌||◌, Bool, true, false, not, Option, Some, None, refl, sym, ◌∙◌, if◌then◌else◌}
+use Rattle.std.proofs.lemmas.Grind.{common_steps}
+use Rattle.std.proofs.Common.{◌≡◌, ℤ, pos, ◌&&◌, ◌||◌, Bool, true, false, not, Option, Some, None, refl, sym, ◌∙◌, arith, if◌then◌else◌}
 use Rattle.std.specs.Ordering.{int_eq}
 use Rattle.bay_base.specs.Types.{same_type}
 use Rattle.bay_base.specs.declared.types.ElementaryType.{ElementaryType}
@@ -7,7 +8,6 @@ use Rattle.bay_base.specs.declared.types.ElementaryType.TheVariants as elementar
 use Rattle.il_text.specs.declared.program.Conversion.{Conversion}
 use Rattle.il_text.specs.declared.program.Conversion.TheVariants.{IntToDint, DintToLint}
 use Rattle.il_text.specs.declared.program.Operator.{Operator}
-use Rattle.il_text.specs.declared.program.Operator.TheVariants as operator
 use Rattle.il_image.specs.Arithmetic.{comparison_holds, computation_of, logic_of, wider_value}
 use Rattle.il_image.specs.Machine.{divides, tells_equality, value_of_width}
 use Rattle.il_image.specs.Values.{number_of, type_of}
@@ -44,20 +44,11 @@ pub record Same (o : Operator) : Type 0 where
   pub divides : rules.divides o ≡ sense_divides (sense_of o)
 
 pub same-sense : (o : Operator) → Same o
-same-sense operator.And = record { takes = λ k. refl; gives = λ k. refl; divides = refl }
-same-sense operator.Or = record { takes = λ k. refl; gives = λ k. refl; divides = refl }
-same-sense operator.Xor = record { takes = λ k. refl; gives = λ k. refl; divides = refl }
-same-sense operator.Add = record { takes = λ k. refl; gives = λ k. refl; divides = refl }
-same-sense operator.Sub = record { takes = λ k. refl; gives = λ k. refl; divides = refl }
-same-sense operator.Mul = record { takes = λ k. refl; gives = λ k. refl; divides = refl }
-same-sense operator.Div = record { takes = λ k. refl; gives = λ k. refl; divides = refl }
-same-sense operator.Mod = record { takes = λ k. refl; gives = λ k. refl; divides = refl }
-same-sense operator.Gt = record { takes = λ k. refl; gives = λ k. refl; divides = refl }
-same-sense operator.Ge = record { takes = λ k. refl; gives = λ k. refl; divides = refl }
-same-sense operator.Eq = record { takes = λ k. refl; gives = λ k. refl; divides = refl }
-same-sense operator.Ne = record { takes = λ k. refl; gives = λ k. refl; divides = refl }
-same-sense operator.Le = record { takes = λ k. refl; gives = λ k. refl; divides = refl }
-same-sense operator.Lt = record { takes = λ k. refl; gives = λ k. refl; divides = refl }
+same-sense o = record {
+  takes = λ k. grind (arith, common_steps);
+  gives = λ k. grind (arith, common_steps);
+  divides = grind (arith, common_steps);
+}
 
 -- ---- values
 

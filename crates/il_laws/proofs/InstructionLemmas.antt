@@ -33,9 +33,9 @@ use Rattle.il_check.specs.declared.given.Resolved.{Resolved}
 use Rattle.il_check.specs.declared.given.Resolved.TheVariants as resolved
 use Rattle.il_check.proofs.GivenLemmas.{allows-any}
 use Rattle.il_laws.specs.Instructions.{AreGiven, CanHave, Combines, DoesNotDivide, IsDivisor, IsLiteralOf, IsLoaded, IsNotZero, IsRightAction, IsRightBlock, IsTimer, IsWritable, MayDivide, MayWrite, place_kind, timer_output, variable_kind}
-use Rattle.il_laws.specs.Table.{IsFirstFit, MayNegate, Stores, Tests, input_kind, output_kind, wider_type}
+use Rattle.il_laws.specs.Table.{IsFirstFit, MayNegate, Stores, Tests, wider_type}
 use Rattle.il_laws.proofs.NumberLemmas.{first-in-lint, first-own, has-value, in-lint, is-between, not-same, own-first}
-use Rattle.il_laws.proofs.TableLemmas.{input-same, negation, output-same, row, table, widened, widens}
+use Rattle.il_laws.proofs.TableLemmas.{negation, row, table, widened, widens}
 
 -- ---- operands
 
@@ -116,11 +116,7 @@ output-fits what None kind = (λ e. absurd (cc), λ e. absurd (cc))
 output-fits what (Some (meaning.Variable s k w)) kind = (λ e. absurd (cc), λ e. absurd (cc))
 output-fits what (Some (meaning.Timer n)) kind =
     let f = known-fits _ kind _ in
-    let same = output-same what in (
-      λ e. ap Some (same ∙ sym (f.0 e)),
-      λ e. f.1 (let k : output_kind what ≡ kind = cc in
-          sym k ∙ same),
-    )
+    let g = some-same _ kind in (λ e. g.1 (f.0 e), λ e. f.1 (g.0 e))
 
 place-fits : (names : ProgramNames) (place : text.Place) (kind : ElementaryType)
     → (fits kind (place_given names place) ≡ true) ↔ (place_kind names place ≡ Some kind)
@@ -151,7 +147,7 @@ output-loads : (what : Output) (m : Option Meaning)
     → load_type (output_given m what) ≡ timer_output what m
 output-loads what None = refl
 output-loads what (Some (meaning.Variable s k w)) = refl
-output-loads what (Some (meaning.Timer n)) = ap Some (sym (output-same what))
+output-loads what (Some (meaning.Timer n)) = refl
 
 along : {A : Type 0} (x y z : A) → x ≡ y → (x ≡ z) ↔ (y ≡ z)
 along x y z e = (λ f. sym e ∙ f, λ f. e ∙ f)
@@ -340,12 +336,8 @@ timer-there (Some (meaning.Variable s k w)) h = absurd h
 timer-there (Some (meaning.Timer n)) h = refl
 
 given-is : (names : ProgramNames) (a : Input × text.OperandData)
-    → (fits (input_type a.0) (source_given names a.1) ≡ true) ↔ CanHave names a.1 (input_kind a.0)
-given-is names a =
-    let f = fits-is names a.1 (input_type a.0) in (
-      λ e. subst (CanHave names a.1) (input-same a.0) (f.0 e),
-      λ h. f.1 (subst (CanHave names a.1) (sym (input-same a.0)) h),
-    )
+    → (fits (input_type a.0) (source_given names a.1) ≡ true) ↔ CanHave names a.1 (input_type a.0)
+given-is names a = fits-is names a.1 (input_type a.0)
 
 are-given : (names : ProgramNames) (args : List (Input × text.OperandData))
     → (arguments_fit (arguments_given names args) ≡ true) ↔ AreGiven names args

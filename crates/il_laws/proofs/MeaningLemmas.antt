@@ -28,7 +28,7 @@ use Rattle.il_check.specs.declared.typed.TypedOperand.{TypedOperand}
 use Rattle.il_compile.specs.Meaning.{Memory, State, combination_of, computed_in, computed_values, connected_values, inverse, inverse_if, operand_value, state_after, state_after_close}
 use Rattle.il_compile.specs.Senses.{compares, computes, connects, sense_of, widening_of}
 use Rattle.il_laws.specs.Integers.{IsApplied, IsConverted, IsInverted, IsMadeOf, IsNegatedWhere, IsOutcome, IsQuotient}
-use Rattle.il_laws.specs.Table.{arithmetic, equality, logic, order, result_type}
+use Rattle.il_check.specs.Operators.{arithmetic, equality, logic, order, result_type}
 use Rattle.il_laws.proofs.IntegerLemmas.{computed, no-quotient}
 use Rattle.il_laws.proofs.NumberLemmas.{is-at-most, is-equal, is-less, not-same}
 

@@ -45,10 +45,11 @@ use Rattle.il_check.specs.declared.typed.TypedOperand.TheVariants as operand
 use Rattle.il_check.proofs.KeepingLemmas.{keeps}
 use Rattle.il_check.proofs.TypedLemmas.{typed-of}
 use Rattle.il_check.specs.Limits.{most_nested}
-use Rattle.il_laws.specs.Table.{IsFirstFit, MayNegate, Stores, Tests, input_kind, result_type, wider_type}
+use Rattle.il_check.specs.Operators.{result_type}
+use Rattle.il_laws.specs.Table.{IsFirstFit, MayNegate, Stores, Tests, wider_type}
 use Rattle.il_laws.specs.TypedText.{ArgumentHasType, ArgumentsHaveTypes, EntriesHaveTypes, EntryHasTypes, HasTypes, IsLoadedAs, ItemsHaveTypes, MayHave, OperationHasTypes, TransferHasTypes, operand_type}
 use Rattle.il_laws.proofs.NumberLemmas.{has-value, own-first}
-use Rattle.il_laws.proofs.TableLemmas.{input-same, negation, output-same, row, widens}
+use Rattle.il_laws.proofs.TableLemmas.{negation, row, widens}
 
 -- ---- the type of a number without a type
 
@@ -269,7 +270,7 @@ module _ (c : Checked) where
       → operand_type c x ≡ Some kind
   operand-typed (operand.Literal v) kind h = ap Some h.1
   operand-typed (operand.Slot s) kind h = h
-  operand-typed (operand.Output n what) kind h = ap Some (output-same what ∙ h.1)
+  operand-typed (operand.Output n what) kind h = ap Some h.1
 
   may-have : (source : text.OperandData) (x : TypedOperand) (kind : ElementaryType)
       → IsOperandOf c source x → operand_type c x ≡ Some kind → MayHave source kind
@@ -378,10 +379,10 @@ module _ (c : Checked) where
   argument-has : (a : Input × text.OperandData) (x : TypedArgument) → IsArgumentOf c a x
       → IsArgument c x → ArgumentHasType c a x
   argument-has a x h k =
-      let typed : operand_type c x.operand ≡ Some (input_kind a.0) =
+      let typed : operand_type c x.operand ≡ Some (input_type a.0) =
       operand-typed x.operand (input_type x.input) k
-      ∙ ap Some (input-same x.input ∙ ap input_kind h.0) in
-      (typed, may-have a.1 x.operand (input_kind a.0) h.1 typed)
+      ∙ ap Some (ap input_type h.0) in
+      (typed, may-have a.1 x.operand (input_type a.0) h.1 typed)
 
   arguments-have : (args : List (Input × text.OperandData)) (xs : TypedArguments)
       → AreArgumentsOf c args xs → AreArguments c xs → ArgumentsHaveTypes c args xs

@@ -10,10 +10,12 @@ use Rattle.il_text.specs.declared.program.Literal.TheVariants as literal
 use Rattle.il_text.specs.declared.program.Operator.{Operator}
 use Rattle.il_text.specs.declared.program.Operator.TheVariants.{Div, Mod}
 use Rattle.il_text.specs.declared.program.Output.{Output}
-use Rattle.il_check.specs.Given.{ProgramNames}
+use Rattle.il_check.specs.Given.{ProgramNames, output_type}
 use Rattle.il_check.specs.declared.given.Meaning.{Meaning}
 use Rattle.il_check.specs.declared.given.Meaning.TheVariants as meaning
-use Rattle.il_laws.specs.Table.{IsFirstFit, IsNumberOf, MayNegate, Stores, Tests, input_kind, output_kind, result_type, wider_type}
+use Rattle.il_check.specs.Rules.{input_type}
+use Rattle.il_check.specs.Operators.{result_type}
+use Rattle.il_laws.specs.Table.{IsFirstFit, IsNumberOf, MayNegate, Stores, Tests, wider_type}
 
 -- ---- operands
 
@@ -34,7 +36,7 @@ variable_kind other = None
 
 -- the type of an output of what is declared as a timer
 abbrev pub timer_output : Output → Option Meaning → Option ElementaryType
-timer_output what (Some (meaning.Timer timer)) = Some (output_kind what)
+timer_output what (Some (meaning.Timer timer)) = Some (output_type what)
 timer_output what other = None
 
 -- the type of a variable or of an output
@@ -99,9 +101,9 @@ IsTimer other = ⊥
 -- Each argument, of which a call has two at most, can have the type of its input.
 abbrev pub AreGiven : ProgramNames → List (Input × text.OperandData) → Type 0
 AreGiven names [] = Unit {0}
-AreGiven names (a ∷ []) = CanHave names a.1 (input_kind a.0)
+AreGiven names (a ∷ []) = CanHave names a.1 (input_type a.0)
 AreGiven names (a ∷ b ∷ more) =
-    CanHave names a.1 (input_kind a.0) × CanHave names b.1 (input_kind b.0)
+    CanHave names a.1 (input_type a.0) × CanHave names b.1 (input_type b.0)
 
 -- ---- instructions and parentheses, on a result of the first type, which leave one of the second;
 -- none is a result that is not set

@@ -7,7 +7,8 @@ use Rattle.il_text.specs.declared.program.Operator.{Operator}
 use Rattle.il_text.specs.declared.program.Operator.TheVariants.{And, Or, Xor, Add, Sub, Mul, Div, Mod, Gt, Ge, Eq, Ne, Le, Lt}
 use Rattle.il_image.specs.Values.{number_of, type_of}
 use Rattle.il_image.specs.declared.value.Value.{Value}
-use Rattle.il_laws.specs.Table.{IsNumberOf, result_type, wider_type}
+use Rattle.il_check.specs.Operators.{result_type}
+use Rattle.il_laws.specs.Table.{IsNumberOf, wider_type}
 
 -- how many numbers a type has
 abbrev pub how_many : ElementaryType → ℕ

@@ -3,14 +3,15 @@
 -- name.
 --
 -- No code cites the rest, which says the language once more, in its own words (IEC 61131-3:2003,
--- tables 10, 24, 26, 28, 38 and 52). `Table`: on which types an operator works, and what type it
--- gives. `Instructions`: which instructions are right, each by itself; `RightText`: one behind the
--- other. `Integers`: what operators make of integers, and of values. `TypedText`: the types of a
--- checked program beside its text.
+-- tables 10, 24, 26, 28, 38 and 52), with il_check's tables of operators. `Table`: the types of the
+-- other instructions, and of numbers. `Instructions`: which instructions are right, each by itself;
+-- `RightText`: one behind the other. `Integers`: what operators make of integers, and of values.
+-- `TypedText`: the types of a checked program beside its text.
 
 -- What public clauses cite of the crates below.
 pub use Rattle.il_check.specs.Checking
 pub use Rattle.il_check.specs.Declaring
+pub use Rattle.il_check.specs.Operators
 pub use Rattle.il_check.specs.Program
 pub use Rattle.il_check.specs.Rules
 pub use Rattle.il_compile.specs.Meaning

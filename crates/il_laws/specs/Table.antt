@@ -1,4 +1,5 @@
--- The types of instructions, as tables (IEC 61131-3:2003, 2.2, 2.5.1 and tables 10, 38 and 52).
+-- The types of instructions, beside the table of operators (IEC 61131-3:2003, 2.2, 2.5.1 and tables
+-- 10 and 52).
 use Rattle.std.specs.Prelude.{◌≡◌, ℤ, pos, negsuc, ◌≤ℤ◌, Bool as Truth, true, false, Option, Some, None}
 use Rattle.bay_base.specs.declared.types.ElementaryType.{ElementaryType}
 use Rattle.bay_base.specs.declared.types.ElementaryType.TheVariants.{Bool, Int, Dint, Lint, Time}
@@ -6,65 +7,8 @@ use Rattle.il_text.specs.declared.program.Condition.{Condition}
 use Rattle.il_text.specs.declared.program.Condition.TheVariants.{Always, IfTrue, IfFalse}
 use Rattle.il_text.specs.declared.program.Conversion.{Conversion}
 use Rattle.il_text.specs.declared.program.Conversion.TheVariants.{IntToDint, DintToLint}
-use Rattle.il_text.specs.declared.program.Input.{Input}
-use Rattle.il_text.specs.declared.program.Input.TheVariants.{In, Pt}
-use Rattle.il_text.specs.declared.program.Operator.{Operator}
-use Rattle.il_text.specs.declared.program.Operator.TheVariants.{And, Or, Xor, Add, Sub, Mul, Div, Mod, Gt, Ge, Eq, Ne, Le, Lt}
-use Rattle.il_text.specs.declared.program.Output.{Output}
-use Rattle.il_text.specs.declared.program.Output.TheVariants.{Q, Et}
 use Rattle.il_text.specs.declared.program.StoreKind.{StoreKind}
 use Rattle.il_text.specs.declared.program.StoreKind.TheVariants.{Plain, Negated, Set, Reset}
-
--- ---- operators: on a result of the first type, with an operand of the second, the type of the new
--- result; none is an operator that does not work on these
-
--- AND, OR, XOR
-abbrev pub logic : ElementaryType → ElementaryType → Option ElementaryType
-logic Bool Bool = Some Bool
-logic first second = None
-
--- ADD, SUB, MUL, DIV, MOD
-abbrev pub arithmetic : ElementaryType → ElementaryType → Option ElementaryType
-arithmetic Int Int = Some Int
-arithmetic Dint Dint = Some Dint
-arithmetic Lint Lint = Some Lint
-arithmetic first second = None
-
--- GT, GE, LE, LT
-abbrev pub order : ElementaryType → ElementaryType → Option ElementaryType
-order Int Int = Some Bool
-order Dint Dint = Some Bool
-order Lint Lint = Some Bool
-order Time Time = Some Bool
-order first second = None
-
--- EQ, NE
-abbrev pub equality : ElementaryType → ElementaryType → Option ElementaryType
-equality Bool Bool = Some Bool
-equality Int Int = Some Bool
-equality Dint Dint = Some Bool
-equality Lint Lint = Some Bool
-equality Time Time = Some Bool
-equality first second = None
-
--- each operator by its table
-abbrev pub result_type : Operator → ElementaryType → ElementaryType → Option ElementaryType
-result_type And first second = logic first second
-result_type Or first second = logic first second
-result_type Xor first second = logic first second
-result_type Add first second = arithmetic first second
-result_type Sub first second = arithmetic first second
-result_type Mul first second = arithmetic first second
-result_type Div first second = arithmetic first second
-result_type Mod first second = arithmetic first second
-result_type Gt first second = order first second
-result_type Ge first second = order first second
-result_type Eq first second = equality first second
-result_type Ne first second = equality first second
-result_type Le first second = order first second
-result_type Lt first second = order first second
-
--- ---- the other instructions
 
 -- the type of the new result behind a conversion
 abbrev pub wider_type : Conversion → ElementaryType → Option ElementaryType
@@ -89,16 +33,6 @@ abbrev pub Tests : Condition → Option ElementaryType → Type 0
 Tests Always result = Unit {0}
 Tests IfTrue result = result ≡ Some Bool
 Tests IfFalse result = result ≡ Some Bool
-
--- the type of a timer's input
-abbrev pub input_kind : Input → ElementaryType
-input_kind In = Bool
-input_kind Pt = Time
-
--- the type of a timer's output
-abbrev pub output_kind : Output → ElementaryType
-output_kind Q = Bool
-output_kind Et = Time
 
 -- ---- numbers
 

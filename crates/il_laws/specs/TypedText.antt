@@ -19,7 +19,10 @@ use Rattle.il_check.specs.declared.typed.TypedArguments.{TypedArguments}
 use Rattle.il_check.specs.declared.typed.TypedArguments.TheVariants as arguments
 use Rattle.il_check.specs.declared.typed.TypedOperand.{TypedOperand}
 use Rattle.il_check.specs.declared.typed.TypedOperand.TheVariants as operand
-use Rattle.il_laws.specs.Table.{IsFirstFit, MayNegate, Stores, Tests, input_kind, output_kind, result_type, wider_type}
+use Rattle.il_check.specs.Given.{output_type}
+use Rattle.il_check.specs.Rules.{input_type}
+use Rattle.il_check.specs.Operators.{result_type}
+use Rattle.il_laws.specs.Table.{IsFirstFit, MayNegate, Stores, Tests, wider_type}
 
 -- ---- operands
 
@@ -27,7 +30,7 @@ use Rattle.il_laws.specs.Table.{IsFirstFit, MayNegate, Stores, Tests, input_kind
 abbrev pub operand_type : Checked → TypedOperand → Option ElementaryType
 operand_type c (operand.Literal v) = Some (type_of v)
 operand_type c (operand.Slot s) = slot_type c s
-operand_type c (operand.Output timer what) = Some (output_kind what)
+operand_type c (operand.Output timer what) = Some (output_type what)
 
 -- A literal that names a type has this type. Nothing is said of a number without a type, nor of a
 -- variable.
@@ -92,7 +95,7 @@ abbrev mutual
 
 -- An argument has the type of its input.
 abbrev pub ArgumentHasType : Checked → Input × text.OperandData → TypedArgument → Type 0
-ArgumentHasType c a x = HasType c a.1 x.operand (input_kind a.0)
+ArgumentHasType c a x = HasType c a.1 x.operand (input_type a.0)
 
 -- So has each argument of a call, which has two at most.
 abbrev pub ArgumentsHaveTypes : Checked → List (Input × text.OperandData) → TypedArguments → Type 0

@@ -29,7 +29,7 @@ ghost use Rattle.il_laws.specs.ByNames.{GoesByNames};
 ghost use Rattle.il_laws.specs.Instructions.{IsLiteralOf};
 ghost use Rattle.il_laws.specs.Integers.{IsApplied, IsConverted, IsInverted, IsOutcome};
 ghost use Rattle.il_laws.specs.RightText.{IsRightText};
-ghost use Rattle.il_laws.specs.Table.{result_type};
+ghost use Rattle.il_check.specs.Operators.{result_type};
 ghost use Rattle.il_laws.specs.TypedText.{HasTypes};
 
 /// A program's meaning goes by names. Take a memory in which each external, variable and timer has
