@@ -1,17 +1,18 @@
 -- The parts of an image are lawful.
-use Rattle.std.proofs.Common.{◌≡◌, ℕ, zero, suc, ◌^◌, ◌<◌, ◌≤◌, ◌||◌, Bool, true, false, cond, eqb, ltb, List, [], ◌∷◌, ◌++◌, length, take, drop, Option, Some, None, refl, sym, subst, ap, ◌∙◌, arith, append-nil, inl, inr}
-use Rattle.std.specs.Prelude.{Ok, Err, ◌⊎◌}
+use Rattle.std.proofs.Common.{◌≡◌, ℕ, zero, suc, ◌^◌, ◌<◌, ◌≤◌, ◌||◌, Bool, true, false, not, cond, eqb, ltb, List, [], ◌∷◌, ◌++◌, length, take, drop, Option, Some, None, refl, sym, subst, ap, ◌∙◌, arith, append-nil, inl, inr}
+use Rattle.std.specs.Prelude.{Ok, Err}
 use Rattle.std.specs.Int.{cast_signed, from_be_bytes, w16}
 use Rattle.std.specs.List.{list_all}
 use Rattle.std.proofs.lemmas.Bool.Decides.{nat_tests}
-use Rattle.std.proofs.lemmas.Bool.{eqb-false, le-ltb, lt-ltb, ltb-false, or_parts}
+use Rattle.std.proofs.lemmas.Bool.{eqb-false, le-ltb, lt-ltb, ltb-false, not-true, or_parts}
 use Rattle.std.proofs.lemmas.List.{append_assoc}
-use Rattle.std.proofs.lemmas.Option.{same_Some}
+use Rattle.std.proofs.lemmas.Option.{cond_some, same_Some}
 use Rattle.bay_base.specs.Results.{◌>>=◌}
 use Rattle.bay_base.specs.declared.types.ElementaryType.{ElementaryType}
 use Rattle.bay_base.specs.declared.types.ElementaryType.TheVariants as elementary
 use Rattle.bay_base.specs.declared.types.TimerKind.{TimerKind}
 use Rattle.bay_base.specs.declared.types.TimerKind.TheVariants.{OnDelay}
+use Rattle.il_image.specs.declared.fault.ImageFault.{ImageFault}
 use Rattle.il_image.specs.declared.fault.ImageFault.TheVariants.{BadOpcode, BadVersion, Truncated}
 use Rattle.il_image.specs.declared.opcode.Version.{Version}
 use Rattle.il_image.specs.declared.opcode.Version.TheVariants.{One, Two}
@@ -20,10 +21,10 @@ use Rattle.il_image.specs.declared.write.Size.TheVariants as size
 use Rattle.il_image.specs.Decoding.{access_at, access_of, counted_at, items_at, kind_of_octet, name_at, name_of_length, point_at, timer_at, type_at, type_of_octet, version_at}
 use Rattle.il_image.specs.Images.{Each, HasName, IsName, count_and_items, each_spelled, is_name_octet, point_octets, timer_octets, type_octet, version_octet}
 use Rattle.il_image.specs.Octets.{AreOctets, bits_of_size, most_counted, number_octets, octet_count, signed_octets}
-use Rattle.il_image.specs.Reading.{Read, known_value, number_at, octet_at, signed_at}
+use Rattle.il_image.specs.Reading.{Read, number_at, octet_at, signed_at}
 use Rattle.il_image.proofs.OctetLemmas.{number-below, read-signed, read_number}
 use Rattle.il_image.proofs.ReadLemmas.{back-number, from-front}
-use Rattle.il_image.proofs.PieceLemmas.{Any, Empty, EndsIn, Is, Lawful, Never, Sound, are-more, are-none, behind-reads, entry_at, known-entry, lawful-by, lawful-ok, lawful-so, lawful-made, lawful-table, lawful-then, left, sound-err, sound-so, sound-then, whole-then}
+use Rattle.il_image.proofs.PieceLemmas.{Any, Empty, Is, Lawful, Never, behind-reads, entry_at, known-entry, lawful-by, lawful-ok, lawful-so, lawful-made, lawful-table, lawful-then, left, whole-then}
 
 -- ---- octets, and so many items
 
@@ -37,6 +38,20 @@ pub octet-lawful : Lawful left Empty (Is (λ n. n ∷ []) Any) Never octet_at
 octet-lawful =
     lawful-table BadOpcode (λ n. Some n) (λ n. n ∷ []) Any 0 0 no-opcode (omega arith) refl refl
     (λ x rest. refl) (λ x z e. record { parts = ap (λ (n : ℕ). n ∷ []) (same_Some x z e); good = tt })
+
+-- an octet that passes the test
+abbrev pub such_at : ImageFault → (ℕ → Bool) → List ℕ → Read ℕ
+such_at bad test octets =
+    octet_at octets >>= (λ o. entry_at bad (cond (test o.0) (Some o.0) None) o.1)
+
+pub such-lawful : (bad : ImageFault) (test : ℕ → Bool) (d : ℕ) → (bad ≡ Truncated → ⊥) → d < 256
+    → test d ≡ true
+    → Lawful left Empty (Is (λ n. n ∷ []) (λ n. test n ≡ true)) Never (such_at bad test)
+such-lawful bad test d ne small is =
+    lawful-table bad (λ x. cond (test x) (Some x) None) (λ n. n ∷ []) (λ n. test n ≡ true) d d ne
+    small (rw is refl) refl (λ x rest. refl) (λ x z e. (
+    let k = cond_some (test x) x z e in
+    record { parts = ap (λ (n : ℕ). n ∷ []) k.1; good = ap test (sym k.1) ∙ k.0 }))
 
 -- Items were read, and behind them stands this.
 pub record InItem {A : Type 0} (spell : A → List ℕ) (item : List ℕ → Read A) (C : List ℕ → Type 0)
@@ -292,29 +307,12 @@ version-lawful =
 
 -- ---- names, points
 
--- an octet of a name
-abbrev letter : ℕ → Option ℕ
-letter octet = cond (is_name_octet octet) (Some octet) None
-
-abbrev letter_at : List ℕ → Read ℕ
-letter_at octets = octet_at octets >>= (λ o. known_value (letter o.0) >>= (λ x. Ok (x, o.1)))
-
-abbrev IsLetter : ℕ → Type 0
-IsLetter octet = is_name_octet octet ≡ true
-
-letter-lawful : Lawful left Empty (Is (λ n. n ∷ []) IsLetter) Never letter_at
-letter-lawful =
-    lawful-table BadOpcode letter (λ n. n ∷ []) IsLetter 0x41 0x41 no-opcode (omega arith) refl refl
-    (λ x rest. known-entry (letter x) rest) (λ x z. go x z (is_name_octet x) refl)
-  where
-    go : (x z : ℕ) (b : Bool) → is_name_octet x ≡ b → cond b (Some x) None ≡ Some z
-        → Is (λ (n : ℕ). n ∷ []) IsLetter (x ∷ []) (z, [])
-    go x z false is e = absurd cc
-    go x z true is e = let same = same_Some x z e in
-        record { parts = ap (λ (n : ℕ). n ∷ []) same; good = ap is_name_octet (sym same) ∙ is }
+letter-lawful : Lawful left Empty (Is (λ n. n ∷ []) (λ n. is_name_octet n ≡ true)) Never
+    (such_at BadOpcode is_name_octet)
+letter-lawful = such-lawful BadOpcode is_name_octet 0x41 no-opcode (omega arith) refl
 
 -- A name of a length is so many letters.
-are-letters : (n : ℕ) (octets : List ℕ) → name_of_length n octets ≡ items_at letter_at n octets
+are-letters : (n : ℕ) (octets : List ℕ) → name_of_length n octets ≡ items_at (such_at BadOpcode is_name_octet) n octets
 are-letters zero [] = refl
 are-letters zero (x ∷ octets) = rw (le-ltb (length (x ∷ octets)) 0 (omega arith)) refl
 are-letters (suc n) [] = rw (lt-ltb 0 (suc n) (omega arith)) refl
@@ -329,14 +327,14 @@ are-letters (suc n) (x ∷ octets) = go (are-letters n octets) (is_name_octet x)
     rest true false = refl
     rest false b = refl
 
-    go : name_of_length n octets ≡ items_at letter_at n octets → (b : Bool) → is_name_octet x ≡ b
-        → name_of_length (suc n) (x ∷ octets) ≡ items_at letter_at (suc n) (x ∷ octets)
+    go : name_of_length n octets ≡ items_at (such_at BadOpcode is_name_octet) n octets → (b : Bool) → is_name_octet x ≡ b
+        → name_of_length (suc n) (x ∷ octets) ≡ items_at (such_at BadOpcode is_name_octet) (suc n) (x ∷ octets)
     go same false is = rw is refl
     go same true is =
         rw (is, one-less (length octets) n, sym same)
         (rest (list_all is_name_octet (take n octets)) (ltb (length octets) n))
 
-letters-good : (name : List ℕ) → Each IsLetter name → list_all is_name_octet name ≡ true
+letters-good : (name : List ℕ) → Each (λ n. is_name_octet n ≡ true) name → list_all is_name_octet name ≡ true
 letters-good [] good = refl
 letters-good (x ∷ name) good = rw good.0 (letters-good name good.1)
 
@@ -355,63 +353,35 @@ length-lawful n =
 abbrev pub name_octets : List ℕ → List ℕ
 name_octets name = length name ∷ name
 
+-- the length of a name
+abbrev is_size : ℕ → Bool
+is_size n = not (eqb n 0 || ltb 64 n)
+
 name-lawful : Lawful left Empty (Is name_octets IsName) Never name_at
-name-lawful = record {
-  sound = sound-so (sound-then _ octet-lawful.sound (λ n. sized n (eqb n 0 || ltb 64 n) refl))
-      (λ octets r fits d. record {
-        parts = rw (d.parts, d.first.parts, d.later.0, d.later.1) refl;
-        good = d.later.2;
-      });
-  start = start;
-  short = short;
-}
+name-lawful =
+    lawful-so (lawful-by same (whole-then (λ n. name_of_length n.0 n.1)
+    (such-lawful BadOpcode is_size 1 no-opcode (omega arith) refl) length-lawful))
+    (λ octets r fits d. (
+    let p = or_parts (eqb d.what 0) (ltb 64 d.what) (not-true _ d.first.good) in
+    let some : d.what ≡ 0 → ⊥ = eqb-false d.what 0 p.0 in
+    let few : d.what ≤ 64 = ltb-false 64 d.what p.1 in
+    let size : length r.0 ≡ d.what = d.later.good.1 in
+    record {
+      parts = rw (d.parts, d.first.parts, d.later.parts, size) refl;
+      good = record { some = omega arith; few = omega arith; octets = d.later.good.0 };
+    }))
+    (λ octets n. n)
   where
-    IsSized : ℕ → List ℕ → List ℕ × List ℕ → Type 0
-    IsSized n octets r = (octets ≡ r.0) × (n ≡ length r.0) × IsName r.0
-
-    sized : (n : ℕ) (b : Bool) → (eqb n 0 || ltb 64 n) ≡ b
-        → Sound left Empty (IsSized n)
-        (λ octets. cond b (Err BadOpcode) (name_of_length n octets))
-    sized n true is = sound-err BadOpcode
-    sized n false is =
-        sound-so (length-lawful n).sound (λ octets r fits d. (
-        let p = or_parts (eqb n 0) (ltb 64 n) is in
-        let some : n ≡ 0 → ⊥ = eqb-false n 0 p.0 in
-        let few : n ≤ 64 = ltb-false 64 n p.1 in
-        let size : length r.0 ≡ n = d.good.1 in (
-          d.parts,
-          sym size,
-          record { some = omega arith; few = omega arith; octets = d.good.0 },
-        )))
-
-    start : EndsIn name_at Empty []
-    start = record {
-      more = 1 ∷ 0x41 ∷ [];
-      fits = are-more 1 (0x41 ∷ []) (omega arith) (are-more 0x41 [] (omega arith) are-none);
-      what = (0x41 ∷ [], []);
-      is = refl;
-      ends = refl;
-    }
-
-    short : (octets : List ℕ) → AreOctets octets → name_at octets ≡ Err Truncated
-        → EndsIn name_at Empty octets ⊎ ⊥
-    short [] fits e = inl start
-    short (x ∷ octets) fits e = go (eqb x 0 || ltb 64 x) refl e
+    same : (octets : List ℕ) → name_at octets
+        ≡ (such_at BadOpcode is_size octets >>= (λ n. name_of_length n.0 n.1))
+    same [] = refl
+    same (x ∷ octets) = go (eqb x 0 || ltb 64 x)
       where
-        go : (b : Bool) → (eqb x 0 || ltb 64 x) ≡ b
-            → ◌≡◌ {A = Read (List ℕ)} (cond b (Err BadOpcode) (name_of_length x octets))
-            (Err Truncated) → EndsIn name_at Empty (x ∷ octets) ⊎ ⊥
-        go true f e = absurd cc
-        go false f e = elim ((length-lawful x).short octets (λ i. fits (suc i)) e) [
-          | inl a ↦ inl (record {
-            more = a.more;
-            fits = a.fits;
-            what = a.what;
-            is = rw f a.is;
-            ends = a.ends;
-          })
-          | inr n ↦ absurd n
-        ]
+        go : (b : Bool) → cond b (Err BadOpcode) (name_of_length x octets)
+            ≡ (entry_at BadOpcode (cond (not b) (Some x) None) octets
+            >>= (λ n. name_of_length n.0 n.1))
+        go true = refl
+        go false = refl
 
 pub point-lawful : (version : Version)
     → Lawful left Empty (Is point_octets HasName) Never (point_at version)

@@ -1,9 +1,8 @@
 -- Images: what is read is spelled so; what is cut short is right so far.
 use Rattle.std.proofs.lemmas.Grind.{common_steps}
-use Rattle.std.proofs.Common.{◌≡◌, ℕ, suc, ◌<◌, Bool, true, false, cond, eqb, List, [], ◌∷◌, ◌++◌, Option, Some, None, refl, sym, subst, ap, ◌∙◌, arith, inl, inr}
+use Rattle.std.proofs.Common.{◌≡◌, ℕ, suc, Bool, true, false, cond, eqb, List, [], ◌∷◌, ◌++◌, Some, None, refl, sym, subst, ap, ◌∙◌, arith, inl, inr}
 use Rattle.std.specs.Prelude.{Ok, Err, Result, ◌⊎◌, slice_index}
 use Rattle.std.proofs.lemmas.Bool.{eq-eqb, eqb-true}
-use Rattle.std.proofs.lemmas.Option.{cond_some}
 use Rattle.bay_base.specs.Results.{◌>>=◌}
 use Rattle.il_image.specs.declared.fault.ImageFault.{ImageFault}
 use Rattle.il_image.specs.declared.fault.ImageFault.TheVariants.{BadMagic, Truncated}
@@ -12,32 +11,16 @@ use Rattle.il_image.specs.Cuts.{EndsInInstr, EndsInValue, HasOthers, IsRightSoFa
 use Rattle.il_image.specs.Decoding.{behind, image_spelled}
 use Rattle.il_image.specs.Images.{Image, IsImage, image_octets, mark, version_octet}
 use Rattle.il_image.specs.Octets.{AreOctets}
-use Rattle.il_image.specs.Reading.{Read, octet_at}
 use Rattle.il_image.proofs.CodeCuts.{code-lawful}
 use Rattle.il_image.proofs.CutLemmas.{image_of, in-code, in-value}
-use Rattle.il_image.proofs.FormatLemmas.{all-lawful, counted-lawful, point-lawful, timer-lawful, version-lawful}
-use Rattle.il_image.proofs.PieceLemmas.{Any, Empty, Is, Lawful, Never, are-more, are-none, entry_at, lawful-by, lawful-made, lawful-so, lawful-table, lawful-then, left, spoilt}
+use Rattle.il_image.proofs.FormatLemmas.{all-lawful, counted-lawful, point-lawful, such-lawful, such_at, timer-lawful, version-lawful}
+use Rattle.il_image.proofs.PieceLemmas.{Any, Lawful, are-more, are-none, entry_at, lawful-by, lawful-made, lawful-so, lawful-then, spoilt}
 use Rattle.il_image.proofs.ShortLemmas.{variable-lawful}
 
 -- ---- the mark
 
--- this octet
-abbrev only : ℕ → ℕ → Option (Unit {0})
-only m octet = cond (eqb octet m) (Some tt) None
-
-abbrev only_at : ℕ → List ℕ → Read (Unit {0})
-only_at m octets = octet_at octets >>= (λ o. entry_at BadMagic (only m o.0) o.1)
-
 no-mark : BadMagic ≡ Truncated → ⊥
 no-mark e = cc
-
-only-lawful : (m : ℕ) → m < 256 → Lawful left Empty (Is (λ u. m ∷ []) Any) Never (only_at m)
-only-lawful m small =
-    lawful-table BadMagic (only m) (λ u. m ∷ []) Any m tt no-mark small (rw (eq-eqb m m refl) refl)
-    refl (λ x rest. refl) (λ x u e. record {
-      parts = ap (λ (n : ℕ). n ∷ []) (eqb-true x m (cond_some (eqb x m) tt u e).0);
-      good = tt;
-    })
 
 mark-lawful : {R : Type 0} {on : R → List ℕ → Result R ImageFault} {Q : R → Type 0}
     {S : List ℕ → R → Type 0} {C : List ℕ → Type 0} {f : List ℕ → Result R ImageFault}
@@ -48,25 +31,26 @@ mark-lawful : {R : Type 0} {on : R → List ℕ → Result R ImageFault} {Q : R 
 mark-lawful [] fits l =
     lawful-so l (λ octets r fits d. (octets, refl, d)) (λ octets c. (octets, refl, c))
 mark-lawful {f = f} (m ∷ marks) fits l =
-    lawful-so (lawful-by after (lawful-then _ (only-lawful m (fits 0))
+    lawful-so (lawful-by after (lawful-then _
+    (such-lawful BadMagic (λ n. eqb n m) m no-mark (fits 0) (eq-eqb m m refl))
     (λ u. mark-lawful marks (λ i. fits (suc i)) l)))
     (λ octets r fits d. (
       d.later.0,
-      rw (d.parts, d.first.parts, d.later.1) refl,
+      rw (d.parts, d.first.parts, eqb-true d.what m d.first.good, d.later.1) refl,
       d.later.2,
     ))
     (λ octets c. elim c [
       | inl n ↦ absurd n
-      | inr b ↦ (b.cut.0, rw (b.parts, b.first.parts, b.cut.1) refl, b.cut.2)
+      | inr b ↦ (b.cut.0, rw (b.parts, b.first.parts, eqb-true b.what m b.first.good, b.cut.1) refl, b.cut.2)
     ])
   where
     after : (octets : List ℕ) → (behind (m ∷ marks) octets >>= f)
-        ≡ (only_at m octets >>= (λ u. behind marks u.1 >>= f))
+        ≡ (such_at BadMagic (λ n. eqb n m) octets >>= (λ u. behind marks u.1 >>= f))
     after [] = refl
     after (x ∷ octets) = go (eqb x m)
       where
         go : (b : Bool) → (cond b (behind marks octets) (Err BadMagic) >>= f)
-            ≡ (entry_at {A = Unit {0}} BadMagic (cond b (Some tt) None) octets
+            ≡ (entry_at BadMagic (cond b (Some x) None) octets
             >>= (λ u. behind marks u.1 >>= f))
         go true = refl
         go false = refl
