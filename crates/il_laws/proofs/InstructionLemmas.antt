@@ -24,7 +24,7 @@ use Rattle.il_image.proofs.KindLemmas.{same-is, same-self}
 use Rattle.il_check.specs.Declaring.{literal_value, of_type}
 use Rattle.il_check.specs.Given.{ProgramNames, arguments_given, called_of, given_of, is_nonzero, is_nonzero_literal, is_zero, output_given, place_given, resolution_of, source_given, variable_given}
 use Rattle.il_check.specs.Labelling.{IsCombined, IsRight}
-use Rattle.il_check.specs.Rules.{allows, arguments_fit, converted_from, converted_to, divides, fits, gives, input_type, is_fixed, is_missing, is_plain, is_timer, is_unset, is_wrong, jumps_back, load_type, may_divide_by_zero, may_load, may_negate, misses_argument, misses_label, misses_name, misses_timer, number_in, own_type, takes, type_after, works, writes_fixed}
+use Rattle.il_check.specs.Rules.{allows, arguments_fit, converted_from, divides, fits, gives, input_type, is_fixed, is_missing, is_plain, is_timer, is_unset, is_wrong, jumps_back, load_type, may_divide_by_zero, may_load, may_negate, misses_argument, misses_label, misses_name, misses_timer, number_in, own_type, takes, type_after, works, writes_fixed}
 use Rattle.il_check.specs.declared.given.Given.{Given}
 use Rattle.il_check.specs.declared.given.Given.TheVariants.{Missing, Misused, Known, Number}
 use Rattle.il_check.specs.declared.given.Meaning.{Meaning}
@@ -33,9 +33,9 @@ use Rattle.il_check.specs.declared.given.Resolved.{Resolved}
 use Rattle.il_check.specs.declared.given.Resolved.TheVariants as resolved
 use Rattle.il_check.proofs.GivenLemmas.{allows-any}
 use Rattle.il_laws.specs.Instructions.{AreGiven, CanHave, Combines, DoesNotDivide, IsDivisor, IsLiteralOf, IsLoaded, IsNotZero, IsRightAction, IsRightBlock, IsTimer, IsWritable, MayDivide, MayWrite, place_kind, timer_output, variable_kind}
-use Rattle.il_laws.specs.Table.{IsFirstFit, MayNegate, Stores, Tests, wider_type}
+use Rattle.il_laws.specs.Table.{IsFirstFit, MayNegate, Stores, Tests}
 use Rattle.il_laws.proofs.NumberLemmas.{first-in-lint, first-own, has-value, in-lint, is-between, not-same, own-first}
-use Rattle.il_laws.proofs.TableLemmas.{negation, row, table, widened, widens}
+use Rattle.il_laws.proofs.TableLemmas.{negation, row, table}
 
 -- ---- operands
 
@@ -494,13 +494,7 @@ acts names passed text.invert (Some kind) u ok e =
     (ap Some ((negation true kind).0 (not-false _ ok.allowed)), sym e)
 acts names passed (text.convert conversion) None u ok e = absurd (let k = ok.set in cc)
 acts names passed (text.convert conversion) (Some kind) u ok e =
-    let same = same-is kind (converted_from conversion) (not-false _ ok.allowed) in (
-      kind,
-      converted_to conversion,
-      refl,
-      ap (wider_type conversion) same ∙ widens conversion,
-      sym e,
-    )
+    (ap Some (same-is kind (converted_from conversion) (not-false _ ok.allowed)), sym e)
 acts names passed (text.jump condition name) t u ok e =
     jumped names passed condition name (names.label name) t u refl ok e
 acts names passed (text.leave condition) t u ok e =
@@ -560,12 +554,11 @@ right-by names passed text.invert (Some kind) u h =
       right-where passed resolved.Not (Some kind) refl (ap not ((negation true kind).1 is)) refl refl refl refl refl,
       sym h.1,
     )
-right-by names passed (text.convert conversion) None u h = absurd (let k = h.2 in cc)
+right-by names passed (text.convert conversion) None u h = absurd (let k = h.0 in cc)
 right-by names passed (text.convert conversion) (Some kind) u h =
-    let both = widened conversion h.0 h.1 h.3 in
-    let is : kind ≡ converted_from conversion = (let e = h.2 in let f = both.0 in cc) in (
+    let is : kind ≡ converted_from conversion = (let e = h.0 in cc) in (
       right-where passed (resolved.Convert conversion) (Some kind) refl (ap not (subst (λ (x : ElementaryType). same_type kind x ≡ true) is (same-self kind))) refl refl refl refl refl,
-      ap Some (sym both.1) ∙ sym h.4,
+      sym h.1,
     )
 right-by names passed (text.jump condition name) t u h =
     (right-jump passed condition (names.label name) h.0 t h.1 h.2 h.3, sym h.4)

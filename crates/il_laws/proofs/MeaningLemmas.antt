@@ -272,10 +272,10 @@ joins operator c kind a b e = absurd (cc)
 pub converts : (conversion : Conversion) (v w : Value)
     → (wider_value (widening_of conversion) v ≡ Some w) ↔ IsConverted conversion v w
 converts conversion.IntToDint (Short z) (Long y) =
-    (λ e. (refl, cc), λ h. ap (λ x. Some (Long x)) (sym h.1))
+    (λ e. (refl, refl, cc), λ h. ap (λ x. Some (Long x)) (sym h.2))
 converts conversion.DintToLint (Long z) (Wide y) =
-    (λ e. (refl, cc), λ h. ap (λ x. Some (Wide x)) (sym h.1))
-converts conversion v w = (λ e. absurd (cc), λ h. absurd (let t = h.0 in cc))
+    (λ e. (refl, refl, cc), λ h. ap (λ x. Some (Wide x)) (sym h.2))
+converts conversion v w = (λ e. absurd (cc), λ h. absurd (let t = h.0 in let u = h.1 in cc))
 
 -- the machine's negation is that of the standard
 pub inverts : (v w : Value) → (inverse v ≡ Some w) ↔ IsInverted v w

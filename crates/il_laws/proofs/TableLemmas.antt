@@ -2,14 +2,12 @@
 use Rattle.std.proofs.lemmas.Grind.{common_steps}
 use Rattle.std.proofs.Common.{◌≡◌, Bool as Truth, true, false, is_some, ◌↔◌, Option, Some, None, refl, sym, ap, subst, ◌∙◌, arith}
 use Rattle.bay_base.specs.declared.types.ElementaryType.{ElementaryType}
-use Rattle.bay_base.specs.declared.types.ElementaryType.TheVariants.{Bool, Int, Dint}
-use Rattle.il_text.specs.declared.program.Conversion.{Conversion}
-use Rattle.il_text.specs.declared.program.Conversion.TheVariants.{IntToDint, DintToLint}
+use Rattle.bay_base.specs.declared.types.ElementaryType.TheVariants.{Bool}
 use Rattle.il_text.specs.declared.program.Operator.{Operator}
 use Rattle.il_image.proofs.KindLemmas.{same-is}
-use Rattle.il_check.specs.Rules.{converted_from, converted_to, gives, is_boolean, may_negate, or_same, takes}
+use Rattle.il_check.specs.Rules.{gives, is_boolean, may_negate, or_same, takes}
 use Rattle.il_check.specs.Operators.{result_type}
-use Rattle.il_laws.specs.Table.{MayNegate, wider_type}
+use Rattle.il_laws.specs.Table.{MayNegate}
 
 -- ---- operators
 
@@ -37,21 +35,6 @@ table o t u v = (
       (ap is_some here, same, sym (ap (or_same t) here)),
   λ h. ap (result_type o t) h.1 ∙ row o t h.0 ∙ ap Some (sym h.2),
 )
-
--- ---- conversions
-
--- a conversion takes and gives the types of its name
-pub widened : (conversion : Conversion) (t u : ElementaryType) → wider_type conversion t ≡ Some u
-    → (t ≡ converted_from conversion) × (u ≡ converted_to conversion)
-widened IntToDint Int u e = (refl, cc)
-widened DintToLint Dint u e = (refl, cc)
-widened conversion t u e = absurd (cc)
-
--- a conversion takes the type of its name
-pub widens : (conversion : Conversion)
-    → wider_type conversion (converted_from conversion) ≡ Some (converted_to conversion)
-widens IntToDint = refl
-widens DintToLint = refl
 
 -- ---- the other rules
 

@@ -46,10 +46,10 @@ use Rattle.il_check.proofs.KeepingLemmas.{keeps}
 use Rattle.il_check.proofs.TypedLemmas.{typed-of}
 use Rattle.il_check.specs.Limits.{most_nested}
 use Rattle.il_check.specs.Operators.{result_type}
-use Rattle.il_laws.specs.Table.{IsFirstFit, MayNegate, Stores, Tests, wider_type}
+use Rattle.il_laws.specs.Table.{IsFirstFit, MayNegate, Stores, Tests}
 use Rattle.il_laws.specs.TypedText.{ArgumentHasType, ArgumentsHaveTypes, EntriesHaveTypes, EntryHasTypes, HasTypes, IsLoadedAs, ItemsHaveTypes, MayHave, OperationHasTypes, TransferHasTypes, operand_type}
 use Rattle.il_laws.proofs.NumberLemmas.{has-value, own-first}
-use Rattle.il_laws.proofs.TableLemmas.{negation, row, widens}
+use Rattle.il_laws.proofs.TableLemmas.{negation, row}
 
 -- ---- the type of a number without a type
 
@@ -340,11 +340,8 @@ module _ (c : Checked) where
       (kind, gives o kind, k.3, (typed, may-have source x kind h.2 typed), w.0, w.1, k.4)
   operation-has text.invert op.Not t u h k own = (k.0, k.1 ∙ k.0)
   operation-has (text.convert conversion) (op.Convert w) t u h k own = (
-    converted_from w,
-    converted_to w,
-    k.0,
-    ap (λ (v : Conversion). wider_type v (converted_from w)) (sym h) ∙ widens w,
-    k.1,
+    k.0 ∙ ap (λ (v : Conversion). Some (converted_from v)) h,
+    k.1 ∙ ap (λ (v : Conversion). Some (converted_to v)) h,
   )
   operation-has a o t u h k own = absurd h
 

@@ -13,9 +13,9 @@ use Rattle.il_text.specs.declared.program.Output.{Output}
 use Rattle.il_check.specs.Given.{ProgramNames, output_type}
 use Rattle.il_check.specs.declared.given.Meaning.{Meaning}
 use Rattle.il_check.specs.declared.given.Meaning.TheVariants as meaning
-use Rattle.il_check.specs.Rules.{input_type}
+use Rattle.il_check.specs.Rules.{converted_from, converted_to, input_type}
 use Rattle.il_check.specs.Operators.{result_type}
-use Rattle.il_laws.specs.Table.{IsFirstFit, IsNumberOf, MayNegate, Stores, Tests, wider_type}
+use Rattle.il_laws.specs.Table.{IsFirstFit, IsNumberOf, MayNegate, Stores, Tests}
 
 -- ---- operands
 
@@ -133,8 +133,7 @@ IsRightAction names passed (text.combine operator negated source) t u =
     × MayDivide operator source
 IsRightAction names passed text.invert t u = (t ≡ Some elementary.Bool) × (u ≡ t)
 IsRightAction names passed (text.convert conversion) t u =
-    (kind : ElementaryType) × (new : ElementaryType) × (t ≡ Some kind)
-    × (wider_type conversion kind ≡ Some new) × (u ≡ Some new)
+    (t ≡ Some (converted_from conversion)) × (u ≡ Some (converted_to conversion))
 IsRightAction names passed (text.jump condition name) t u =
     (number : ℕ) × (names.label name ≡ Some number) × (passed ≤ number) × Tests condition t
     × (u ≡ t)

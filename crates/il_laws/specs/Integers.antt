@@ -8,7 +8,8 @@ use Rattle.il_text.specs.declared.program.Operator.TheVariants.{And, Or, Xor, Ad
 use Rattle.il_image.specs.Values.{number_of, type_of}
 use Rattle.il_image.specs.declared.value.Value.{Value}
 use Rattle.il_check.specs.Operators.{result_type}
-use Rattle.il_laws.specs.Table.{IsNumberOf, wider_type}
+use Rattle.il_check.specs.Rules.{converted_from, converted_to}
+use Rattle.il_laws.specs.Table.{IsNumberOf}
 
 -- how many numbers a type has
 abbrev pub how_many : ElementaryType → ℕ
@@ -65,7 +66,8 @@ pub record IsMadeOf (operator : Operator) (a b v : Value) : Type 0 where
 -- A conversion makes a value of the wider type with the same number.
 abbrev pub IsConverted : Conversion → Value → Value → Type 0
 IsConverted conversion v w =
-    (wider_type conversion (type_of v) ≡ Some (type_of w)) × (number_of w ≡ number_of v)
+    (type_of v ≡ converted_from conversion) × (type_of w ≡ converted_to conversion)
+    × (number_of w ≡ number_of v)
 
 -- NOT makes TRUE of FALSE, and FALSE of TRUE.
 abbrev pub IsInverted : Value → Value → Type 0

@@ -1,20 +1,12 @@
 -- The types of instructions, beside the table of operators (IEC 61131-3:2003, 2.2, 2.5.1 and tables
 -- 10 and 52).
-use Rattle.std.specs.Prelude.{◌≡◌, ℤ, pos, negsuc, ◌≤ℤ◌, Bool as Truth, true, false, Option, Some, None}
+use Rattle.std.specs.Prelude.{◌≡◌, ℤ, pos, negsuc, ◌≤ℤ◌, Bool as Truth, true, false, Option, Some}
 use Rattle.bay_base.specs.declared.types.ElementaryType.{ElementaryType}
 use Rattle.bay_base.specs.declared.types.ElementaryType.TheVariants.{Bool, Int, Dint, Lint, Time}
 use Rattle.il_text.specs.declared.program.Condition.{Condition}
 use Rattle.il_text.specs.declared.program.Condition.TheVariants.{Always, IfTrue, IfFalse}
-use Rattle.il_text.specs.declared.program.Conversion.{Conversion}
-use Rattle.il_text.specs.declared.program.Conversion.TheVariants.{IntToDint, DintToLint}
 use Rattle.il_text.specs.declared.program.StoreKind.{StoreKind}
 use Rattle.il_text.specs.declared.program.StoreKind.TheVariants.{Plain, Negated, Set, Reset}
-
--- the type of the new result behind a conversion
-abbrev pub wider_type : Conversion → ElementaryType → Option ElementaryType
-wider_type IntToDint Int = Some Dint
-wider_type DintToLint Dint = Some Lint
-wider_type conversion kind = None
 
 -- N after an operator negates the operand, which is a BOOL.
 abbrev pub MayNegate : Truth → ElementaryType → Type 0

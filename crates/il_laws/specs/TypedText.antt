@@ -20,9 +20,9 @@ use Rattle.il_check.specs.declared.typed.TypedArguments.TheVariants as arguments
 use Rattle.il_check.specs.declared.typed.TypedOperand.{TypedOperand}
 use Rattle.il_check.specs.declared.typed.TypedOperand.TheVariants as operand
 use Rattle.il_check.specs.Given.{output_type}
-use Rattle.il_check.specs.Rules.{input_type}
+use Rattle.il_check.specs.Rules.{converted_from, converted_to, input_type}
 use Rattle.il_check.specs.Operators.{result_type}
-use Rattle.il_laws.specs.Table.{IsFirstFit, MayNegate, Stores, Tests, wider_type}
+use Rattle.il_laws.specs.Table.{IsFirstFit, MayNegate, Stores, Tests}
 
 -- ---- operands
 
@@ -69,8 +69,7 @@ OperationHasTypes c (text.combine operator negated source) (op.Combine o kind n 
 OperationHasTypes c text.invert op.Not t u =
     (t ≡ Some elementary.Bool) × (u ≡ Some elementary.Bool)
 OperationHasTypes c (text.convert conversion) (op.Convert k) t u =
-    (kind : ElementaryType) × (new : ElementaryType) × (t ≡ Some kind)
-    × (wider_type conversion kind ≡ Some new) × (u ≡ Some new)
+    (t ≡ Some (converted_from conversion)) × (u ≡ Some (converted_to conversion))
 OperationHasTypes c a o t u = ⊥
 
 -- A parenthesis begins with a result that is not set; what it ends with is the operand.
