@@ -3,42 +3,34 @@ use Rattle.std.proofs.lemmas.Grind.{common_steps}
 use Rattle.std.proofs.Common.{◌≡◌, ℕ, zero, suc, ◌+◌, ◌-◌, ◌^◌, ◌<◌, ◌≤◌, Bool, true, false, cond, eqb, List, [], ◌∷◌, ◌++◌, length, take, drop, Option, Some, None, refl, sym, subst, ap, ◌∙◌, arith, append-nil, inl, inr}
 use Rattle.std.proofs.lemmas.Option.{same_Some}
 use Rattle.std.specs.Prelude.{Ok, Err, Result, ◌⊎◌}
-use Rattle.std.specs.Int.{from_be_bytes, w16}
 use Rattle.std.proofs.lemmas.Bool.{cases_eq, cases_lt, eq-eqb}
 use Rattle.std.proofs.lemmas.List.{append_assoc, length-append, length-drop, length-take, length-take-le, take-append-drop}
 use Rattle.std.proofs.Math.Seq.{take-append_seam}
 use Rattle.std.proofs.Math.ListN.{drop_of_length-le}
 use Rattle.bay_base.specs.Results.{◌>>=◌}
-use Rattle.bay_base.specs.declared.types.ElementaryType.{ElementaryType}
-use Rattle.bay_base.specs.declared.types.ElementaryType.TheVariants as elementary
 use Rattle.il_image.specs.declared.fault.ImageFault.{ImageFault}
 use Rattle.il_image.specs.declared.fault.ImageFault.TheVariants.{BadOpcode, Truncated}
 use Rattle.il_image.specs.declared.instr.Instr.{Instr}
 use Rattle.il_image.specs.declared.instr.Instr.TheVariants as instr
-use Rattle.il_image.specs.declared.arithmetic.ArithmeticOperation.{ArithmeticOperation}
-use Rattle.il_image.specs.declared.arithmetic.Width.{Width}
-use Rattle.il_image.specs.declared.arithmetic.Width.TheVariants as width
 use Rattle.il_image.specs.declared.opcode.Opcode.{Opcode}
 use Rattle.il_image.specs.declared.opcode.Opcode.TheVariants as opcode
 use Rattle.il_image.specs.declared.opcode.Version.{Version}
 use Rattle.il_image.specs.declared.opcode.Version.TheVariants.{One, Two}
-use Rattle.il_image.specs.declared.value.Value.{Value}
 use Rattle.il_image.specs.Cuts.{IsInstrOf, IsShortOf}
 use Rattle.il_image.specs.Decoding.{code_at, code_fault, code_of_length, fault_behind, unless}
 use Rattle.il_image.specs.Images.{IsCode}
-use Rattle.il_image.specs.Octets.{AreOctets, number_octets, octet_count, size_of, most_counted}
-use Rattle.il_image.specs.Opcodes.{is_known, opcode_of, width_of}
-use Rattle.il_image.specs.Reading.{Read, instr_from, known_value, known_opcode, number_at, operand_from, value_at}
+use Rattle.il_image.specs.Octets.{AreOctets, number_octets, size_of, most_counted}
+use Rattle.il_image.specs.Opcodes.{is_known, opcode_of}
+use Rattle.il_image.specs.Reading.{Read, instr_from, known_opcode, number_at, operand_from, value_at, width_at}
 use Rattle.il_image.specs.Spelling.{spelling}
-use Rattle.il_image.specs.Values.{default_value}
 use Rattle.il_image.proofs.CodeLemmas.{code-sound, fault-step}
 use Rattle.il_image.proofs.FewLemmas.{Few, IsAll, all-told, few-told}
 use Rattle.il_image.proofs.FormatLemmas.{IsNumber, number-lawful}
-use Rattle.il_image.proofs.InstrLemmas.{instr-sound, less}
-use Rattle.il_image.proofs.PieceLemmas.{Any, Behind, EndsIn, Lawful, again, are-more, are-none, copies, copies-fit, copies-size, err-same, join-octets, lawful-so, lawful-then, ok-is, spoilt}
+use Rattle.il_image.proofs.InstrLemmas.{instr-sound, less, width-lawful}
+use Rattle.il_image.proofs.PieceLemmas.{Any, Behind, EndsIn, Lawful, again, copies, copies-fit, copies-size, err-same, join-octets, lawful-so, lawful-then, ok-is, spoilt}
 use Rattle.il_image.proofs.PlaceLemmas.{spelled-so}
 use Rattle.il_image.proofs.ReadLemmas.{behind-octets, take_octets}
-use Rattle.il_image.proofs.ShortLemmas.{err-mapped, known-never, taken-short, value-few}
+use Rattle.il_image.proofs.ShortLemmas.{Grown, begins, err-mapped, grown, grown-value}
 
 -- ---- code
 
@@ -121,79 +113,29 @@ code-whole version (suc n) (x ∷ octets) more le e h =
 abbrev pub BeginsInstr : Version → List ℕ → Type 0
 BeginsInstr version part = (i : Instr) × IsInstrOf version i × IsShortOf part (spelling i)
 
--- an operand of the opcode that has more octets
-record Operand (version : Version) (o : Opcode) (octets : List ℕ) : Type 0 where
-  pub operand : List ℕ
-  pub instr : Instr
-  pub fits : AreOctets operand
-  pub is : operand_from version o operand ≡ Ok (instr, [])
-  pub fewer : length octets < length operand
+-- an instruction that is made of what longer octets are read as
+made-grown : {A : Type 0} (make : A → Instr) (f : List ℕ → Read A) (octets : List ℕ)
+    → (f octets ≡ Err Truncated → Grown f octets)
+    → ◌≡◌ {A = Read Instr} (f octets >>= (λ x. Ok (make x.0, x.1))) (Err Truncated)
+    → Grown (λ octets. f octets >>= (λ x. Ok (make x.0, x.1))) octets
+made-grown make f octets more e =
+    let g = more (err-mapped (f octets) (λ x. (make x.0, x.1)) e) in
+    record { more = g.more; what = make g.what; fits = g.fits; is = rw g.is refl; fewer = g.fewer }
 
-zero-operand : (version : Version) (o : Opcode) (n : ℕ) (i : Instr) (octets : List ℕ)
-    → operand_from version o (copies 0 n) ≡ Ok (i, []) → length octets < n
-    → Operand version o octets
-zero-operand version o n i octets is fewer = record {
-  operand = copies 0 n;
-  instr = i;
-  fits = copies-fit 0 n (omega arith);
-  is = is;
-  fewer = omega (arith, copies-size 0 n);
-}
-
-numbered-few : (make : ℕ → Instr) (octets : List ℕ)
-    → ◌≡◌ {A = Read Instr} (number_at octets >>= (λ n. Ok (make n.0, n.1))) (Err Truncated)
-    → length octets < 2
-numbered-few make octets =
-    taken-short 2 octets (from_be_bytes w16 octets, drop 2 octets)
-    (λ (n : ℕ × List ℕ). Ok (make n.0, n.1)) (λ e. cc)
-
-push-begins : (version : Version) (t : ElementaryType) (octets : List ℕ)
-    → length octets < octet_count (size_of t) → Operand version (opcode.Push t) octets
-unfolding copies
-push-begins version elementary.Bool octets = zero-operand version (opcode.Push elementary.Bool) 1
-    (instr.Push (default_value elementary.Bool)) octets refl
-push-begins version elementary.Int octets = zero-operand version (opcode.Push elementary.Int) 2
-    (instr.Push (default_value elementary.Int)) octets refl
-push-begins version elementary.Dint octets = zero-operand version (opcode.Push elementary.Dint) 4
-    (instr.Push (default_value elementary.Dint)) octets refl
-push-begins version elementary.Lint octets = zero-operand version (opcode.Push elementary.Lint) 8
-    (instr.Push (default_value elementary.Lint)) octets refl
-push-begins version elementary.Time octets = zero-operand version (opcode.Push elementary.Time) 4
-    (instr.Push (default_value elementary.Time)) octets refl
-
-width-reads : (version : Version) (o : ArithmeticOperation)
-    → operand_from version (opcode.Compute o) (2 ∷ []) ≡ Ok (instr.Compute o width.Int, [])
-width-reads One o = refl
-width-reads Two o = refl
-
-operand-begins : (version : Version) (o : Opcode) (octets : List ℕ)
-    → operand_from version o octets ≡ Err Truncated → Operand version o octets
-unfolding copies
-operand-begins version (opcode.Push t) octets e =
-    push-begins version t octets
-    (value-few (size_of t) t octets (err-mapped (value_at (size_of t) t octets)
-    (λ (v : Value × List ℕ). (instr.Push v.0, v.1)) e))
-operand-begins version (opcode.Slot u) octets e =
-    zero-operand version (opcode.Slot u) 2 (instr.Slot u 0) octets refl
-    (numbered-few (λ n. instr.Slot u n) octets e)
-operand-begins version (opcode.Compute o) [] e = record {
-  operand = 2 ∷ [];
-  instr = instr.Compute o width.Int;
-  fits = are-more 2 [] (omega arith) are-none;
-  is = width-reads version o;
-  fewer = omega arith;
-}
-operand-begins version (opcode.Compute o) (x ∷ octets) e =
-    absurd (known-never (width_of version x) octets
-    (err-mapped (known_value (width_of version x) >>= (λ (w : Width). Ok (w, octets)))
-    (λ (w : Width × List ℕ). (instr.Compute o w.0, w.1)) e))
-operand-begins version (opcode.Jump when) octets e =
-    zero-operand version (opcode.Jump when) 2 (instr.Jump when 0) octets refl
-    (numbered-few (λ n. instr.Jump when n) octets e)
-operand-begins version (opcode.Timer u) octets e =
-    zero-operand version (opcode.Timer u) 2 (instr.Timer u 0) octets refl
-    (numbered-few (λ n. instr.Timer u n) octets e)
-operand-begins version i x e = absurd cc
+operand-grown : (version : Version) (o : Opcode) (octets : List ℕ) → AreOctets octets
+    → operand_from version o octets ≡ Err Truncated → Grown (operand_from version o) octets
+operand-grown version (opcode.Push t) octets fits =
+    made-grown instr.Push (value_at (size_of t) t) octets (grown-value (size_of t) t octets)
+operand-grown version (opcode.Slot u) octets fits =
+    made-grown (λ n. instr.Slot u n) number_at octets (grown number-lawful octets fits)
+operand-grown version (opcode.Compute o) octets fits =
+    made-grown (λ w. instr.Compute o w) (width_at version) octets
+    (grown (width-lawful version) octets fits)
+operand-grown version (opcode.Jump when) octets fits =
+    made-grown (λ n. instr.Jump when n) number_at octets (grown number-lawful octets fits)
+operand-grown version (opcode.Timer u) octets fits =
+    made-grown (λ n. instr.Timer u n) number_at octets (grown number-lawful octets fits)
+operand-grown version i octets fits = λ e. absurd cc
 
 instr-begins : (version : Version) (octets : List ℕ) → AreOctets octets → 0 < length octets
     → instr_from version octets ≡ Err Truncated → BeginsInstr version octets
@@ -206,17 +148,9 @@ instr-begins version (x ∷ octets) fits some e = named-by (opcode_of x) refl e
         (λ o. operand_from version o octets)) (Err Truncated) → BeginsInstr version (x ∷ octets)
     known-by o false is k e = absurd cc
     known-by o true is k e =
-        let a = operand-begins version o octets e in
-        let read : instr_from version (x ∷ a.operand) ≡ Ok (a.instr, []) = rw (is, k) a.is in
-        let same : x ∷ a.operand ≡ spelling a.instr =
-        (spelled-so version (x ∷ a.operand) a.instr [] (are-more x a.operand (fits 0) a.fits)
-        read).1 ∙ append-nil (spelling a.instr) in
-        let fewer = a.fewer in
-        let size : suc (length a.operand) ≡ length (spelling a.instr) = ap length same in (
-          a.instr,
-          ap (instr_from version) (sym same) ∙ read,
-          record { first = ap (take 1) same; fewer = omega arith },
-        )
+        let g = operand-grown version o octets (λ i. fits (suc i)) e in
+        begins (instr-sound version) x octets g.more g.what (fits 0) g.fits (rw (is, k) g.is)
+        g.fewer
 
     named-by : (o : Option Opcode) → opcode_of x ≡ o
         → ◌≡◌ {A = Read Instr} (known_opcode version o >>= (λ o. operand_from version o octets))

@@ -19,8 +19,8 @@ use Rattle.il_image.proofs.ShortLemmas.{variable-lawful}
 
 -- ---- the mark
 
-no-mark : BadMagic ≡ Truncated → ⊥
-no-mark e = cc
+no-magic : BadMagic ≡ Truncated → ⊥
+no-magic e = cc
 
 mark-lawful : {R : Type 0} {on : R → List ℕ → Result R ImageFault} {Q : R → Type 0}
     {S : List ℕ → R → Type 0} {C : List ℕ → Type 0} {f : List ℕ → Result R ImageFault}
@@ -32,7 +32,7 @@ mark-lawful [] fits l =
     lawful-so l (λ octets r fits d. (octets, refl, d)) (λ octets c. (octets, refl, c))
 mark-lawful {f = f} (m ∷ marks) fits l =
     lawful-so (lawful-by after (lawful-then _
-    (such-lawful BadMagic (λ n. eqb n m) m no-mark (fits 0) (eq-eqb m m refl))
+    (such-lawful BadMagic (λ n. eqb n m) m no-magic (fits 0) (eq-eqb m m refl))
     (λ u. mark-lawful marks (λ i. fits (suc i)) l)))
     (λ octets r fits d. (
       d.later.0,

@@ -113,7 +113,7 @@ first-width : (version : Version) → width_of version 2 ≡ Some width.Int
 first-width One = refl
 first-width Two = refl
 
-width-lawful : (version : Version)
+pub width-lawful : (version : Version)
     → Lawful left Empty (Is (λ w. width_octet w ∷ []) Any) Never (width_at version)
 width-lawful version =
     lawful-table BadOpcode (width_of version) (λ w. width_octet w ∷ []) Any 2 width.Int no-opcode

@@ -7,12 +7,12 @@ use Rattle.std.proofs.lemmas.Bool.{ltb-true}
 use Rattle.std.proofs.lemmas.List.{length-append}
 use Rattle.bay_base.specs.Results.{◌>>=◌}
 use Rattle.bay_base.specs.declared.types.ElementaryType.{ElementaryType}
+use Rattle.bay_base.specs.declared.types.ElementaryType.TheVariants as elementary
 use Rattle.il_image.specs.declared.fault.ImageFault.{ImageFault}
 use Rattle.il_image.specs.declared.fault.ImageFault.TheVariants.{Truncated}
 use Rattle.il_image.specs.declared.opcode.Version.{Version}
 use Rattle.il_image.specs.declared.opcode.Version.TheVariants.{One, Two}
 use Rattle.il_image.specs.declared.value.Value.{Value}
-use Rattle.il_image.specs.declared.value.Value.TheVariants.{Truth}
 use Rattle.il_image.specs.declared.write.Size.{Size}
 use Rattle.il_image.specs.Cuts.{IsShortOf, IsValueOf}
 use Rattle.il_image.specs.Decoding.{type_of_octet, variable_at}
@@ -23,7 +23,7 @@ use Rattle.il_image.specs.Values.{default_value, value_of}
 use Rattle.il_image.proofs.FewLemmas.{IsAll, all-told, few-told}
 use Rattle.il_image.proofs.InstrLemmas.{value-sound}
 use Rattle.il_image.proofs.FormatLemmas.{type-lawful}
-use Rattle.il_image.proofs.PieceLemmas.{Empty, EndsIn, Is, Lawful, Sound, are-more, copies, copies-fit, copies-size, err-same, left, sound-so, sound-then, spelled-first}
+use Rattle.il_image.proofs.PieceLemmas.{Empty, Never, join-octets, EndsIn, Is, Lawful, Sound, are-more, copies, copies-fit, copies-size, err-same, left, sound-so, sound-then, spelled-first}
 
 -- an initial value that is read is spelled, and is one of its type
 variable-sound : (version : Version)
@@ -36,24 +36,7 @@ variable-sound version =
       good = rw (d.later.type, d.later.is) refl;
     })
 
-variable-start : (version : Version) → EndsIn (variable_at version) Empty []
-unfolding variable_at copies
-variable-start One = record {
-  more = 1 ∷ copies 0 4;
-  fits = are-more 1 (copies 0 4) (omega arith) (copies-fit 0 4 (omega arith));
-  what = (Truth false, []);
-  is = refl;
-  ends = refl;
-}
-variable-start Two = record {
-  more = 1 ∷ copies 0 8;
-  fits = are-more 1 (copies 0 8) (omega arith) (copies-fit 0 8 (omega arith));
-  what = (Truth false, []);
-  is = refl;
-  ends = refl;
-}
-
-pub known-never : {A : Type 0} (o : Option A) (octets : List ℕ)
+known-never : {A : Type 0} (o : Option A) (octets : List ℕ)
     → ◌≡◌ {A = Read A} (known_value o >>= (λ (t : A). Ok (t, octets))) (Err Truncated) → ⊥
 known-never None octets e = absurd cc
 known-never (Some x) octets e = absurd cc
@@ -64,7 +47,7 @@ pub err-mapped : {A B : Type 0} (r : Result A ImageFault) (h : A → B)
 err-mapped (Ok x) h e = absurd cc
 err-mapped {A} {B} (Err f) h e = ap (λ (g : ImageFault). Err g) (err-same {A = B} f Truncated e)
 
-pub taken-short : {A B : Type 0} (n : ℕ) (octets : List ℕ) (q : A) (f : A → Result B ImageFault)
+taken-short : {A B : Type 0} (n : ℕ) (octets : List ℕ) (q : A) (f : A → Result B ImageFault)
     → (f q ≡ Err Truncated → ⊥)
     → (◌>>=◌ {A = A} (cond (ltb (length octets) n) (Err Truncated) (Ok q)) f) ≡ Err Truncated
     → length octets < n
@@ -75,13 +58,73 @@ taken-short {A} {B} n octets q f never e = go (ltb (length octets) n) refl e
     go true is e = ltb-true (length octets) n is
     go false is e = absurd (never e)
 
-pub value-few : (s : Size) (t : ElementaryType) (octets : List ℕ)
+value-few : (s : Size) (t : ElementaryType) (octets : List ℕ)
     → value_at s t octets ≡ Err Truncated → length octets < octet_count s
 value-few s t octets =
     let number = cast_signed (bits_of_size s) (from_be_bytes (bits_of_size s) octets) in
     taken-short (octet_count s) octets (number, drop (octet_count s) octets)
     (λ z. known_value (value_of t z.0) >>= (λ (v : Value). Ok (v, z.1)))
     (known-never (value_of t number) (drop (octet_count s) octets))
+
+-- ---- more octets, which are enough
+
+-- Longer octets are read.
+pub record Grown {A : Type 0} (f : List ℕ → Read A) (octets : List ℕ) : Type 0 where
+  pub more : List ℕ
+  pub what : A
+  pub fits : AreOctets more
+  pub is : f more ≡ Ok (what, [])
+  pub fewer : length octets < length more
+
+pub grown : {A : Type 0} {S : List ℕ → A × List ℕ → Type 0} {f : List ℕ → Read A}
+    → Lawful left Empty S Never f → (octets : List ℕ) → AreOctets octets
+    → f octets ≡ Err Truncated → Grown f octets
+grown {A} {S} {f} l octets fits e = elim (l.short octets fits e) [
+  | inl a ↦ record {
+    more = octets ++ a.more;
+    what = a.what.0;
+    fits = join-octets octets a.more fits a.fits;
+    is = a.is ∙ ap (λ (ys : List ℕ). Ok (a.what.0, ys)) a.ends;
+    fewer = some a.more a.what a.is;
+  }
+  | inr n ↦ absurd n
+]
+  where
+    some : (more : List ℕ) (r : A × List ℕ) → f (octets ++ more) ≡ Ok r
+        → length octets < length (octets ++ more)
+    some [] r is = absurd (let no : ◌≡◌ {A = Read A} (Err Truncated) (Ok r) =
+        sym e ∙ ap f (sym (append-nil octets)) ∙ is in cc)
+    some (x ∷ more) r is = omega (arith, length-append octets (x ∷ more))
+
+zero-value : (s : Size) (t : ElementaryType)
+    → value_at s t (copies 0 (octet_count s)) ≡ Ok (default_value t, [])
+unfolding copies
+zero-value s t = grind (arith, common_steps)
+
+pub grown-value : (s : Size) (t : ElementaryType) (octets : List ℕ)
+    → value_at s t octets ≡ Err Truncated → Grown (value_at s t) octets
+grown-value s t octets e =
+    let few = value-few s t octets e in
+    record {
+      more = copies 0 (octet_count s);
+      what = default_value t;
+      fits = copies-fit 0 (octet_count s) (omega arith);
+      is = zero-value s t;
+      fewer = omega (arith, copies-size 0 (octet_count s));
+    }
+
+-- what is read of longer octets begins so
+pub begins : {A : Type 0} {spell : A → List ℕ} {P : A → Type 0} {item : List ℕ → Read A}
+    → Sound left Empty (Is spell P) item → (x : ℕ) (octets more : List ℕ) (v : A) → x < 256
+    → AreOctets more → item (x ∷ more) ≡ Ok (v, []) → length octets < length more
+    → (v : A) × (item (spell v) ≡ Ok (v, [])) × IsShortOf (x ∷ octets) (spell v)
+begins {spell = spell} {item = item} s x octets more v small fits is fewer =
+    let same : x ∷ more ≡ spell v =
+    (spelled-first s (x ∷ more) v [] (are-more x more small fits) is).1 ∙ append-nil (spell v) in
+    let size : suc (length more) ≡ length (spell v) = ap length same in
+    (v, ap item (sym same) ∙ is, record { first = ap (take 1) same; fewer = omega arith })
+
+-- ---- initial values
 
 -- A value of the version has the part's first octet, and more octets.
 abbrev BeginsValue : Version → List ℕ → Type 0
@@ -93,12 +136,6 @@ pub record NoValue (version : Version) (part : List ℕ) : Type 0 where
   pub begins : BeginsValue version part
   pub none : (v : Value) (rest : List ℕ) → AreOctets rest → IsValueOf version v
       → part ++ rest ≡ variable_octets version v → ⊥
-
-zero-value : (version : Version) (t : ElementaryType)
-    → value_at (value_size version) t (copies 0 (octet_count (value_size version)))
-    ≡ Ok (default_value t, [])
-unfolding copies
-zero-value version t = grind (arith, common_steps)
 
 value-begins : (version : Version) (x : ℕ) (octets : List ℕ) → x < 256
     → variable_at version (x ∷ octets) ≡ Err Truncated → BeginsValue version (x ∷ octets)
@@ -112,20 +149,20 @@ value-begins version x octets small e = typed (type_of_octet version x) refl e
         → BeginsValue version (x ∷ octets)
     typed None is e = absurd cc
     typed (Some t) is e =
-        let n = octet_count (value_size version) in
-        let fits = are-more x (copies 0 n) small (copies-fit 0 n (omega arith)) in
-        let read : variable_at version (x ∷ copies 0 n) ≡ Ok (default_value t, []) =
-        rw is (zero-value version t) in
-        let same : x ∷ copies 0 n ≡ variable_octets version (default_value t) =
-        (spelled-first (variable-sound version) (x ∷ copies 0 n) (default_value t) [] fits read).1
-        ∙ append-nil (variable_octets version (default_value t)) in
-        let fewer = value-few (value_size version) t octets e in
-        let size : suc (length (copies 0 n)) ≡ length (variable_octets version (default_value t)) =
-        ap length same in (
-          default_value t,
-          ap (variable_at version) (sym same) ∙ read,
-          record { first = ap (take 1) same; fewer = omega (arith, copies-size 0 n) },
-        )
+        let g = grown-value (value_size version) t octets e in
+        begins (variable-sound version) x octets g.more g.what small g.fits (rw is g.is) g.fewer
+
+variable-start : (version : Version) → EndsIn (variable_at version) Empty []
+unfolding variable_at
+variable-start version =
+    let n = octet_count (value_size version) in
+    record {
+      more = 1 ∷ copies 0 n;
+      fits = are-more 1 (copies 0 n) (omega arith) (copies-fit 0 n (omega arith));
+      what = (default_value elementary.Bool, []);
+      is = zero-value (value_size version) elementary.Bool;
+      ends = refl;
+    }
 
 length-variable : (version : Version) (v : Value) → length (variable_octets version v) ≤ 9
 length-variable One v = omega arith
