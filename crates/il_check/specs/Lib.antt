@@ -8,14 +8,14 @@
 -- label is unset.
 --
 -- The code computes instead. `Declaring`: what declarations mean, and their faults. `Given`: an
--- instruction with what its names mean. `Operators` (table 52): on which types an operator works, and
--- what type it gives, as tables. `Rules` (3.2.2): what an instruction wants of the current result,
--- and what it leaves; it is wrong (72) if no type that the result may have makes it right, and its
--- result is unset (73) if it uses one that has no type. `WellTyped`: the faults of each item, with
--- the least types; where ways meet, the result keeps its type only if it is the same on both.
--- `Checking`: all faults of a program, what is left of one without a fault, and the answer. `Faults`:
--- the least fault by line, and then by number. The laws `some_labelling` and `least_types` tie the
--- two.
+-- instruction with what its names mean. `Operators` (table 52): on which types an operator works,
+-- and what type it gives, as tables. `Rules` (3.2.2): what an instruction wants of the current
+-- result, and what it leaves; it is wrong (72) if no type that the result may have makes it right,
+-- and its result is unset (73) if it uses one that has no type. `WellTyped`: the faults of each
+-- item, with the least types; where ways meet, the result keeps its type only if it is the same on
+-- both. `Checking`: all faults of a program, what is left of one without a fault, and the answer.
+-- `Faults`: the least fault by line, and then by number. The laws `some_labelling` and
+-- `least_types` tie the two.
 --
 -- `Program` is a checked program as plain data, `Typing` what is left of a right instruction.
 -- `TypedProgram` says which are well typed, without a word of names; `Sound` what holds of each;

@@ -37,7 +37,10 @@ no-version e = cc
 pub octet-lawful : Lawful left Empty (Is (λ n. n ∷ []) Any) Never octet_at
 octet-lawful =
     lawful-table BadOpcode (λ n. Some n) (λ n. n ∷ []) Any 0 0 no-opcode (omega arith) refl refl
-    (λ x rest. refl) (λ x z e. record { parts = ap (λ (n : ℕ). n ∷ []) (same_Some x z e); good = tt })
+    (λ x rest. refl) (λ x z e. record {
+      parts = ap (λ (n : ℕ). n ∷ []) (same_Some x z e);
+      good = tt;
+    })
 
 -- an octet that passes the test
 abbrev pub such_at : ImageFault → (ℕ → Bool) → List ℕ → Read ℕ
@@ -178,7 +181,8 @@ IsNumber = Is number_octets (λ n. n < 2 ^ 16)
 
 pub number-lawful : Lawful left Empty IsNumber Never number_at
 number-lawful =
-    made-lawful 2 (from_be_bytes w16) IsNumber (from-front size.Two) (λ front rest len fits. record {
+    made-lawful 2 (from_be_bytes w16) IsNumber (from-front size.Two)
+    (λ front rest len fits. record {
       parts = sym (read_number front len fits);
       good = number-below front fits;
     })
@@ -270,7 +274,8 @@ access-is octet writable e = grind (arith, nat_tests)
 access-lawful : Lawful left Empty (Is (λ w. cond w 1 0 ∷ []) Any) Never access_at
 access-lawful =
     lawful-table BadOpcode access_of (λ w. cond w 1 0 ∷ []) Any 0 false no-opcode (omega arith) refl
-    refl (λ x rest. known-entry (access_of x) rest) (λ x w e. record { parts = access-is x w e; good = tt })
+    refl (λ x rest. known-entry (access_of x) rest)
+    (λ x w e. record { parts = access-is x w e; good = tt })
 
 kind_is : (octet : ℕ) (kind : TimerKind) → kind_of_octet octet ≡ Some kind
     → octet ∷ [] ≡ timer_octets Two kind
@@ -279,10 +284,12 @@ kind_is octet kind e = grind (arith, nat_tests)
 pub timer-lawful : (version : Version)
     → Lawful left Empty (Is (timer_octets version) Any) Never (timer_at version)
 unfolding timer_at
-timer-lawful One = lawful-so lawful-ok (λ octets r fits d. record { parts = d.0; good = tt }) (λ octets n. n)
+timer-lawful One =
+    lawful-so lawful-ok (λ octets r fits d. record { parts = d.0; good = tt }) (λ octets n. n)
 timer-lawful Two =
     lawful-table BadOpcode kind_of_octet (timer_octets Two) Any 1 OnDelay no-opcode (omega arith)
-    refl refl (λ x rest. known-entry (kind_of_octet x) rest) (λ x kind e. record { parts = kind_is x kind e; good = tt })
+    refl refl (λ x rest. known-entry (kind_of_octet x) rest)
+    (λ x kind e. record { parts = kind_is x kind e; good = tt })
 
 -- the version that an octet stands for
 abbrev version_of : ℕ → Option Version
@@ -307,12 +314,15 @@ version-lawful =
 
 -- ---- names, points
 
-letter-lawful : Lawful left Empty (Is (λ n. n ∷ []) (λ n. is_name_octet n ≡ true)) Never
-    (such_at BadOpcode is_name_octet)
+-- an octet of a name
+abbrev letter_at : List ℕ → Read ℕ
+letter_at = such_at BadOpcode is_name_octet
+
+letter-lawful : Lawful left Empty (Is (λ n. n ∷ []) (λ n. is_name_octet n ≡ true)) Never letter_at
 letter-lawful = such-lawful BadOpcode is_name_octet 0x41 no-opcode (omega arith) refl
 
 -- A name of a length is so many letters.
-are-letters : (n : ℕ) (octets : List ℕ) → name_of_length n octets ≡ items_at (such_at BadOpcode is_name_octet) n octets
+are-letters : (n : ℕ) (octets : List ℕ) → name_of_length n octets ≡ items_at letter_at n octets
 are-letters zero [] = refl
 are-letters zero (x ∷ octets) = rw (le-ltb (length (x ∷ octets)) 0 (omega arith)) refl
 are-letters (suc n) [] = rw (lt-ltb 0 (suc n) (omega arith)) refl
@@ -327,14 +337,15 @@ are-letters (suc n) (x ∷ octets) = go (are-letters n octets) (is_name_octet x)
     rest true false = refl
     rest false b = refl
 
-    go : name_of_length n octets ≡ items_at (such_at BadOpcode is_name_octet) n octets → (b : Bool) → is_name_octet x ≡ b
-        → name_of_length (suc n) (x ∷ octets) ≡ items_at (such_at BadOpcode is_name_octet) (suc n) (x ∷ octets)
+    go : name_of_length n octets ≡ items_at letter_at n octets → (b : Bool) → is_name_octet x ≡ b
+        → name_of_length (suc n) (x ∷ octets) ≡ items_at letter_at (suc n) (x ∷ octets)
     go same false is = rw is refl
     go same true is =
         rw (is, one-less (length octets) n, sym same)
         (rest (list_all is_name_octet (take n octets)) (ltb (length octets) n))
 
-letters-good : (name : List ℕ) → Each (λ n. is_name_octet n ≡ true) name → list_all is_name_octet name ≡ true
+letters-good : (name : List ℕ) → Each (λ n. is_name_octet n ≡ true) name
+    → list_all is_name_octet name ≡ true
 letters-good [] good = refl
 letters-good (x ∷ name) good = rw good.0 (letters-good name good.1)
 

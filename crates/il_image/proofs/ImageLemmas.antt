@@ -41,7 +41,11 @@ mark-lawful {f = f} (m ∷ marks) fits l =
     ))
     (λ octets c. elim c [
       | inl n ↦ absurd n
-      | inr b ↦ (b.cut.0, rw (b.parts, b.first.parts, eqb-true b.what m b.first.good, b.cut.1) refl, b.cut.2)
+      | inr b ↦ (
+        b.cut.0,
+        rw (b.parts, b.first.parts, eqb-true b.what m b.first.good, b.cut.1) refl,
+        b.cut.2,
+      )
     ])
   where
     after : (octets : List ℕ) → (behind (m ∷ marks) octets >>= f)
@@ -83,7 +87,8 @@ image-lawful =
     (λ version. lawful-then _ (all-lawful (point-lawful version))
     (λ p. lawful-then _ (counted-lawful (variable-lawful version))
     (λ v. lawful-then _ (all-lawful (timer-lawful version))
-    (λ t. lawful-made (image_of p v t) (λ octets. refl) (still (image_of p v t)) (λ x. (λ q. q, λ q. q))
+    (λ t. lawful-made (image_of p v t) (λ octets. refl) (still (image_of p v t))
+    (λ x. (λ q. q, λ q. q))
     (code-lawful version)))))))
     (λ octets i fits d. (
     let version = d.2 in

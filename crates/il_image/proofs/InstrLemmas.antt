@@ -88,7 +88,8 @@ pub record IsValueAs (size : Size) (t : ElementaryType) (octets : List ℕ) (r :
 pub value-sound : (s : Size) (t : ElementaryType)
     → Sound left Empty (IsValueAs s t) (value_at s t)
 value-sound s t =
-    sound-so (sound-then _ (signed-lawful s).sound (λ z. sound-known (value_of t z) (λ v. lawful-ok.sound)))
+    sound-so (sound-then _ (signed-lawful s).sound (λ z. sound-known (value_of t z)
+    (λ v. lawful-ok.sound)))
     (λ octets r fits d. (
     let of = value_is t d.what d.later.0 d.later.1 in
     record {
@@ -137,7 +138,8 @@ none-sound i none good =
       good = subst IsInstr (sym d.1) good;
     })
 
-numbered-sound : (opcode : Opcode) (make : ℕ → Instr) → ((n : ℕ) → opcode_of_instr (make n) ≡ opcode)
+numbered-sound : (opcode : Opcode) (make : ℕ → Instr)
+    → ((n : ℕ) → opcode_of_instr (make n) ≡ opcode)
     → ((n : ℕ) → operand_of (make n) ≡ number_octets n) → ((n : ℕ) → n < 2 ^ 16 → IsInstr (make n))
     → Sound left Empty (IsOperand opcode) (with_number make)
 numbered-sound opcode make is text good =
