@@ -1,7 +1,6 @@
 -- Code that is cut short: others complete it, or it ends in an instruction that has no room.
 use Rattle.std.proofs.lemmas.Grind.{common_steps}
 use Rattle.std.proofs.Common.{◌≡◌, ℕ, zero, suc, ◌+◌, ◌-◌, ◌^◌, ◌<◌, ◌≤◌, Bool, true, false, cond, eqb, List, [], ◌∷◌, ◌++◌, length, take, drop, Option, Some, None, refl, sym, subst, ap, ◌∙◌, arith, append-nil, inl, inr}
-use Rattle.std.proofs.lemmas.Option.{same_Some}
 use Rattle.std.specs.Prelude.{Ok, Err, Result, ◌⊎◌}
 use Rattle.std.proofs.lemmas.Bool.{cases_eq, cases_lt, eq-eqb}
 use Rattle.std.proofs.lemmas.List.{append_assoc, length-append, length-drop, length-take, length-take-le, take-append-drop}
@@ -17,97 +16,21 @@ use Rattle.il_image.specs.declared.opcode.Opcode.TheVariants as opcode
 use Rattle.il_image.specs.declared.opcode.Version.{Version}
 use Rattle.il_image.specs.declared.opcode.Version.TheVariants.{One, Two}
 use Rattle.il_image.specs.Cuts.{IsInstrOf, IsShortOf}
-use Rattle.il_image.specs.Decoding.{code_at, code_fault, code_of_length, fault_behind, unless}
+use Rattle.il_image.specs.Decoding.{code_at, code_fault, code_of_length, unless}
 use Rattle.il_image.specs.Images.{IsCode}
 use Rattle.il_image.specs.Octets.{AreOctets, number_octets, size_of, most_counted}
 use Rattle.il_image.specs.Opcodes.{is_known, opcode_of}
 use Rattle.il_image.specs.Reading.{Read, instr_from, known_opcode, number_at, operand_from, value_at, width_at}
 use Rattle.il_image.specs.Spelling.{spelling}
-use Rattle.il_image.proofs.CodeLemmas.{code-sound, fault-step}
+use Rattle.il_image.proofs.CodeLemmas.{Split, code-sound, code-whole, fault-left, fault-step, split}
 use Rattle.il_image.proofs.FewLemmas.{Few, IsAll, all-told, few-told}
 use Rattle.il_image.proofs.FormatLemmas.{IsNumber, number-lawful}
-use Rattle.il_image.proofs.InstrLemmas.{instr-sound, less, width-lawful}
-use Rattle.il_image.proofs.PieceLemmas.{Any, Behind, EndsIn, Lawful, again, copies, copies-fit, copies-size, err-same, join-octets, lawful-so, lawful-then, ok-is, spoilt}
-use Rattle.il_image.proofs.PlaceLemmas.{spelled-so}
+use Rattle.il_image.proofs.InstrLemmas.{instr-sound, width-lawful}
+use Rattle.il_image.proofs.PieceLemmas.{Any, Behind, EndsIn, Lawful, copies, copies-fit, copies-size, err-same, join-octets, lawful-so, lawful-then, ok-is, spoilt}
 use Rattle.il_image.proofs.ReadLemmas.{behind-octets, take_octets}
 use Rattle.il_image.proofs.ShortLemmas.{Grown, begins, err-mapped, grown, grown-value}
 
--- ---- code
-
--- Code whose instructions are whole up to a part of one more.
-record InCode (version : Version) (octets : List ℕ) : Type 0 where
-  pub done : List ℕ
-  pub cut : List ℕ
-  pub parts : octets ≡ done ++ cut
-  pub whole : code_fault version (length done) done ≡ None
-  pub some : 0 < length cut
-  pub short : instr_from version cut ≡ Err Truncated
-  pub on : (more : List ℕ) → code_fault version (length (cut ++ more)) (cut ++ more) ≡ None
-      → code_fault version (length (octets ++ more)) (octets ++ more) ≡ None
-
-code-cut : (version : Version) (n : ℕ) (octets : List ℕ) → length octets ≤ n → AreOctets octets
-    → code_fault version n octets ≡ Some Truncated → InCode version octets
-code-cut version zero octets le fits e = absurd cc
-code-cut version (suc n) [] le fits e = absurd cc
-code-cut version (suc n) (x ∷ octets) le fits e =
-    go (code-cut version n) (instr_from version (x ∷ octets)) refl e
-  where
-    go : ((rest : List ℕ) → length rest ≤ n → AreOctets rest
-        → code_fault version n rest ≡ Some Truncated → InCode version rest)
-        → (r : Read Instr) → instr_from version (x ∷ octets) ≡ r
-        → fault_behind r (λ rest. code_fault version n rest) ≡ Some Truncated
-        → InCode version (x ∷ octets)
-    go on (Err f) is e = record {
-      done = [];
-      cut = x ∷ octets;
-      parts = refl;
-      whole = refl;
-      some = omega arith;
-      short = is ∙ ap (λ (g : ImageFault). Err g) (same_Some f Truncated e);
-      on = λ more h. h;
-    }
-    go on (Ok (i, rest)) is e =
-        let s = spelled-so version (x ∷ octets) i rest fits is in
-        let fewer = less version (x ∷ octets) i rest is in
-        let c =
-        on rest (omega arith)
-        (behind-octets (spelling i) rest (subst AreOctets s.1 fits)) e in
-        record {
-          done = spelling i ++ c.done;
-          cut = c.cut;
-          parts = s.1 ∙ ap (λ (ys : List ℕ). spelling i ++ ys) c.parts
-              ∙ sym (append_assoc (spelling i) c.done c.cut);
-          whole =
-              fault-step version (spelling i ++ c.done) i c.done
-              (again (instr-sound version) (x ∷ octets) i rest fits is c.done) ∙ c.whole;
-          some = c.some;
-          short = c.short;
-          on = λ more h.
-              fault-step version (x ∷ octets ++ more) i (rest ++ more)
-              (ok-is (instr-sound version) (x ∷ octets) more i rest is)
-              ∙ c.on more h;
-        }
-
-code-whole : (version : Version) (n : ℕ) (octets more : List ℕ) → length octets ≤ n
-    → code_fault version n octets ≡ None → code_fault version (length more) more ≡ None
-    → code_fault version (length (octets ++ more)) (octets ++ more) ≡ None
-code-whole version n [] more le e h = h
-code-whole version zero (x ∷ octets) more le e h = absurd (omega arith)
-code-whole version (suc n) (x ∷ octets) more le e h =
-    go (λ rest fewer f. code-whole version n rest more fewer f h)
-    (instr_from version (x ∷ octets)) refl e
-  where
-    go : ((rest : List ℕ) → length rest ≤ n → code_fault version n rest ≡ None
-        → code_fault version (length (rest ++ more)) (rest ++ more) ≡ None)
-        → (r : Read Instr) → instr_from version (x ∷ octets) ≡ r
-        → fault_behind r (λ rest. code_fault version n rest) ≡ None
-        → code_fault version (length (x ∷ octets ++ more)) (x ∷ octets ++ more) ≡ None
-    go on (Err f) is e = absurd cc
-    go on (Ok (i, rest)) is e =
-        let fewer = less version (x ∷ octets) i rest is in
-        fault-step version (x ∷ octets ++ more) i (rest ++ more)
-        (ok-is (instr-sound version) (x ∷ octets) more i rest is)
-        ∙ on rest (omega arith) e
+-- ---- instructions that are begun
 
 -- An instruction of the version has the part's first octet, and more octets.
 abbrev pub BeginsInstr : Version → List ℕ → Type 0
@@ -227,7 +150,7 @@ module _ (version : Version) (n : ℕ) (octets : List ℕ) (fits : AreOctets oct
         let size : length (octets ++ copies 1 k) ≡ n =
         omega (arith, length-append octets (copies 1 k), copies-size 1 k) in
         code-reads version n octets (copies 1 k) (copies-fit 1 k (omega arith)) size
-        (code-whole version (length octets) octets (copies 1 k) (omega arith)
+        (code-whole version octets (copies 1 k)
         (ap (λ (xs : List ℕ). code_fault version (length xs) xs) (sym all) ∙ none)
         (halts version k)))
     | inr long ↦ inr (inl (record {
@@ -248,7 +171,8 @@ module _ (version : Version) (n : ℕ) (octets : List ℕ) (fits : AreOctets oct
       never true is e = absurd cc
       never false is e = absurd cc
 
-  module _ (c : InCode version (take n octets)) where
+  module _ (c : Split version (take n octets)) (some : 0 < length c.cut)
+      (short : instr_from version c.cut ≡ Err Truncated) where
     sizes : length c.done + length c.cut ≤ n
     sizes =
         let a : length (take n octets) ≡ length c.done + length c.cut =
@@ -301,7 +225,7 @@ module _ (version : Version) (n : ℕ) (octets : List ℕ) (fits : AreOctets oct
           code-reads version n octets more
           (join-octets f.octets (copies 1 k) f.fits (copies-fit 1 k (omega arith))) size
           (ap (λ (xs : List ℕ). code_fault version (length (xs ++ more)) (xs ++ more)) (sym all)
-          ∙ c.on more here)
+          ∙ c.on more ∙ here)
       | inr long ↦
           let same = exact long in
           let few = f.few in
@@ -312,7 +236,7 @@ module _ (version : Version) (n : ℕ) (octets : List ℕ) (fits : AreOctets oct
             → ⊥
         none-left [] le is =
             (let no : ◌≡◌ {A = Read Instr} (Err Truncated) (Ok (is.0, [])) =
-            sym c.short ∙ ap (instr_from version) (sym (append-nil c.cut)) ∙ is.1 in cc)
+            sym short ∙ ap (instr_from version) (sym (append-nil c.cut)) ∙ is.1 in cc)
         none-left (x ∷ more) le is = omega arith
 
     part-front : EndsIn (code_of_length version n) Any octets
@@ -322,7 +246,7 @@ module _ (version : Version) (n : ℕ) (octets : List ℕ) (fits : AreOctets oct
         (n - length c.done - length c.cut)) [
           | inl f ↦ inl (ended f)
           | inr none ↦ inr (inr (
-              let some = c.some in
+              let some_cut = some in
               let few = sizes in
               record {
                 done = c.done;
@@ -336,7 +260,7 @@ module _ (version : Version) (n : ℕ) (octets : List ℕ) (fits : AreOctets oct
                     (instr-begins version c.cut
                     (behind-octets c.done c.cut
                     (subst AreOctets c.parts (take_octets n octets fits)))
-                    c.some c.short);
+                    some short);
                 none = λ i rest good is e. elim
                     (cases_lt (n - length c.done) (length (spelling i))) [
                       | inl lt ↦ lt
@@ -369,8 +293,11 @@ module _ (version : Version) (n : ℕ) (octets : List ℕ) (fits : AreOctets oct
       go None is e = whole-front is e
       go (Some f) is e =
           let same : f ≡ Truncated = err-same {A = List ℕ} f Truncated e in
-          part-front (code-cut version (length (take n octets)) (take n octets) (omega arith)
-          (take_octets n octets fits) (is ∙ ap (λ (x : ImageFault). Some x) same))
+          let s = split version (length (take n octets)) (take n octets) (omega arith) in
+          let c =
+          fault-left version (take n octets) s Truncated
+          (is ∙ ap (λ (x : ImageFault). Some x) same) in
+          part-front s c.0 c.1
 
 -- Code behind its length, with others behind it or cut short within an instruction.
 abbrev pub CodeCut : Version → List ℕ → Type 0

@@ -1,8 +1,8 @@
 -- Code as instructions one behind the other.
-use Rattle.std.proofs.Common.{◌≡◌, ℕ, zero, suc, ◌<◌, ◌≤◌, Bool, true, false, cond, eqb, List, [], ◌∷◌, ◌++◌, length, take, drop, Option, Some, None, refl, sym, subst, ap, ◌∙◌, append-nil, arith}
-use Rattle.std.specs.Prelude.{Ok, Err, Result}
+use Rattle.std.proofs.Common.{◌≡◌, ℕ, zero, suc, ◌<◌, ◌≤◌, Bool, true, false, cond, eqb, List, [], ◌∷◌, ◌++◌, length, take, drop, Option, Some, None, refl, sym, subst, ap, ◌∙◌, append-nil, arith, inl, inr}
+use Rattle.std.specs.Prelude.{Ok, Err, Result, ◌⊎◌}
 use Rattle.std.proofs.lemmas.Bool.{eqb-true, ne_eqb}
-use Rattle.std.proofs.lemmas.List.{length-append, take-append-le}
+use Rattle.std.proofs.lemmas.List.{append_assoc, length-append, take-append-le}
 use Rattle.std.proofs.lemmas.Option.{same_Some}
 use Rattle.std.proofs.Math.Seq.{take-length}
 use Rattle.bay_base.specs.Results.{◌>>=◌}
@@ -17,9 +17,8 @@ use Rattle.il_image.specs.Octets.{AreOctets}
 use Rattle.il_image.specs.Reading.{Read, instr_from}
 use Rattle.il_image.specs.Spelling.{IsInstr, spelling}
 use Rattle.il_image.proofs.InstrLemmas.{back-instr, instr-sound, less}
-use Rattle.il_image.proofs.PieceLemmas.{Any, Sound, err-is, ok-is, spoilt}
+use Rattle.il_image.proofs.PieceLemmas.{Any, Sound, err-is, front-octets, item-took, ok-is, spoilt}
 use Rattle.il_image.proofs.ReadLemmas.{behind-octets, ok-same}
-use Rattle.il_image.proofs.PlaceLemmas.{spelled-so}
 
 -- It does not matter how many instructions are allowed, where they are enough.
 enough : (version : Version) (n m : ℕ) (octets : List ℕ) → length octets ≤ n → length octets ≤ m
@@ -55,36 +54,127 @@ pub fault-here : (version : Version) (octets : List ℕ) (fault : ImageFault) �
 fault-here version [] fault some e = absurd (omega arith)
 fault-here version (x ∷ octets) fault some e = rw e refl
 
--- ---- code without a fault
+-- ---- code up to its first fault
 
-code-is : (version : Version) (n : ℕ) (octets : List ℕ) → length octets ≤ n → AreOctets octets
-    → code_fault version n octets ≡ None → IsCode octets
-code-is version zero [] h fits e = record { instrs = []; are = tt; spelled = refl }
-code-is version zero (x ∷ octets) h fits e = absurd (omega arith)
-code-is version (suc n) [] h fits e = record { instrs = []; are = tt; spelled = refl }
-code-is version (suc n) (x ∷ octets) h fits e =
-    go version n (x ∷ octets) (instr_from version (x ∷ octets)) refl h fits (code-is version n) e
+-- the first fault of code
+abbrev pub fault_in : Version → List ℕ → Option ImageFault
+fault_in version octets = code_fault version (length octets) octets
+
+-- Instructions are read one behind the other; nothing is left behind them, or octets of which none
+-- is read.
+pub record Split (version : Version) (octets : List ℕ) : Type 0 where
+  pub done : List ℕ
+  pub cut : List ℕ
+  pub parts : octets ≡ done ++ cut
+  pub code : AreOctets done → IsCode done
+  pub whole : fault_in version done ≡ None
+  pub on : (more : List ℕ) → fault_in version (octets ++ more) ≡ fault_in version (cut ++ more)
+  pub end : (cut ≡ [])
+      ⊎ ((f : ImageFault) × (0 < length cut) × (instr_from version cut ≡ Err f))
+
+none-read : (version : Version) (octets : List ℕ) → (octets ≡ [])
+    ⊎ ((f : ImageFault) × (0 < length octets) × (instr_from version octets ≡ Err f))
+    → Split version octets
+none-read version octets end = record {
+  done = [];
+  cut = octets;
+  parts = refl;
+  code = λ fits. record { instrs = []; are = tt; spelled = refl };
+  whole = refl;
+  on = λ more. refl;
+  end = end;
+}
+
+pub split : (version : Version) (n : ℕ) (octets : List ℕ) → length octets ≤ n
+    → Split version octets
+split version n [] le = none-read version [] (inl refl)
+split version zero (x ∷ octets) le = absurd (omega arith)
+split version (suc n) (x ∷ octets) le =
+    go (split version n) (instr_from version (x ∷ octets)) refl
   where
-    go : (version : Version) (n : ℕ) (octets : List ℕ) (r : Read Instr)
-        → instr_from version octets ≡ r → length octets ≤ suc n → AreOctets octets
-        → ((rest : List ℕ) → length rest ≤ n → AreOctets rest → code_fault version n rest ≡ None
-        → IsCode rest) → fault_behind r (λ rest. code_fault version n rest) ≡ None → IsCode octets
-    go version n octets (Err fault) is h fits more e = absurd cc
-    go version n octets (Ok r) is h fits more e =
-        let fewer = less version octets r.0 r.1 is in
-        let s = spelled-so version octets r.0 r.1 fits is in
-        let rest =
-        more r.1 (omega arith) (behind-octets (spelling r.0) r.1 (subst AreOctets s.1 fits)) e
-        in
+    go : ((rest : List ℕ) → length rest ≤ n → Split version rest) → (r : Read Instr)
+        → instr_from version (x ∷ octets) ≡ r → Split version (x ∷ octets)
+    go behind (Err f) is = none-read version (x ∷ octets) (inr (f, omega arith, is))
+    go behind (Ok (i, rest)) is =
+        let s = instr-sound version in
+        let fewer = less version (x ∷ octets) i rest is in
+        let t = item-took s (x ∷ octets) i rest is in
+        let c = behind rest (omega arith) in
         record {
-          instrs = r.0 ∷ rest.instrs;
-          are = (s.0, rest.are);
-          spelled = s.1 ∙ ap (λ (xs : List ℕ). spelling r.0 ++ xs) rest.spelled;
+          done = t.0 ++ c.done;
+          cut = c.cut;
+          parts = t.1 ∙ ap (λ (ys : List ℕ). t.0 ++ ys) c.parts
+              ∙ sym (append_assoc t.0 c.done c.cut);
+          code = λ fits. (
+              let first = s.spelled t.0 (i, []) (front-octets t.0 c.done fits) t.2 refl in
+              let later = c.code (behind-octets t.0 c.done fits) in
+              record {
+                instrs = i ∷ later.instrs;
+                are = (first.good, later.are);
+                spelled = ap (λ (ys : List ℕ). ys ++ c.done) first.parts
+                    ∙ ap (λ (ys : List ℕ). spelling i ++ ys) later.spelled;
+              });
+          whole = fault-step version (t.0 ++ c.done) i c.done (ok-is s t.0 c.done i [] t.2)
+              ∙ c.whole;
+          on = λ more.
+              fault-step version (x ∷ octets ++ more) i (rest ++ more)
+              (ok-is s (x ∷ octets) more i rest is) ∙ c.on more;
+          end = c.end;
         }
 
-pub no_fault : (version : Version) (octets : List ℕ) → AreOctets octets
-    → code_fault version (length octets) octets ≡ None → IsCode octets
-no_fault version octets fits e = code-is version (length octets) octets (omega arith) fits e
+module _ (version : Version) (octets : List ℕ) (s : Split version octets) where
+  fault-is : fault_in version octets ≡ fault_in version s.cut
+  fault-is =
+      ap (fault_in version) (sym (append-nil octets)) ∙ s.on []
+      ∙ ap (fault_in version) (append-nil s.cut)
+
+  pub none-left : fault_in version octets ≡ None → s.cut ≡ []
+  none-left e = elim s.end [
+    | inl none ↦ none
+    | inr c ↦ absurd (let no = sym e ∙ fault-is ∙ fault-here version s.cut c.0 c.1 c.2 in cc)
+  ]
+
+  pub fault-left : (f : ImageFault) → fault_in version octets ≡ Some f
+      → (0 < length s.cut) × (instr_from version s.cut ≡ Err f)
+  fault-left f e = elim s.end [
+    | inl none ↦ absurd (let no = sym e ∙ fault-is ∙ ap (fault_in version) none in cc)
+    | inr c ↦ (
+      c.1,
+      c.2 ∙ ap (λ (g : ImageFault). Err g)
+          (same_Some c.0 f (sym (fault-here version s.cut c.0 c.1 c.2) ∙ sym fault-is ∙ e)),
+    )
+  ]
+
+no_fault : (version : Version) (octets : List ℕ) → AreOctets octets
+    → fault_in version octets ≡ None → IsCode octets
+no_fault version octets fits e =
+    let s = split version (length octets) octets (omega arith) in
+    let same : octets ≡ s.done =
+    s.parts ∙ ap (λ (ys : List ℕ). s.done ++ ys) (none-left version octets s e)
+    ∙ append-nil s.done in
+    subst IsCode (sym same) (s.code (subst AreOctets same fits))
+
+-- code without a fault, and more of it
+pub code-whole : (version : Version) (octets more : List ℕ) → fault_in version octets ≡ None
+    → fault_in version more ≡ None → fault_in version (octets ++ more) ≡ None
+code-whole version octets more e h =
+    let s = split version (length octets) octets (omega arith) in
+    s.on more ∙ ap (λ (ys : List ℕ). fault_in version (ys ++ more)) (none-left version octets s e)
+    ∙ h
+
+-- a fault of code stays, unless it wants more octets
+faults-stay : (version : Version) (octets more : List ℕ) (e : ImageFault)
+    → fault_in version octets ≡ Some e → (e ≡ Truncated → ⊥)
+    → fault_in version (octets ++ more) ≡ Some e
+faults-stay version octets more e f ne =
+    let s = split version (length octets) octets (omega arith) in
+    let c = fault-left version octets s e f in
+    let some = c.0 in
+    s.on more
+    ∙ fault-here version (s.cut ++ more) e (omega (arith, length-append s.cut more))
+    (err-is (instr-sound version) s.cut more e c.1 ne)
+
+-- ---- code that is spelled
 
 spelled-faultless : (n : ℕ) (is : List Instr) → Each IsInstr is
     → code_fault Two n (all_spelled is) ≡ None
@@ -98,35 +188,6 @@ pub faultless : (code : List ℕ) (n : ℕ) → IsCode code → code_fault Two n
 faultless code n c = rw c.spelled (spelled-faultless n c.instrs c.are)
 
 -- ---- code that has to end where it ends
-
--- a fault of code stays, unless it wants more octets
-fault-on : (version : Version) (n k : ℕ) (octets more : List ℕ) (e : ImageFault)
-    → (e ≡ Truncated → ⊥)
-    → ((rest : List ℕ) → length rest < length octets → code_fault version n rest ≡ Some e
-    → code_fault version k (rest ++ more) ≡ Some e)
-    → (r : Read Instr) → instr_from version octets ≡ r
-    → fault_behind r (λ rest. code_fault version n rest) ≡ Some e
-    → fault_behind (instr_from version (octets ++ more)) (λ rest. code_fault version k rest)
-    ≡ Some e
-fault-on version n k octets more e ne on (Ok (i, rest)) is f =
-    rw (ok-is (instr-sound version) octets more i rest is)
-    (on rest (less version octets i rest is) f)
-fault-on version n k octets more e ne on (Err g) is f =
-    let same : g ≡ e = same_Some g e f in
-    rw (err-is (instr-sound version) octets more g is (λ h. ne (sym same ∙ h))) f
-
--- a fault of code stays, unless it wants more octets
-faults-stay : (version : Version) (n k : ℕ) (octets more : List ℕ) (e : ImageFault)
-    → length (octets ++ more) ≤ k → code_fault version n octets ≡ Some e → (e ≡ Truncated → ⊥)
-    → code_fault version k (octets ++ more) ≡ Some e
-faults-stay version zero k octets more e le f ne = absurd cc
-faults-stay version (suc n) k [] more e le f ne = absurd cc
-faults-stay version (suc n) zero (x ∷ octets) more e le f ne = absurd (omega arith)
-faults-stay version (suc n) (suc k) (x ∷ octets) more e le f ne =
-    fault-on version n k (x ∷ octets) more e ne
-    (λ rest fewer g. faults-stay version n k rest more e
-    (let a = length-append rest more in let b = length-append octets more in omega arith) g ne)
-    (instr_from version (x ∷ octets)) refl f
 
 code-ends : (version : Version) (n : ℕ) (octets : List ℕ) (m : ℕ) (more : List ℕ)
     → (code_of_length version n octets ≡ Err Truncated → ⊥)
@@ -149,13 +210,10 @@ code-ends version n octets m others =
         let all : take n (octets ++ more)
         ≡ take n octets ++ drop (length (take n octets)) (take n (octets ++ more)) =
         front_of n octets more in
-        let stays : code_fault version (length (take n (octets ++ more))) (take n (octets ++ more))
-        ≡ Some e =
-        subst (λ (xs : List ℕ). code_fault version (length xs) xs ≡ Some e) (sym all)
-        (faults-stay version (length (take n octets))
-        (length (take n octets ++ drop (length (take n octets)) (take n (octets ++ more))))
-        (take n octets) (drop (length (take n octets)) (take n (octets ++ more))) e
-        (omega arith) f not_short) in
+        let stays : fault_in version (take n (octets ++ more)) ≡ Some e =
+        subst (λ (xs : List ℕ). fault_in version xs ≡ Some e) (sym all)
+        (faults-stay version (take n octets)
+        (drop (length (take n octets)) (take n (octets ++ more))) e f not_short) in
         rw (stays, f) refl
       where
         front_of : (n : ℕ) (xs ys : List ℕ)
