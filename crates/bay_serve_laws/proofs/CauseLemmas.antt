@@ -1,29 +1,25 @@
 -- What a turn tells of one association has its cause.
-use Rattle.std.proofs.Common.{◌≡◌, ◌≢◌, ℕ, ◌+◌, ◌<◌, ◌==◌, ◌&&◌, ◌||◌, Bool, true, false, not, cond, List, [], ◌∷◌, ◌++◌, length, get_or, set, Option, Some, None, refl, ap, sym, subst, ◌∙◌, append-nil, ◌⊎◌, inl, inr}
+use Rattle.std.proofs.Common.{Bool, List, None, Option, Some, [], ap, append-nil, cond, false, get_or, inl, inr, length, not, refl, set, subst, sym, true, ℕ, ◌&&◌, ◌++◌, ◌+◌, ◌<◌, ◌==◌, ◌||◌, ◌∙◌, ◌∷◌, ◌≡◌, ◌≢◌, ◌⊎◌}
 use Rattle.std.proofs.lemmas.Bool.{cases_eq}
-use Rattle.std.proofs.lemmas.List.{get_or-set_other, get_or-set_same}
-use Rattle.std.proofs.lemmas.List.Quantifiers.{position-Some}
+use Rattle.std.proofs.lemmas.List.{get_or-set_other, get_or-set_same, length-set}
 use Rattle.bay_device.specs.declared.event.Why.{Why}
 use Rattle.bay_device.specs.declared.event.Why.TheVariants.{Ended, Fault, Memory}
-use Rattle.bay_serve.specs.Standings.{after_full, is_full, is_leaving, is_told}
+use Rattle.bay_serve.specs.Standings.{after_full, is_leaving, is_told}
 use Rattle.bay_serve.specs.Turns.{Noted, goes, leaves, left_noted, nothing_noted, standing_in, stands}
 use Rattle.bay_serve.specs.declared.standing.Standing.{Standing}
-use Rattle.bay_serve.specs.declared.standing.Standing.TheVariants.{Steady, Full, Leaving, LeavingFull, Gone}
+use Rattle.bay_serve.specs.declared.standing.Standing.TheVariants.{Full, Gone, Leaving, LeavingFull, Steady}
 use Rattle.bay_serve.specs.declared.told.Closing.{Closing}
 use Rattle.bay_serve.specs.declared.told.Closing.TheVariants as closing
 use Rattle.bay_serve_laws.specs.Causes.{IsCaused, has_reason, has_some, is_end, is_ended, is_fault, is_memory, is_queue_full, is_refusal, names, reason_in, tells}
 use Rattle.bay_serve_laws.specs.Faults.{is_link_failed}
+use Rattle.bay_serve_laws.proofs.CallLemmas.{and-no, other-number, same-number}
 use Rattle.bay_serve_laws.proofs.ClosingLemmas.{IsOwn}
 use Rattle.bay_serve_laws.proofs.KeepLemmas.{IsFilled, IsNoted}
 use Rattle.bay_serve_laws.proofs.StandingLemmas.{all-steady}
-use Rattle.bay_serve_laws.proofs.TellingLemmas.{filled-told, leaving-told, other-number, same-number, set-length}
+use Rattle.bay_serve_laws.proofs.TellingLemmas.{filled-told, leaving-told}
 use Rattle.bay_serve_laws.proofs.TellsLemmas.{or-none, or-true, some-append, tells-not, tells-now, tells-other, tells-own}
 
 -- ---- tests
-
-pub and-no : (b : Bool) → (b && false) ≡ false
-and-no true = refl
-and-no false = refl
 
 neither : (b c : Bool) → b ≡ false → c ≡ false → (b || c) ≡ true → ⊥
 neither true c e f g = cc
@@ -62,19 +58,23 @@ knows-as p a b c d e f n x y z k =
 
 -- ---- what does not concern it
 
-pub record Still (p : ℕ) (n m : Noted) : Type 0 where
-  pub sized : length m.standings ≡ 8
-  pub told : is_told (standing_in p m) ≡ false → is_told (standing_in p n) ≡ false
-  leaving : is_leaving (standing_in p m) ≡ true → is_leaving (standing_in p n) ≡ true
+pub record StillIn (p : ℕ) (n : Noted) (standings : List Standing) (closed : List (ℕ × Closing))
+    (memory : List ℕ) : Type 0 where
+  pub sized : length standings ≡ 8
+  pub told : is_told (get_or standings p Steady) ≡ false → is_told (standing_in p n) ≡ false
+  leaving : is_leaving (get_or standings p Steady) ≡ true → is_leaving (standing_in p n) ≡ true
   same : (is : Closing → Bool) → is closing.QueueFull ≡ false
-      → tells is (p + 1) m.closed ≡ tells is (p + 1) n.closed
-  memory : names (p + 1) m.memory ≡ names (p + 1) n.memory
-  full : tells is_queue_full (p + 1) m.closed ≡ true
+      → tells is (p + 1) closed ≡ tells is (p + 1) n.closed
+  lacked : names (p + 1) memory ≡ names (p + 1) n.memory
+  full : tells is_queue_full (p + 1) closed ≡ true
       → (tells is_queue_full (p + 1) n.closed ≡ true)
-      ⊎ ((is_told (standing_in p n) ≡ false) × (is_told (standing_in p m) ≡ true))
-  closes : is_told (standing_in p m) ≡ true
-      → (is_told (standing_in p n) ≡ true) ⊎ (tells is_queue_full (p + 1) m.closed ≡ true)
-  more : tells is_queue_full (p + 1) n.closed ≡ true → tells is_queue_full (p + 1) m.closed ≡ true
+      ⊎ ((is_told (standing_in p n) ≡ false) × (is_told (get_or standings p Steady) ≡ true))
+  closes : is_told (get_or standings p Steady) ≡ true
+      → (is_told (standing_in p n) ≡ true) ⊎ (tells is_queue_full (p + 1) closed ≡ true)
+  more : tells is_queue_full (p + 1) n.closed ≡ true → tells is_queue_full (p + 1) closed ≡ true
+
+abbrev pub Still : ℕ → Noted → Noted → Type 0
+Still p n m = StillIn p n m.standings m.closed m.memory
 
 pub Still-refl : (p : ℕ) (n : Noted) → length n.standings ≡ 8 → Still p n n
 Still-refl p n sized = record {
@@ -82,7 +82,7 @@ Still-refl p n sized = record {
   told = λ e. e;
   leaving = λ e. e;
   same = λ is e. refl;
-  memory = refl;
+  lacked = refl;
   full = λ e. inl e;
   closes = λ e. inl e;
   more = λ e. e;
@@ -111,7 +111,7 @@ still-knows p a b c n m s k = record {
   caused = record {
     ended = s.same is_ended refl ∙ k.caused.ended;
     fault = λ code. s.same (is_fault code) refl ∙ k.caused.fault code;
-    lacked = s.memory ∙ k.caused.lacked;
+    lacked = s.lacked ∙ k.caused.lacked;
     link = s.same is_link_failed refl ∙ k.caused.link;
     queue = λ e. elim (s.full e) [
       | inl t ↦ k.caused.queue t
@@ -144,11 +144,11 @@ module _ (p : ℕ) (low : p < 8) where
         let back : is_told (standing_in p (stands p x m)) ≡ false
         → is_told (standing_in p m) ≡ false = λ e. untold (sym (ap is_told here) ∙ e) in
         record {
-          sized = set-length m.standings p x ∙ s.sized;
+          sized = length-set m.standings p x ∙ s.sized;
           told = λ e. s.told (back e);
           leaving = λ e. s.leaving (leaving (sym (ap is_leaving here) ∙ e));
           same = s.same;
-          memory = s.memory;
+          lacked = s.lacked;
           full = λ e. elim (s.full e) [
             | inl t ↦ inl t
             | inr u ↦ inr (u.0, rises _ _ back u.1)
@@ -166,11 +166,11 @@ module _ (p : ℕ) (low : p < 8) where
     stands-other x place l memory m ne told lacked s =
         let there = at-other m.standings x place ne in
         record {
-          sized = set-length m.standings place x ∙ s.sized;
+          sized = length-set m.standings place x ∙ s.sized;
           told = λ e. s.told (sym (ap is_told there) ∙ e);
           leaving = λ e. s.leaving (sym (ap is_leaving there) ∙ e);
           same = λ is e. told is ∙ s.same is e;
-          memory = lacked ∙ s.memory;
+          lacked = lacked ∙ s.lacked;
           full = λ e. elim (s.full (sym (told is_queue_full) ∙ e)) [
             | inl t ↦ inl t
             | inr u ↦ inr (u.0, ap is_told there ∙ u.1)
@@ -221,11 +221,11 @@ module _ (p : ℕ) (low : p < 8) where
     overflows-own false m e s =
         let here = at-own m.standings Gone s.sized in
         record {
-          sized = set-length m.standings p Gone ∙ s.sized;
+          sized = length-set m.standings p Gone ∙ s.sized;
           told = λ f. absurd (let g : true ≡ false = sym (ap is_told here) ∙ f in cc);
           leaving = λ f. absurd (let g : false ≡ true = sym (ap is_leaving here) ∙ f in cc);
           same = λ is f. tells-not is p closing.QueueFull m.closed f ∙ s.same is f;
-          memory = s.memory;
+          lacked = s.lacked;
           full = λ f. inr (s.told e, ap is_told here);
           closes = λ f. inr (tells-now is_queue_full p closing.QueueFull m.closed refl);
           more = λ f. tells-now is_queue_full p closing.QueueFull m.closed refl;
@@ -269,37 +269,16 @@ module _ (p : ℕ) (low : p < 8) where
     ]
 
     -- no other's closing concerns it
-    pub still-kept : IsNoted (λ place. place ≢ p) (Still p n)
+    pub still-kept : IsNoted 8 (λ place. place ≢ p) (Still p n)
     still-kept = record {
-      fills = fills-at;
-      leaving = λ place why m small ne s. leaves-other place why m ne s;
-      going = λ place why m small ne s.
+      fills = λ place m sized s. fills-at place m s;
+      leaving = λ place why m sized small ne s. leaves-other place why m ne s;
+      going = λ place why m sized small ne s.
           told-other (is_told (standing_in place m)) Gone place why m ne s;
-      overflows = λ place m small s. overflows-at place m s;
-      found = λ m place s e.
-          subst (λ (k : ℕ). place < k) s.sized
-          (position-Some is_full m.standings place Steady e).0;
-      parts = parts_at;
-      orders = λ commands decisions m s. record {
-        sized = s.sized;
-        told = s.told;
-        leaving = s.leaving;
-        same = s.same;
-        memory = s.memory;
-        full = s.full;
-        closes = s.closes;
-        more = s.more;
-      };
-      refuses = λ code m s. record {
-        sized = s.sized;
-        told = s.told;
-        leaving = s.leaving;
-        same = s.same;
-        memory = s.memory;
-        full = s.full;
-        closes = s.closes;
-        more = s.more;
-      };
+      overflows = λ place m sized small s. overflows-at place m s;
+      parts = λ place m sized is s. parts_at place m is s;
+      orders = λ commands decisions m s. s;
+      refuses = λ code m s. s;
     }
 
   -- ---- what closes it
@@ -323,7 +302,7 @@ module _ (p : ℕ) (low : p < 8) where
       let o = k.untold e in
       let now-told = ap is_told (is_gone n Leaving l memory k.sized) in
       record {
-        sized = set-length n.standings p Leaving ∙ k.sized;
+        sized = length-set n.standings p Leaving ∙ k.sized;
         caused = record {
           ended = ended;
           fault = fault;
@@ -436,7 +415,7 @@ module _ (p : ℕ) (low : p < 8) where
       let l = n.closed ++ (p + 1, closing.LinkFailed) ∷ [] in
       let here = is_gone n Gone l n.memory k.sized in
       record {
-        sized = set-length n.standings p Gone ∙ k.sized;
+        sized = length-set n.standings p Gone ∙ k.sized;
         caused = record {
           ended = tells-not is_ended p closing.LinkFailed n.closed refl ∙ k.caused.ended;
           fault = λ code. tells-not (is_fault code) p closing.LinkFailed n.closed refl
@@ -467,7 +446,7 @@ module _ (p : ℕ) (low : p < 8) where
       let some = k.leaving e in
       let here = is_gone n Gone n.closed n.memory k.sized in
       record {
-        sized = set-length n.standings p Gone ∙ k.sized;
+        sized = length-set n.standings p Gone ∙ k.sized;
         caused = record {
           link = k.caused.link ∙ ap (λ b. x && not b) some ∙ and-no x
               ∙ sym (ap (λ b. (x || more) && not b) some ∙ and-no (x || more));

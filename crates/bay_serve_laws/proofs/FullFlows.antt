@@ -1,7 +1,7 @@
 -- Where it is told that a queue was full.
-use Rattle.std.proofs.Common.{◌≡◌, ℕ, ◌+◌, ◌<◌, ◌≤◌, Bool, true, false, length, Option, refl, ap, sym, ◌∙◌, arith, length-append, inl, inr}
+use Rattle.std.proofs.Common.{Bool, ap, arith, false, inl, inr, length, length-append, refl, sym, true, ℕ, ◌+◌, ◌<◌, ◌∙◌, ◌≡◌, ◌≤◌}
 use Rattle.bay_serve.specs.Standings.{is_told}
-use Rattle.bay_serve.specs.Turns.{Held, Script, Turning, is_up_in, queue_at, standing_of, turn_calls, after_turn}
+use Rattle.bay_serve.specs.Turns.{Held, Script, Turning, after_turn, is_up_in, queue_at, standing_of, turn_calls}
 use Rattle.bay_serve.specs.declared.process.Reported.{Reported}
 use Rattle.bay_serve_laws.specs.Events.{done_at, turn_events}
 use Rattle.bay_serve_laws.specs.Flows.{IsInTime, IsTidy, sent_to, taken_of}
@@ -45,7 +45,7 @@ told-where-full now given script h tidy time room readings offers p low up =
         | inl e ↦ absurd (omega (arith, n.over_full, sizes, inside, ap length e))
         | inr down ↦ knows.told
             (told-by (is_told (standing_of p t)) (is_up_in p t.server) down.1
-            (turned-open now p low given script h time readings offers up).up)
+            (turned-open now p low given script h time readings offers up))
             n.failed_not n.over_not n.closed_not
       ]),
     )

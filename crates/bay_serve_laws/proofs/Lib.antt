@@ -1,3 +1,5 @@
+pub mod CallLemmas
+pub mod Acts
 pub mod BlameLemmas
 pub mod DoneLemmas
 pub mod QuietLemmas
@@ -6,6 +8,8 @@ pub mod PartLemmas
 pub mod StandingLemmas
 pub mod UpLemmas
 pub mod KeepLemmas
+pub mod CalmLemmas
+pub mod WalkLemmas
 pub mod TellingLemmas
 pub mod TellsLemmas
 pub mod CarryLemmas
@@ -18,7 +22,6 @@ pub mod TurnFlows
 pub mod ClosingLemmas
 pub mod RoomLemmas
 pub mod CauseLemmas
-pub mod PlainLemmas
 pub mod CauseFlows
 pub mod OpenFlows
 pub mod FullFlows

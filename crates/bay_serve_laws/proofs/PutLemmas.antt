@@ -1,5 +1,5 @@
--- What putting replies into queues does to how associations stand, and what telling does.
-use Rattle.std.proofs.Common.{◌≡◌, ℕ, ◌+◌, Bool, true, false, if◌then◌else◌, List, [], ◌∷◌, ◌++◌, length, Option, Some, None, Result, Ok, Err, refl, ◌∙◌}
+-- What putting replies into queues keeps, and what telling does to how associations stand.
+use Rattle.std.proofs.Common.{Bool, Err, List, None, Ok, Option, Result, Some, [], cond, false, if◌then◌else◌, length, refl, true, ℕ, ◌++◌, ◌+◌, ◌∙◌, ◌∷◌, ◌≡◌}
 use Rattle.std.proofs.lemmas.List.{length-set}
 use Rattle.bay_device.specs.Outcomes.{place_of}
 use Rattle.bay_device.specs.declared.event.Sent.{Sent}
@@ -8,55 +8,68 @@ use Rattle.bay_device.specs.declared.event.Why.{Why}
 use Rattle.bay_device.specs.declared.event.Why.TheVariants.{Ended, Fault, Memory}
 use Rattle.bay_device.specs.declared.fault.StepFault.{StepFault}
 use Rattle.bay_serve.specs.Standings.{after_full, is_told, takes_replies}
-use Rattle.bay_serve.specs.Turns.{Noted, Turning, has_room, is_up, put_all, put_at, put_ended, put_quiet, put_sent, put_whole, queue_of, standing_in, standing_of, stands, with_closing, told_why, with_noted, with_queue}
+use Rattle.bay_serve.specs.Turns.{Noted, Turning, has_room, is_up, put_all, put_at, put_ended, put_quiet, put_sent, put_whole, queue_of, standing_in, standing_of, stands, told_why, with_closing, with_noted, with_queue}
 use Rattle.bay_serve.specs.declared.told.Closing.{Closing}
 use Rattle.bay_serve.specs.declared.told.Closing.TheVariants as closing
 use Rattle.bay_serve_laws.proofs.StandingLemmas.{Fills, Fills-one, Fills-refl, Fills-trans}
+
+-- ---- what each reply keeps
+
+-- What a reply that fits keeps, and one that does not.
+pub record IsPut (P : Turning → Type 0) : Type 0 where
+  pub fits : (place : ℕ) (octets : List ℕ) (s : Turning)
+      → has_room (queue_of place s) octets ≡ true → P s
+      → P (with_queue place (queue_of place s ++ octets) s)
+  pub fills : (place : ℕ) (s : Turning) → P s
+      → P (with_noted (stands place (after_full (standing_of place s)) s.noted) s)
+
+module _ (P : Turning → Type 0) (k : IsPut P) where
+  at : (place : Option ℕ) (octets : List ℕ) (s : Turning) → P s → P (put_at place octets s)
+  at None octets s p = p
+  at (Some place) octets s p =
+      takes (takes_replies (standing_of place s) (is_up place s))
+    where
+      fitting : (room : Bool) → has_room (queue_of place s) octets ≡ room
+          → P (cond room (with_queue place (queue_of place s ++ octets) s)
+          (with_noted (stands place (after_full (standing_of place s)) s.noted) s))
+      fitting true is = k.fits place octets s is p
+      fitting false is = k.fills place s p
+
+      takes : (b : Bool) → P (cond b (put_whole place octets s) s)
+      takes true = fitting (has_room (queue_of place s) octets) refl
+      takes false = p
+
+  pub puts-all : (sent : List Sent) (s : Turning) → P s → P (put_all sent s)
+  puts-all [] s p = p
+  puts-all (x ∷ more) s p = puts-all more (put_sent x s) (at (place_of x.association) x.octets s p)
+
+  pub puts-ended : (sent : Option Sent) (s : Turning) → P s → P (put_ended sent s)
+  puts-ended None s p = p
+  puts-ended (Some sent) s p = at (place_of sent.association) sent.octets s p
+
+  pub puts-quiet : (answer : Result Step StepFault) (s : Turning) → P s → P (put_quiet answer s)
+  puts-quiet (Err fault) s p = p
+  puts-quiet (Ok step) s p = puts-ended step.ended s p
+
+-- ---- standings and queues
 
 pub record Puts (s t : Turning) : Type 0 where
   pub queues : length t.server.queues ≡ length s.server.queues
   pub fills : Fills s.noted.standings t.noted.standings
 
-Puts-refl : (s : Turning) → Puts s s
-Puts-refl s = record { queues = refl; fills = Fills-refl s.noted.standings }
-
-Puts-trans : (s t u : Turning) → Puts s t → Puts t u → Puts s u
-Puts-trans s t u a b =
-    record {
-      queues = b.queues ∙ a.queues;
-      fills = Fills-trans s.noted.standings t.noted.standings u.noted.standings a.fills b.fills;
-    }
-
-Puts-if : (b : Bool) (s t u : Turning) → Puts s t → Puts s u → Puts s (if b then t else u)
-Puts-if true s t u x y = x
-Puts-if false s t u x y = y
-
-put_at-puts : (o : Option ℕ) (octets : List ℕ) (s : Turning) → Puts s (put_at o octets s)
-put_at-puts None octets s = Puts-refl s
-put_at-puts (Some i) octets s =
-    let q = queue_of i s ++ octets in
-    Puts-if (takes_replies (standing_of i s) (is_up i s)) s (put_whole i octets s) s
-    (Puts-if (has_room (queue_of i s) octets) s (with_queue i q s)
-    (with_noted (stands i (after_full (standing_of i s)) s.noted) s)
-    (record { queues = length-set s.server.queues i q; fills = Fills-refl s.noted.standings })
-    (record { queues = refl; fills = Fills-one s.noted.standings i })) (Puts-refl s)
-
-put_sent-puts : (x : Sent) (s : Turning) → Puts s (put_sent x s)
-put_sent-puts x s = put_at-puts (place_of x.association) x.octets s
-
-pub put_all-puts : (xs : List Sent) (s : Turning) → Puts s (put_all xs s)
-put_all-puts [] s = Puts-refl s
-put_all-puts (x ∷ xs) s =
-    Puts-trans s (put_sent x s) (put_all xs (put_sent x s)) (put_sent-puts x s)
-    (put_all-puts xs (put_sent x s))
-
-pub put_ended-puts : (x : Option Sent) (s : Turning) → Puts s (put_ended x s)
-put_ended-puts None s = Puts-refl s
-put_ended-puts (Some x) s = put_sent-puts x s
-
 pub put_quiet-puts : (answer : Result Step StepFault) (s : Turning) → Puts s (put_quiet answer s)
-put_quiet-puts (Err fault) s = Puts-refl s
-put_quiet-puts (Ok step) s = put_ended-puts step.ended s
+put_quiet-puts answer s =
+    puts-quiet (Puts s) (record {
+      fits = λ place octets t room p. record {
+        queues = length-set t.server.queues place (queue_of place t ++ octets) ∙ p.queues;
+        fills = p.fills;
+      };
+      fills = λ place t p. record {
+        queues = p.queues;
+        fills = Fills-trans s.noted.standings t.noted.standings _ p.fills
+            (Fills-one t.noted.standings place);
+      };
+    }) answer s (record { queues = refl; fills = Fills-refl s.noted.standings })
 
 -- ---- telling changes no standing
 

@@ -1,19 +1,18 @@
 -- What changes neither the device nor the commands, and tells of no failed link.
-use Rattle.std.proofs.Common.{◌≡◌, ℕ, ◌+◌, Bool, true, false, if◌then◌else◌, List, [], ◌∷◌, ◌++◌, Option, Some, None, Result, Ok, Err, refl, ap, sym, ◌∙◌, append-nil}
+use Rattle.std.proofs.Common.{Bool, Err, List, None, Ok, Option, Result, Some, [], ap, append-nil, false, if◌then◌else◌, refl, sym, true, ℕ, ◌++◌, ◌+◌, ◌∷◌, ◌≡◌}
 use Rattle.bay_services.specs.declared.answer.Command.{Command}
-use Rattle.bay_device.specs.Outcomes.{place_of}
-use Rattle.bay_device.specs.declared.event.Sent.{Sent}
 use Rattle.bay_device.specs.declared.event.Step.{Step}
 use Rattle.bay_device.specs.declared.event.Why.{Why}
 use Rattle.bay_device.specs.declared.event.Why.TheVariants.{Ended, Fault, Memory}
 use Rattle.bay_device.specs.declared.fault.StepFault.{StepFault}
-use Rattle.bay_serve.specs.Standings.{after_full, is_told, takes_replies}
-use Rattle.bay_serve.specs.Turns.{Noted, Turning, goes, has_room, is_up, leaves, left_by, after_parting, put_all, put_answer, put_at, put_ended, put_quiet, put_sent, put_told, put_whole, queue_of, standing_in, standing_of, stands, with_closing, told_memory, told_why, with_noted, with_queue}
+use Rattle.bay_serve.specs.Standings.{is_told}
+use Rattle.bay_serve.specs.Turns.{Noted, Turning, after_parting, goes, leaves, left_by, put_all, put_answer, put_ended, put_quiet, put_told, standing_in, told_memory, told_why, with_closing, with_noted}
 use Rattle.bay_serve.specs.declared.told.Closing.{Closing}
 use Rattle.bay_serve.specs.declared.told.Closing.TheVariants as closing
 use Rattle.bay_serve_laws.specs.Events.{commands_in}
 use Rattle.bay_serve_laws.specs.Faults.{is_link_failed, tells_failure}
 use Rattle.bay_serve_laws.proofs.BlameLemmas.{tells-append}
+use Rattle.bay_serve_laws.proofs.PutLemmas.{IsPut, puts-all, puts-ended, puts-quiet}
 
 pub record Same (s t : Turning) : Type 0 where
   pub device : t.server.device ≡ s.server.device
@@ -23,52 +22,20 @@ pub record Same (s t : Turning) : Type 0 where
 pub Same-refl : (s : Turning) → Same s s
 Same-refl s = record { device = refl; commands = refl; failures = refl }
 
-pub Same-trans : (s t u : Turning) → Same s t → Same t u → Same s u
-Same-trans s t u a b =
-    record {
-      device = b.device ∙ a.device;
-      commands = b.commands ∙ a.commands;
-      failures = b.failures ∙ a.failures;
-    }
-
-Same-if : (s t u : Turning) (b : Bool) → Same s t → Same s u → Same s (if b then t else u)
-Same-if s t u true a b = a
-Same-if s t u false a b = b
-
-put_whole-same : (place : ℕ) (octets : List ℕ) (s : Turning) → Same s (put_whole place octets s)
-put_whole-same place octets s =
-    Same-if s (with_queue place (queue_of place s ++ octets) s)
-    (with_noted (stands place (after_full (standing_of place s)) s.noted) s)
-    (has_room (queue_of place s) octets)
-    (record { device = refl; commands = refl; failures = refl })
-    (record { device = refl; commands = refl; failures = refl })
-
-put_at-same : (place : Option ℕ) (octets : List ℕ) (s : Turning) → Same s (put_at place octets s)
-put_at-same None octets s = Same-refl s
-put_at-same (Some place) octets s =
-    Same-if s (put_whole place octets s) s (takes_replies (standing_of place s) (is_up place s))
-    (put_whole-same place octets s) (Same-refl s)
-
-put_sent-same : (sent : Sent) (s : Turning) → Same s (put_sent sent s)
-put_sent-same sent s = put_at-same (place_of sent.association) sent.octets s
-
-put_all-same : (sends : List Sent) (s : Turning) → Same s (put_all sends s)
-put_all-same [] s = Same-refl s
-put_all-same (sent ∷ more) s =
-    Same-trans s (put_sent sent s) (put_all more (put_sent sent s)) (put_sent-same sent s)
-    (put_all-same more (put_sent sent s))
-
-put_ended-same : (ended : Option Sent) (s : Turning) → Same s (put_ended ended s)
-put_ended-same None s = Same-refl s
-put_ended-same (Some sent) s = put_sent-same sent s
+same-put : (s : Turning) → IsPut (Same s)
+same-put s = record {
+  fits = λ place octets t room p. record
+      { device = p.device; commands = p.commands; failures = p.failures };
+  fills = λ place t p. record
+      { device = p.device; commands = p.commands; failures = p.failures };
+}
 
 pub put_quiet-same : (answer : Result Step StepFault) (s : Turning) → Same s (put_quiet answer s)
-put_quiet-same (Err fault) s = Same-refl s
-put_quiet-same (Ok step) s = put_ended-same step.ended s
+put_quiet-same answer s = puts-quiet (Same s) (same-put s) answer s (Same-refl s)
 
 pub put_told-same : (answer : Result Step StepFault) (s : Turning) → Same s (put_told answer s)
 put_told-same (Err fault) s = record { device = refl; commands = refl; failures = refl }
-put_told-same (Ok step) s = put_ended-same step.ended s
+put_told-same (Ok step) s = puts-ended (Same s) (same-put s) step.ended s (Same-refl s)
 
 -- ---- what is told
 
@@ -144,11 +111,9 @@ put_answer-commands place (Err fault) s =
     record { device = refl; commands = sym (append-nil s.noted.commands); failures = refl }
 put_answer-commands place (Ok step) s =
     let left : Turning = left_by place step.closed s in
-    let ended : Turning = put_ended step.ended left in
-    let put : Turning = put_all step.sent ended in
-    let all : Same s put =
-    Same-trans s left put (left_by-same place step.closed s)
-    (Same-trans left ended put (put_ended-same step.ended left) (put_all-same step.sent ended)) in
+    let all : Same s (put_all step.sent (put_ended step.ended left)) =
+    puts-all (Same s) (same-put s) step.sent (put_ended step.ended left)
+    (puts-ended (Same s) (same-put s) step.ended left (left_by-same place step.closed s)) in
     record {
       device = all.device;
       commands = ap (λ l. l ++ step.commands) all.commands;

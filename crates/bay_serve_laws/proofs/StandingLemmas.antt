@@ -1,10 +1,11 @@
 -- How eight associations stand, as replies do not fit and associations are closed.
-use Rattle.std.proofs.Common.{◌≡◌, ℕ, zero, suc, ◌+◌, ◌≤◌, nat_lt, Bool, true, false, not, cond, List, [], ◌∷◌, length, get_or, set, replicate, position, Some, None, refl, ap, sym, ◌∙◌, arith}
-use Rattle.std.specs.List.{position_or_len}
+use Rattle.std.proofs.Common.{Bool, List, None, Some, [], ap, arith, cond, false, get_or, length, nat_lt, not, position, refl, replicate, set, suc, sym, true, zero, ℕ, ◌+◌, ◌∙◌, ◌∷◌, ◌≡◌, ◌≤◌}
 use Rattle.std.proofs.lemmas.Bool.{ltb-false}
+use Rattle.std.proofs.lemmas.List.{length-set}
+use Rattle.std.specs.List.{position_or_len}
 use Rattle.bay_serve.specs.Standings.{after_full, is_full, is_leaving}
 use Rattle.bay_serve.specs.declared.standing.Standing.{Standing}
-use Rattle.bay_serve.specs.declared.standing.Standing.TheVariants.{Steady, Full, Leaving, LeavingFull, Gone}
+use Rattle.bay_serve.specs.declared.standing.Standing.TheVariants.{Full, Gone, Leaving, LeavingFull, Steady}
 
 -- so many more, if this one is not gone
 abbrev pub and_one : Standing → ℕ → ℕ
@@ -75,14 +76,9 @@ Fills-trans l m n a b =
       kept = λ i e. b.kept i (a.kept i e);
     }
 
-set-length : (l : List Standing) (j : ℕ) (x : Standing) → length (set l j x) ≡ length l
-set-length [] j x = refl
-set-length (y ∷ l) zero x = refl
-set-length (y ∷ l) (suc j) x = ap suc (set-length l j x)
-
 pub Fills-one : (l : List Standing) (j : ℕ) → Fills l (set l j (after_full (get_or l j Steady)))
 Fills-one l j = record {
-  sized = set-length l j (after_full (get_or l j Steady));
+  sized = length-set l j (after_full (get_or l j Steady));
   remain = filled-remaining l j;
   full = filled-full l j;
   kept = filled-kept l j;

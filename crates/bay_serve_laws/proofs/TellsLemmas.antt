@@ -1,17 +1,17 @@
 -- What is told of one association, as an entry is added.
-use Rattle.std.proofs.Common.{◌≡◌, ◌≢◌, ℕ, ◌+◌, ◌&&◌, ◌||◌, Bool, true, false, cond, List, [], ◌∷◌, ◌++◌, refl, ap, sym, subst, ◌∙◌, ◌⊎◌, inl, inr}
+use Rattle.std.proofs.Common.{Bool, List, [], ap, cond, false, inl, inr, refl, subst, sym, true, ℕ, ◌&&◌, ◌++◌, ◌+◌, ◌||◌, ◌∙◌, ◌∷◌, ◌≡◌, ◌≢◌, ◌⊎◌}
 use Rattle.std.proofs.Math.Bool.{or_assoc}
 use Rattle.std.proofs.lemmas.Bool.{cases_eq}
 use Rattle.bay_device.specs.declared.event.Event.{Event}
 use Rattle.bay_device.specs.declared.event.Why.{Why}
 use Rattle.bay_device.specs.declared.event.Why.TheVariants.{Ended, Fault, Memory}
 use Rattle.bay_serve.specs.Standings.{is_told}
-use Rattle.bay_serve.specs.Turns.{Noted, Turning, standing_in, after_event, with_closing, told_why}
+use Rattle.bay_serve.specs.Turns.{Noted, Turning, after_event, standing_in, told_why, with_closing}
 use Rattle.bay_serve.specs.declared.told.Closing.{Closing}
 use Rattle.bay_serve.specs.declared.told.Closing.TheVariants as closing
 use Rattle.bay_serve_laws.specs.Causes.{has_some, is_queue_full, tells}
+use Rattle.bay_serve_laws.proofs.CallLemmas.{other-number, same-number}
 use Rattle.bay_serve_laws.proofs.KeepLemmas.{keep-stepped}
-use Rattle.bay_serve_laws.proofs.TellingLemmas.{other-number, same-number}
 
 -- ---- tests
 

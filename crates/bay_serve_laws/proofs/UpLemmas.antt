@@ -1,22 +1,25 @@
 -- Which associations are open after an event, and its moment.
-use Rattle.std.proofs.Common.{◌≡◌, ◌≢◌, ℕ, ℤ, zero, suc, ◌+◌, ◌-◌, ◌<◌, ◌≤◌, ◌&&◌, nat_lt, Bool, true, false, if◌then◌else◌, List, [], ◌∷◌, Option, Some, None, is_some, unwrap_or, slice_get, set, length, Result, Ok, Err, refl, ap, sym, ◌∙◌, subst, arith}
-use Rattle.std.proofs.lemmas.Bool.{lt-ltb, le-ltb, and_left}
-use Rattle.bay_nodes.specs.declared.switch.Switch.{Switch}
-use Rattle.bay_tree.specs.declared.leaf.Dbpos.{Dbpos}
+use Rattle.std.proofs.Common.{Bool, Err, List, None, Ok, Option, Result, Some, [], ap, arith, false, if◌then◌else◌, is_some, length, nat_lt, position, refl, set, slice_get, subst, suc, sym, true, unwrap_or, zero, ℕ, ℤ, ◌&&◌, ◌+◌, ◌-◌, ◌<◌, ◌∙◌, ◌∷◌, ◌≡◌, ◌≢◌, ◌≤◌}
+use Rattle.std.proofs.lemmas.Bool.{and_left, le-ltb, lt-ltb}
 use Rattle.bay_base.specs.declared.point.MeterField.{MeterField}
+use Rattle.bay_tree.specs.declared.leaf.Dbpos.{Dbpos}
+use Rattle.bay_nodes.specs.declared.switch.Switch.{Switch}
 use Rattle.bay_connection.specs.Talk.{Indication, Talk, answers, ends, fails, indications, left_by, releases, tells}
 use Rattle.bay_device.proofs.LostLemmas.{Fixed, lost-fixed}
 use Rattle.bay_device.specs.Device.{State, device_at, ended_at}
-use Rattle.bay_device.specs.Hearing.{Done, AllHeard, after_indications, on_heard, after_pdu, with_sent}
-use Rattle.bay_device.specs.Outcomes.{Outcome, close_outcome, without_connection, closed_by, connection_at, contact_outcome, event_outcome, first_talk, doubt_outcome, input_outcome, last_moment, measure_outcome, nothing_done, open_outcome, outcome, place_of, recv_after, recv_done, recv_outcome, refusal_of, with_connection, without_owner}
+use Rattle.bay_device.specs.Hearing.{AllHeard, Done, after_indications, after_pdu, on_heard, with_sent}
+use Rattle.bay_device.specs.Outcomes.{Outcome, close_outcome, closed_by, connection_at, contact_outcome, doubt_outcome, event_outcome, first_talk, input_outcome, last_moment, lost_outcome, measure_outcome, nothing_done, open_outcome, outcome, place_of, recv_after, recv_done, recv_outcome, refusal_of, with_connection, without_connection, without_owner}
 use Rattle.bay_device.specs.declared.event.Event.{Event}
-use Rattle.bay_device.specs.declared.event.Event.TheVariants.{Open, Recv, Close, Contact, Input, Measure, BadMeasure, Lost, Scan}
+use Rattle.bay_device.specs.declared.event.Event.TheVariants.{BadMeasure, Close, Contact, Input, Lost, Measure, Open, Recv, Scan}
 use Rattle.bay_device.specs.declared.event.Sent.{Sent}
 use Rattle.bay_device.specs.declared.event.Step.{Step}
 use Rattle.bay_device.specs.declared.event.Why.{Why}
 use Rattle.bay_device.specs.declared.fault.StepFault.{StepFault}
 use Rattle.bay_device.specs.declared.fault.StepFault.TheVariants.{MomentTooLarge, TimeWentBack}
 use Rattle.bay_trace.specs.Placing.{lying}
+use Rattle.bay_serve.specs.Turns.{event_of}
+use Rattle.bay_serve.specs.declared.process.ProcessEvent.{ProcessEvent}
+use Rattle.bay_serve.specs.declared.process.ProcessEvent.TheVariants as process
 use Rattle.bay_serve_laws.proofs.QuietLemmas.{at_any_moment}
 
 -- ---- lists of connections
@@ -147,25 +150,46 @@ close-moment now a s None h = h
 close-moment now a s (Some talk) h = let e =
     set-moment (place_of a) None (without_owner a (device_at now s)) in omega (arith, e)
 
-contact-moment : (now k : ℕ) (position : Dbpos) (s : State) (switch : Option Switch)
-    → s.moment ≤ now → (contact_outcome now k position s switch).after.moment ≤ now
-contact-moment now k position s None h = h
-contact-moment now k position s (Some switch) h = omega arith
+contact-keeps : (now k : ℕ) (position : Dbpos) (s : State) (switch : Option Switch)
+    → Keeps now s (contact_outcome now k position s switch).after
+contact-keeps now k position s None = Keeps-refl now s
+contact-keeps now k position s (Some switch) =
+    record { connections = refl; moment = λ h. omega arith }
 
-input-moment : (now k : ℕ) (value : Bool) (s : State) (before : Option Bool) → s.moment ≤ now
-    → (input_outcome now k value s before).after.moment ≤ now
-input-moment now k value s None h = h
-input-moment now k value s (Some before) h = omega arith
+input-keeps : (now k : ℕ) (value : Bool) (s : State) (before : Option Bool)
+    → Keeps now s (input_outcome now k value s before).after
+input-keeps now k value s None = Keeps-refl now s
+input-keeps now k value s (Some before) = record { connections = refl; moment = λ h. omega arith }
 
-measure-moment : (now k : ℕ) (field : MeterField) (value : ℤ) (s : State) (id : Option (List ℕ))
-    → s.moment ≤ now → (measure_outcome now k field value s id).after.moment ≤ now
-measure-moment now k field value s None h = h
-measure-moment now k field value s (Some id) h = omega arith
+measure-keeps : (now k : ℕ) (field : MeterField) (value : ℤ) (s : State) (id : Option (List ℕ))
+    → Keeps now s (measure_outcome now k field value s id).after
+measure-keeps now k field value s None = Keeps-refl now s
+measure-keeps now k field value s (Some id) =
+    record { connections = refl; moment = λ h. omega arith }
 
-bad-measure-moment : (now k : ℕ) (field : MeterField) (s : State) (id : Option (List ℕ))
-    → s.moment ≤ now → (doubt_outcome now k field s id).after.moment ≤ now
-bad-measure-moment now k field s None h = h
-bad-measure-moment now k field s (Some id) h = omega arith
+bad-measure-keeps : (now k : ℕ) (field : MeterField) (s : State) (id : Option (List ℕ))
+    → Keeps now s (doubt_outcome now k field s id).after
+bad-measure-keeps now k field s None = Keeps-refl now s
+bad-measure-keeps now k field s (Some id) = record { connections = refl; moment = λ h. omega arith }
+
+lost-keeps : (now : ℕ) (s : State) → Keeps now s (lost_outcome now s).after
+lost-keeps now s = let same = lost-fixed now (device_at now s) in record {
+  connections = ap (λ (f : Fixed). f.connections) same;
+  moment = λ h. let e = ap (λ (f : Fixed). f.moment) same in omega (arith, e);
+}
+
+-- what happens to the process keeps the connections
+process-keeps : (choice : Option ℕ) (now : ℕ) (event : ProcessEvent) (s : State)
+    → Keeps now s (event_outcome choice now (event_of event) s).after
+process-keeps choice now (process.Contact k position) s =
+    contact-keeps now k position s (slice_get s.switches k)
+process-keeps choice now (process.Input k value) s =
+    input-keeps now k value s (slice_get s.input_values k)
+process-keeps choice now (process.Measure k field value) s =
+    measure-keeps now k field value s (slice_get s.meters k)
+process-keeps choice now (process.BadMeasure k field) s =
+    bad-measure-keeps now k field s (slice_get s.meters k)
+process-keeps choice now process.Lost s = lost-keeps now s
 
 after-moment : (now a : ℕ) (left : Talk) (s : State) (why : Option Why) → s.moment ≤ now
     → (recv_after a left s why).moment ≤ now
@@ -192,15 +216,14 @@ event-moment choice now (Recv a octets) s h =
     recv-moment choice now a octets.now s (connection_at (place_of a) s) h
 event-moment choice now (Close a) s h = close-moment now a s (connection_at (place_of a) s) h
 event-moment choice now (Contact k position) s h =
-    contact-moment now k position s (slice_get s.switches k) h
+    (contact-keeps now k position s (slice_get s.switches k)).moment h
 event-moment choice now (Input k value) s h =
-    input-moment now k value s (slice_get s.input_values k) h
+    (input-keeps now k value s (slice_get s.input_values k)).moment h
 event-moment choice now (Measure k field value) s h =
-    measure-moment now k field value s (slice_get s.meters k) h
+    (measure-keeps now k field value s (slice_get s.meters k)).moment h
 event-moment choice now (BadMeasure k field) s h =
-    bad-measure-moment now k field s (slice_get s.meters k) h
-event-moment choice now Lost s h = let same =
-    ap (λ (f : Fixed). f.moment) (lost-fixed now (device_at now s)) in omega (arith, same)
+    (bad-measure-keeps now k field s (slice_get s.meters k)).moment h
+event-moment choice now Lost s h = (lost-keeps now s).moment h
 event-moment choice now Scan s h = omega arith
 
 -- the last moment is not after an event's
@@ -212,64 +235,16 @@ outcome-moment choice now event s h =
 
 -- ---- the process
 
-contact-up : (now k : ℕ) (position : Dbpos) (s : State) (switch : Option Switch)
-    → (contact_outcome now k position s switch).after.connections ≡ s.connections
-contact-up now k position s None = refl
-contact-up now k position s (Some switch) = refl
-
-input-up : (now k : ℕ) (value : Bool) (s : State) (before : Option Bool)
-    → (input_outcome now k value s before).after.connections ≡ s.connections
-input-up now k value s None = refl
-input-up now k value s (Some before) = refl
-
-measure-up : (now k : ℕ) (field : MeterField) (value : ℤ) (s : State) (id : Option (List ℕ))
-    → (measure_outcome now k field value s id).after.connections ≡ s.connections
-measure-up now k field value s None = refl
-measure-up now k field value s (Some id) = refl
-
-process-up : (choice : Option ℕ) (now p : ℕ) (event : Event) (s : State)
-    → (event_outcome choice now event s).after.connections ≡ s.connections
-    → up_at p (outcome choice now event s).after ≡ up_at p s
-process-up choice now p event s e =
-    at_any_moment (λ o. up_at p o.after ≡ up_at p s) choice now event s (λ f. refl) (ap (up_in p) e)
-
-pub contact-outcome-up : (choice : Option ℕ) (now p k : ℕ) (position : Dbpos) (s : State)
-    → up_at p (outcome choice now (Contact k position) s).after ≡ up_at p s
-contact-outcome-up choice now p k position s =
-    process-up choice now p (Contact k position) s
-    (contact-up now k position s (slice_get s.switches k))
-
-pub input-outcome-up : (choice : Option ℕ) (now p k : ℕ) (value : Bool) (s : State)
-    → up_at p (outcome choice now (Input k value) s).after ≡ up_at p s
-input-outcome-up choice now p k value s =
-    process-up choice now p (Input k value) s (input-up now k value s (slice_get s.input_values k))
-
-pub measure-outcome-up : (choice : Option ℕ) (now p k : ℕ) (field : MeterField) (value : ℤ)
-    (s : State) → up_at p (outcome choice now (Measure k field value) s).after ≡ up_at p s
-measure-outcome-up choice now p k field value s =
-    process-up choice now p (Measure k field value) s
-    (measure-up now k field value s (slice_get s.meters k))
-
-bad-measure-up : (now k : ℕ) (field : MeterField) (s : State) (id : Option (List ℕ))
-    → (doubt_outcome now k field s id).after.connections ≡ s.connections
-bad-measure-up now k field s None = refl
-bad-measure-up now k field s (Some id) = refl
-
-pub bad-measure-outcome-up : (choice : Option ℕ) (now p k : ℕ) (field : MeterField) (s : State)
-    → up_at p (outcome choice now (BadMeasure k field) s).after ≡ up_at p s
-bad-measure-outcome-up choice now p k field s =
-    process-up choice now p (BadMeasure k field) s
-    (bad-measure-up now k field s (slice_get s.meters k))
-
-pub lost-outcome-up : (choice : Option ℕ) (now p : ℕ) (s : State)
-    → up_at p (outcome choice now Lost s).after ≡ up_at p s
-lost-outcome-up choice now p s =
-    process-up choice now p Lost s
-    (ap (λ (f : Fixed). f.connections) (lost-fixed now (device_at now s)))
+pub process-outcome-up : (choice : Option ℕ) (now p : ℕ) (event : ProcessEvent) (s : State)
+    → up_at p (outcome choice now (event_of event) s).after ≡ up_at p s
+process-outcome-up choice now p event s =
+    at_any_moment (λ o. up_at p o.after ≡ up_at p s) choice now (event_of event) s (λ f. refl)
+    (ap (up_in p) (process-keeps choice now event s).connections)
 
 pub scan-outcome-up : (choice : Option ℕ) (now p : ℕ) (s : State)
     → up_at p (outcome choice now Scan s).after ≡ up_at p s
-scan-outcome-up choice now p s = process-up choice now p Scan s refl
+scan-outcome-up choice now p s =
+    at_any_moment (λ o. up_at p o.after ≡ up_at p s) choice now Scan s (λ f. refl) refl
 
 -- ---- an association is opened
 

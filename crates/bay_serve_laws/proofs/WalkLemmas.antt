@@ -1,0 +1,518 @@
+-- A turn is acts, one after the other.
+use Rattle.std.proofs.Common.{Bool, List, None, Option, Result, Some, [], ap, append-nil, append_assoc, arith, cond, false, length, refl, subst, suc, sym, true, zero, ℕ, ◌++◌, ◌+◌, ◌<◌, ◌∙◌, ◌∷◌, ◌≡◌, ◌≤◌}
+use Rattle.std.proofs.lemmas.List.{length-set}
+use Rattle.std.proofs.lemmas.List.Quantifiers.{position-Some}
+use Rattle.std.specs.declared.net.socket_addr.SocketAddrV4.{SocketAddrV4}
+use Rattle.bay_device.specs.Outcomes.{outcome}
+use Rattle.bay_device.specs.declared.event.Event.TheVariants.{Close, Open, Recv, Scan}
+use Rattle.bay_device.specs.declared.event.Step.{Step}
+use Rattle.bay_device.specs.declared.event.Why.TheVariants.{Ended}
+use Rattle.bay_device.specs.declared.fault.StepFault.{StepFault}
+use Rattle.bay_trace.specs.Placing.{lying}
+use Rattle.bay_serve.specs.Calls.{Accepts, Broken, Call, Closes, Octets, Over, ReadOutcome, Reads, Silence}
+use Rattle.bay_serve.specs.Offers.{Offer, Offered}
+use Rattle.bay_serve.specs.Standings.{after_full, is_full, is_leaving}
+use Rattle.bay_serve.specs.Turns.{Held, Noted, Reading, Script, Turning, accept_calls_at, after_accept, after_each, after_first, after_line, after_opening, after_parting, after_reads, after_scan, after_settling, after_turn, calls_of_each, cut_off, event_of, first_full, first_of, free_place, heard_calls, is_up, leaves, line_calls, nothing_noted, offer_calls, offer_end, offer_of, offer_one, on_accept, on_heard, queue_of, read_calls, read_one, settled_in, settled_next, settling, settling_in, settling_next, standing_in, standing_of, turn_begin, turn_calls, with_device, with_line, with_noted, with_queue}
+use Rattle.bay_serve.specs.declared.process.ProcessEvent.{ProcessEvent}
+use Rattle.bay_serve.specs.declared.process.Reported.{Reported}
+use Rattle.bay_serve.specs.declared.standing.Standing.TheVariants.{Gone, Steady}
+use Rattle.bay_serve.specs.declared.told.Closing.TheVariants as closing
+use Rattle.bay_serve_laws.specs.Events.{ChosenEvent, accept_events_at, closing_of, done_at, events_of_each, failed_events, heard_events, line_events, offer_events, read_events, settled_events, settled_in_events, settled_next_events, surely, turn_events}
+use Rattle.bay_serve_laws.proofs.Acts.{Act, Asks, Breaks, Can, Fills, HangsUp, Hears, IsIdle, IsOpenAt, Offers, Parts, Scans, Tells, accepts, after, broken, calls_by, events_by, silent}
+use Rattle.bay_serve_laws.proofs.CallLemmas.{Offering, offering}
+use Rattle.bay_serve_laws.proofs.CalmLemmas.{cut-device, settled-calm}
+use Rattle.bay_serve_laws.proofs.DoneLemmas.{done-append}
+use Rattle.bay_serve_laws.proofs.KeepLemmas.{Each, IsNoted, Kept, all-concern, fills-kept, keep-act, keep-stepped}
+use Rattle.bay_serve_laws.proofs.SameLemmas.{put_answer-commands, put_quiet-same, put_told-same}
+use Rattle.bay_serve_laws.proofs.StandingLemmas.{AreCalm, all-steady, full-is, goes-calm}
+
+-- ---- one act after the other
+
+module _ (now most : ℕ) where
+  -- acts, with their calls and events
+  pub data Leads : Turning → List Call → List ChosenEvent → Turning → Type 0 where
+    Stays : (s : Turning) → Leads s [] [] s
+    Goes : (a : Act) (s : Turning) (c : List Call) (e : List ChosenEvent) (t : Turning)
+        → length s.noted.standings ≡ 8 → Can most a s → Leads (after now a s) c e t
+        → Leads s (calls_by a ++ c) (events_by a ++ e) t
+
+  pub both-lead : (s t u : Turning) (c d : List Call) (e x : List ChosenEvent) → Leads s c e t
+      → Leads t d x u → Leads s (c ++ d) (e ++ x) u
+  both-lead s t u c d e x (Stays v) m = m
+  both-lead s t u c d e x (Goes a v c1 e1 w sized can l) m =
+      subst (λ k. Leads v k ((events_by a ++ e1) ++ x) u) (sym (append_assoc (calls_by a) c1 d))
+      (subst (λ k. Leads v (calls_by a ++ (c1 ++ d)) k u)
+      (sym (append_assoc (events_by a) e1 x))
+      (Goes a v (c1 ++ d) (e1 ++ x) u sized can
+      (both-lead (after now a v) w u c1 d e1 x l m)))
+
+  -- ---- what holds of acts
+
+  -- each association has its standing still
+  any-kept : IsNoted most Each (λ n. Unit {0})
+  any-kept = record {
+    fills = λ place n sized p. tt;
+    leaving = λ place why n sized low may p. tt;
+    going = λ place why n sized low may p. tt;
+    overflows = λ place n sized low p. tt;
+    parts = λ place n sized is p. tt;
+    orders = λ commands decisions n p. tt;
+    refuses = λ code n p. tt;
+  }
+
+  pub sized-act : (a : Act) (s : Turning) → Can most a s → length s.noted.standings ≡ 8
+      → length (after now a s).noted.standings ≡ 8
+  sized-act a s can sized =
+      (keep-act most Each (λ n. Unit {0}) any-kept now a s can
+      (all-concern Each (λ place. tt) a) (record { sized = sized; holds = tt })).sized
+
+  pub device-act : (a : Act) (s : Turning)
+      → (after now a s).server.device ≡ (done_at now (events_by a) s.server.device).after
+  device-act (Asks call) s = refl
+  device-act (Hears place choice octets) s =
+      let o = outcome choice now (Recv (place + 1) (lying octets)) s.server.device in
+      (put_answer-commands place o.answer (with_device o.after s)).device
+  device-act (HangsUp place) s =
+      let o = outcome None now (Close (place + 1)) s.server.device in
+      (put_quiet-same o.answer
+      (with_device o.after (with_noted (leaves place Ended s.noted) s))).device
+  device-act (Tells event) s =
+      let o = outcome None now (event_of event) s.server.device in
+      (put_told-same o.answer (with_device o.after s)).device
+  device-act Scans s =
+      let o = outcome None now Scan s.server.device in
+      (put_quiet-same o.answer (with_device o.after s)).device
+  device-act (Fills place) s = cut-device now place closing.QueueFull s
+  device-act (Breaks place calls) s = cut-device now place closing.LinkFailed s
+  device-act (Offers place calls left) s = refl
+  device-act (Parts place calls) s = refl
+
+  -- ---- the parts of a turn
+
+  -- acts, behind which each reply fitted that is still to be sent
+  pub record Through (s : Turning) (c : List Call) (e : List ChosenEvent) (t : Turning)
+      : Type 0 where
+    pub leads : Leads s c e t
+    pub sized : length t.noted.standings ≡ 8
+    pub calm : AreCalm t.noted.standings
+
+  pub through-both : (s t u : Turning) (c d : List Call) (e x : List ChosenEvent) → Through s c e t
+      → Through t d x u → Through s (c ++ d) (e ++ x) u
+  through-both s t u c d e x m n = record {
+    leads = both-lead s t u c d e x m.leads n.leads;
+    sized = n.sized;
+    calm = n.calm;
+  }
+
+  pub next-leads : (o : Option ℕ) (s : Turning) (f : Turning → Turning) (calls : Turning → List Call)
+      (events : Turning → List ChosenEvent) → first_full s.noted ≡ o
+      → length s.noted.standings ≡ 8
+      → ((t : Turning) → length t.noted.standings ≡ 8 → Leads t (calls t) (events t) (f t))
+      → Leads s (settling_next now o s calls) (settled_next_events now o s events)
+      (settled_next now o s f)
+  next-leads None s f calls events is sized more = Stays s
+  next-leads (Some place) s f calls events is sized more =
+      let found = position-Some is_full s.noted.standings place Steady is in
+      let t : Turning = cut_off now closing.QueueFull place s in
+      let can : Can most (Fills place) s = (
+        subst (λ (k : ℕ). place < k) sized found.0,
+        full-is (standing_of place s) found.1,
+      ) in
+      Goes (Fills place) s (calls t) (events t) (f t) sized can
+      (more t (sized-act (Fills place) s can sized))
+
+  pub settled_in-leads : (count : ℕ) (s : Turning) → length s.noted.standings ≡ 8
+      → Leads s (settling_in now count s) (settled_in_events now count s) (settled_in now count s)
+  settled_in-leads zero s sized = Stays s
+  settled_in-leads (suc count) s sized =
+      next-leads (first_full s.noted) s (settled_in now count) (settling_in now count)
+      (settled_in_events now count) refl sized (settled_in-leads count)
+
+  pub settled-leads : (s : Turning) → length s.noted.standings ≡ 8
+      → Leads s (settling now s) (settled_events now s) (after_settling now s)
+  unfolding after_settling settling settled_events
+  settled-leads s sized = settled_in-leads 8 s sized
+
+  pub leads-sized : (s t : Turning) (c : List Call) (e : List ChosenEvent) → Leads s c e t
+      → length s.noted.standings ≡ 8 → length t.noted.standings ≡ 8
+  leads-sized s t c e (Stays v) sized = sized
+  leads-sized s t c e (Goes a v c1 e1 w is can l) sized =
+      leads-sized (after now a v) w c1 e1 l (sized-act a v can is)
+
+  pub settled-through : (s : Turning) → length s.noted.standings ≡ 8
+      → Through s (settling now s) (settled_events now s) (after_settling now s)
+  settled-through s sized =
+      let l = settled-leads s sized in
+      record {
+        leads = l;
+        sized = leads-sized s (after_settling now s) (settling now s) (settled_events now s) l
+            sized;
+        calm = settled-calm now s sized;
+      }
+
+  -- an act, and what did not fit then
+  pub then-through : (a : Act) (s : Turning) → length s.noted.standings ≡ 8 → Can most a s
+      → (let t : Turning = after now a s in Through s (calls_by a ++ settling now t)
+      (events_by a ++ settled_events now t) (after_settling now t))
+  then-through a s sized can =
+      let t : Turning = after now a s in
+      let m = settled-through t (sized-act a s can sized) in
+      record {
+        leads = Goes a s (settling now t) (settled_events now t) (after_settling now t) sized can
+            m.leads;
+        sized = m.sized;
+        calm = m.calm;
+      }
+
+  pub stays-through : (s : Turning) → length s.noted.standings ≡ 8 → AreCalm s.noted.standings
+      → Through s [] [] s
+  stays-through s sized calm = record { leads = Stays s; sized = sized; calm = calm }
+
+  asks-through : (call : Call) (s : Turning) → IsIdle call → length s.noted.standings ≡ 8
+      → AreCalm s.noted.standings → Through s (call ∷ []) [] s
+  asks-through call s idle sized calm = record {
+    leads = Goes (Asks call) s [] [] s sized idle (Stays s);
+    sized = sized;
+    calm = calm;
+  }
+
+  heard-through : (place : ℕ) (choice : Option ℕ) (heard : ReadOutcome) (s : Turning)
+      → IsOpenAt most place s → length s.noted.standings ≡ 8 → AreCalm s.noted.standings
+      → Through s (Reads (place + 1) 4096 heard ∷ heard_calls now place choice heard s)
+      (heard_events now place choice heard s) (on_heard now place choice heard s)
+  heard-through place choice (Octets octets) s up sized calm =
+      then-through (Hears place choice octets) s sized up
+  heard-through place choice Silence s up sized calm =
+      asks-through (Reads (place + 1) 4096 Silence) s (silent place) sized calm
+  heard-through place choice Over s up sized calm = then-through (HangsUp place) s sized up
+  heard-through place choice Broken s up sized calm =
+      then-through (Breaks place (Reads (place + 1) 4096 Broken ∷ [])) s sized
+      (queue_of place s, record { is_open = up; offered = broken place (queue_of place s) })
+
+  pub read-through : (place : ℕ) (r : Reading) (s : Turning) → place < most
+      → length s.noted.standings ≡ 8 → AreCalm s.noted.standings
+      → Through s (read_calls now place r s) (read_events now place r s) (read_one now place r s)
+  read-through place r s low sized calm = by-up (is_up place s) refl
+    where
+      by-up : (up : Bool) → is_up place s ≡ up
+          → Through s (cond up (Reads (place + 1) 4096 r.heard
+          ∷ heard_calls now place r.choice r.heard s) [])
+          (cond up (heard_events now place r.choice r.heard s) [])
+          (cond up (on_heard now place r.choice r.heard s) s)
+      by-up true is =
+          heard-through place r.choice r.heard s
+          (record { low = low; up = is; calm = calm place }) sized calm
+      by-up false is = stays-through s sized calm
+
+  pub line-through : (line : Option ProcessEvent) (s : Turning) → length s.noted.standings ≡ 8
+      → AreCalm s.noted.standings
+      → Through s (line_calls now line s) (line_events now line s) (with_line now line s)
+  line-through None s sized calm = stays-through s sized calm
+  line-through (Some event) s sized calm = then-through (Tells event) s sized tt
+
+  pub offer-through : (place : ℕ) (o : Offer) (s : Turning) → place < most
+      → length s.noted.standings ≡ 8 → AreCalm s.noted.standings
+      → Through s (offer_calls now place o s) (offer_events now place o s)
+      (offer_one now place o s)
+  offer-through place o s low sized calm =
+      by-standing (is_leaving (standing_of place s)) (is_up place s) made.failed refl refl offered
+    where
+      made : Offered
+      made = offer_of place o s
+
+      offered : Offering place (queue_of place s) made.left made.failed made.calls
+      offered = offering place (queue_of place s) o.takes o.fails
+
+      by-standing : (leaving up failed : Bool) → is_leaving (standing_of place s) ≡ leaving
+          → is_up place s ≡ up → Offering place (queue_of place s) made.left failed made.calls
+          → Through s (cond leaving (made.calls ++ Closes (place + 1) ∷ [])
+          (cond up (made.calls ++ offer_end now place failed s) []))
+          (cond leaving [] (cond up (failed_events now place failed s) []))
+          (cond leaving (after_parting place s) (cond up (cond failed
+          (after_settling now (cut_off now closing.LinkFailed place s))
+          (with_queue place made.left s)) s))
+      by-standing true up failed is open_is m = record {
+        leads = subst (λ l. Leads s l [] (after_parting place s))
+            (append-nil (made.calls ++ Closes (place + 1) ∷ []))
+            (Goes (Parts place made.calls) s [] [] (after_parting place s) sized
+            (record { leaves = is; left = made.left; failed = failed; offered = m })
+            (Stays (after_parting place s)));
+        sized = length-set s.noted.standings place Gone ∙ sized;
+        calm = goes-calm s.noted.standings place calm;
+      }
+      by-standing false true true is open_is m =
+          let t : Turning = cut_off now closing.LinkFailed place s in
+          subst (λ l. Through s l (closing_of place ∷ settled_events now t) (after_settling now t))
+          (append_assoc made.calls (Closes (place + 1) ∷ []) (settling now t))
+          (then-through (Breaks place made.calls) s sized (
+            made.left,
+            record {
+              is_open = record { low = low; up = open_is; calm = calm place };
+              offered = m;
+            },
+          ))
+      by-standing false true false is open_is m = record {
+        leads = Goes (Offers place made.calls made.left) s [] [] (with_queue place made.left s)
+            sized
+            (record {
+              is_open = record { low = low; up = open_is; calm = calm place };
+              offered = m;
+            })
+            (Stays (with_queue place made.left s));
+        sized = sized;
+        calm = calm;
+      }
+      by-standing false false failed is open_is m = stays-through s sized calm
+
+  pub each-through : {C : Type 0} (f : ℕ → C → Turning → Turning)
+      (calls : ℕ → C → Turning → List Call) (events : ℕ → C → Turning → List ChosenEvent)
+      → ((place : ℕ) (c : C) (s : Turning) → place < most → length s.noted.standings ≡ 8
+      → AreCalm s.noted.standings → Through s (calls place c s) (events place c s) (f place c s))
+      → (place : ℕ) (cs : List C) (s : Turning) → place + length cs ≤ most
+      → length s.noted.standings ≡ 8 → AreCalm s.noted.standings
+      → Through s (calls_of_each f calls place cs s) (events_of_each f events place cs s)
+      (after_each f place cs s)
+  each-through f calls events step place [] s few sized calm = stays-through s sized calm
+  each-through f calls events step place (c ∷ cs) s few sized calm =
+      let t : Turning = f place c s in
+      let m = step place c s (omega arith) sized calm in
+      through-both s t (after_each f (place + 1) cs t) (calls place c s)
+      (calls_of_each f calls (place + 1) cs t) (events place c s)
+      (events_of_each f events (place + 1) cs t) m
+      (each-through f calls events step (place + 1) cs t (omega arith) m.sized m.calm)
+
+  -- ---- a whole turn
+
+  -- before the first act: the connection that waited was taken and opened, or none
+  pub data Begins (h : Held) : Turning → List Call → List ChosenEvent → Type 0 where
+    Quietly : Begins h (turn_begin h) [] []
+    Opening : (place : ℕ) (from : SocketAddrV4) → free_place h ≡ Some place
+        → Begins h (after_opening now place (turn_begin h))
+        (Accepts (place + 1) (Some (Some from)) ∷ []) (surely (Open (place + 1)) ∷ [])
+
+  -- a beginning, and acts behind it
+  pub record Turned (h : Held) (taken : Option (Option SocketAddrV4)) (c : List Call)
+      (e : List ChosenEvent) (t : Turning) : Type 0 where
+    pub start : Turning
+    pub calls : List Call
+    pub events : List ChosenEvent
+    pub begins : Begins h start calls events
+    pub more : List Call
+    pub further : List ChosenEvent
+    pub through : Through start more further t
+    pub opens : (place : ℕ) (from : SocketAddrV4) → free_place h ≡ Some place
+        → taken ≡ Some (Some from) → start ≡ after_opening now place (turn_begin h)
+    pub calls_are : calls ++ more ≡ c
+    pub events_are : events ++ further ≡ e
+
+  pub opening-sized : (place : ℕ) (h : Held)
+      → length (after_opening now place (turn_begin h)).noted.standings ≡ 8
+  opening-sized place h =
+      keep-stepped (λ n. length n.standings ≡ 8)
+      (λ q n sized. length-set n.standings q (after_full (standing_in q n)) ∙ sized) now
+      (Open (place + 1)) (turn_begin h) refl
+
+  -- nothing is opened
+  quiet-turned : (h : Held) (taken : Option (Option SocketAddrV4)) (calls : List Call)
+      → Through (turn_begin h) calls [] (turn_begin h)
+      → ((place : ℕ) (from : SocketAddrV4) → free_place h ≡ Some place
+      → taken ≡ Some (Some from) → ⊥)
+      → Turned h taken calls [] (turn_begin h)
+  quiet-turned h taken calls through none = record {
+    start = turn_begin h;
+    calls = [];
+    events = [];
+    begins = Quietly;
+    more = calls;
+    further = [];
+    through = through;
+    opens = λ place from free took. absurd (none place from free took);
+    calls_are = refl;
+    events_are = refl;
+  }
+
+  begun-calm : (h : Held) → AreCalm (turn_begin h).noted.standings
+  begun-calm h i = ap is_full (all-steady i)
+
+  pub accept-turned : (h : Held) (place : Option ℕ) (taken : Option (Option SocketAddrV4))
+      → free_place h ≡ place
+      → Turned h taken (accept_calls_at now place taken (turn_begin h))
+      (accept_events_at now place taken (turn_begin h)) (on_accept now place taken (turn_begin h))
+  accept-turned h None taken is =
+      quiet-turned h taken [] (stays-through (turn_begin h) refl (begun-calm h))
+      (λ q from free took. cc)
+  accept-turned h (Some place) None is =
+      quiet-turned h None (Accepts (place + 1) None ∷ [])
+      (asks-through (Accepts (place + 1) None) (turn_begin h) (accepts (place + 1) None) refl
+      (begun-calm h)) (λ q from free took. cc)
+  accept-turned h (Some place) (Some None) is =
+      quiet-turned h (Some None) (Accepts (place + 1) (Some None) ∷ [])
+      (asks-through (Accepts (place + 1) (Some None)) (turn_begin h)
+      (accepts (place + 1) (Some None)) refl (begun-calm h)) (λ q from free took. cc)
+  accept-turned h (Some place) (Some (Some from)) is =
+      let t : Turning = after_opening now place (turn_begin h) in
+      record {
+        start = t;
+        calls = Accepts (place + 1) (Some (Some from)) ∷ [];
+        events = surely (Open (place + 1)) ∷ [];
+        begins = Opening place from is;
+        more = settling now t;
+        further = settled_events now t;
+        through = settled-through t (opening-sized place h);
+        opens = λ q from free took.
+            let same : place ≡ q = let f : Some place ≡ Some q = sym is ∙ free in cc in
+            ap (λ k. after_opening now k (turn_begin h)) same;
+        calls_are = refl;
+        events_are = refl;
+      }
+
+  then-turned : (h : Held) (taken : Option (Option SocketAddrV4)) (t u : Turning)
+      (c d : List Call) (e x : List ChosenEvent)
+      → Turned h taken c e t
+      → (length t.noted.standings ≡ 8 → AreCalm t.noted.standings → Through t d x u)
+      → Turned h taken (c ++ d) (e ++ x) u
+  then-turned h taken t u c d e x m n = record {
+    start = m.start;
+    calls = m.calls;
+    events = m.events;
+    begins = m.begins;
+    more = m.more ++ d;
+    further = m.further ++ x;
+    through = through-both m.start t u m.more d m.further x m.through
+        (n m.through.sized m.through.calm);
+    opens = m.opens;
+    calls_are = sym (append_assoc m.calls m.more d) ∙ ap (λ l. l ++ d) m.calls_are;
+    events_are = sym (append_assoc m.events m.further x) ∙ ap (λ l. l ++ x) m.events_are;
+  }
+
+  pub turn-is-acts : (given : Reported) (script : Script) (h : Held)
+      → length script.readings ≤ most → length script.offers ≤ most
+      → Turned h script.accepted (turn_calls now given script h) (turn_events now given script h)
+      (after_turn now given script h)
+  turn-is-acts given script h reads offers =
+      let s1 : Turning = after_accept now script h in
+      let z : Turning = after_first now given script h in
+      let s2 : Turning = after_reads now given script h in
+      let s3 : Turning = after_line now given script h in
+      let s4 : Turning = after_scan now given script h in
+      then-turned h script.accepted s4 (after_turn now given script h) _ _ _ _
+      (then-turned h script.accepted s3 s4 _ _ _ _
+      (then-turned h script.accepted s2 s3 _ _ _ _
+      (then-turned h script.accepted z s2 _ _ _ _
+      (then-turned h script.accepted s1 z _ _ _ _
+      (accept-turned h (free_place h) script.accepted refl)
+      (line-through (first_of given) s1))
+      (each-through (read_one now) (read_calls now) (read_events now) read-through 0 script.readings
+      z (omega (arith, reads))))
+      (line-through given.event s2))
+      (λ sized calm. then-through Scans s3 sized tt))
+      (each-through (offer_one now) (offer_calls now) (offer_events now) offer-through 0
+      script.offers s4 (omega (arith, offers)))
+
+-- ---- an invariant
+
+-- What holds of the calls, the events and the answers up to here, and of a turn under way.
+abbrev pub Invariant : Type 1
+Invariant = List Call → List ChosenEvent → List (Result Step StepFault) → Turning → Type 0
+
+-- the answers to events, from a device on
+abbrev pub answers_to : ℕ → List ChosenEvent → Turning → List (Result Step StepFault)
+answers_to now e s = (done_at now e s.server.device).answers
+
+module _ (now most : ℕ) where
+  begins-device : (h : Held) (s : Turning) (c : List Call) (e : List ChosenEvent)
+      → Begins now most h s c e → s.server.device ≡ (done_at now e h.device).after
+  begins-device h s c e Quietly = refl
+  begins-device h s c e (Opening place from free) =
+      let o = outcome None now (Open (place + 1)) h.device in
+      (put_quiet-same o.answer (with_device o.after (turn_begin h))).device
+
+  pub leads-device : (s t : Turning) (c : List Call) (e : List ChosenEvent) → Leads now most s c e t
+      → t.server.device ≡ (done_at now e s.server.device).after
+  leads-device s t c e (Stays v) = refl
+  leads-device s t c e (Goes a v c1 e1 w sized can l) =
+      leads-device (after now a v) w c1 e1 l
+      ∙ ap (λ d. (done_at now e1 d).after) (device-act now most a v)
+      ∙ sym (done-append now (events_by a) e1 v.server.device).after
+
+  -- the device after a turn is that of its events
+  pub turned-device : (h : Held) (taken : Option (Option SocketAddrV4)) (t : Turning)
+      (c : List Call) (e : List ChosenEvent) → Turned now most h taken c e t
+      → t.server.device ≡ (done_at now e h.device).after
+  turned-device h taken t c e m =
+      leads-device m.start t m.more m.further m.through.leads
+      ∙ ap (λ d. (done_at now m.further d).after)
+      (begins-device h m.start m.calls m.events m.begins)
+      ∙ sym (done-append now m.events m.further h.device).after
+      ∙ ap (λ l. (done_at now l h.device).after) m.events_are
+
+module _ (now most : ℕ) (I : Invariant) where
+  same-log : (c d : List Call) (e x : List ChosenEvent) (a b : List (Result Step StepFault))
+      (t : Turning) → c ≡ d → e ≡ x → a ≡ b → I c e a t → I d x b t
+  same-log c d e x a b t f g k i =
+      subst (λ l. I d x l t) k (subst (λ l. I d l a t) g (subst (λ l. I l e a t) f i))
+
+  -- each act keeps it
+  abbrev pub IsKept : Type 0
+  IsKept = (a : Act) (c : List Call) (e : List ChosenEvent) (r : List (Result Step StepFault))
+      (s : Turning) → length s.noted.standings ≡ 8 → Can most a s → I c e r s
+      → I (c ++ calls_by a) (e ++ events_by a) (r ++ answers_to now (events_by a) s) (after now a s)
+
+  module _ (kept : IsKept) where
+    leads-keep : (s t : Turning) (c : List Call) (e : List ChosenEvent) → Leads now most s c e t
+        → (d : List Call) (x : List ChosenEvent) (r : List (Result Step StepFault)) → I d x r s
+        → I (d ++ c) (x ++ e) (r ++ answers_to now e s) t
+    leads-keep s t c e (Stays v) d x r i =
+        same-log d (d ++ []) x (x ++ []) r (r ++ []) v (sym (append-nil d)) (sym (append-nil x))
+        (sym (append-nil r)) i
+    leads-keep s t c e (Goes a v c1 e1 w sized can l) d x r i =
+        let u : Turning = after now a v in
+        let here = answers_to now (events_by a) v in
+        let both = done-append now (events_by a) e1 v.server.device in
+        same-log ((d ++ calls_by a) ++ c1) _ ((x ++ events_by a) ++ e1) _
+        ((r ++ here) ++ answers_to now e1 u) _ w (append_assoc d (calls_by a) c1)
+        (append_assoc x (events_by a) e1)
+        (append_assoc r here (answers_to now e1 u) ∙ ap (λ l. r ++ l)
+        (ap (λ f. here ++ (done_at now e1 f).answers) (device-act now most a v)
+        ∙ sym both.answers))
+        (leads-keep u w c1 e1 l (d ++ calls_by a) (x ++ events_by a) (r ++ here)
+        (kept a d x r v sized can i))
+
+    -- what holds where a turn begins holds at its end
+    pub turned-keeps : (h : Held) (taken : Option (Option SocketAddrV4)) (t : Turning)
+        (c : List Call) (e : List ChosenEvent) (m : Turned now most h taken c e t)
+        → I m.calls m.events (done_at now m.events h.device).answers m.start
+        → I c e (done_at now e h.device).answers t
+    turned-keeps h taken t c e m i =
+        let first = (done_at now m.events h.device).answers in
+        let both = done-append now m.events m.further h.device in
+        same-log (m.calls ++ m.more) c (m.events ++ m.further) e _ _ t m.calls_are m.events_are
+        (ap (λ d. first ++ (done_at now m.further d).answers)
+        (begins-device now most h m.start m.calls m.events m.begins) ∙ sym both.answers
+        ∙ ap (λ l. (done_at now l h.device).answers) m.events_are)
+        (leads-keep m.start t m.more m.further m.through.leads m.calls m.events first i)
+
+-- ---- notes
+
+module _ (now most : ℕ) (P : Noted → Type 0) (k : IsNoted most Each P) where
+  pub keep-leads : (s t : Turning) (c : List Call) (e : List ChosenEvent) → Leads now most s c e t
+      → P s.noted → P t.noted
+  keep-leads s t c e (Stays v) p = p
+  keep-leads s t c e (Goes a v c1 e1 w sized can l) p =
+      keep-leads (after now a v) w c1 e1 l
+      (keep-act most Each P k now a v can (all-concern Each (λ place. tt) a)
+      (record { sized = sized; holds = p })).holds
+
+  keep-begins : (h : Held) (s : Turning) (c : List Call) (e : List ChosenEvent)
+      → Begins now most h s c e → P nothing_noted → Kept P s.noted
+  keep-begins h s c e Quietly p = record { sized = refl; holds = p }
+  keep-begins h s c e (Opening place from free) p =
+      keep-stepped (Kept P) (fills-kept most Each P k now) now (Open (place + 1)) (turn_begin h)
+      (record { sized = refl; holds = p })
+
+  pub keep-turn : (h : Held) (taken : Option (Option SocketAddrV4)) (t : Turning)
+      (c : List Call) (e : List ChosenEvent) → Turned now most h taken c e t → P nothing_noted
+      → P t.noted
+  keep-turn h taken t c e m p =
+      keep-leads m.start t m.more m.further m.through.leads
+      (keep-begins h m.start m.calls m.events m.begins p).holds
