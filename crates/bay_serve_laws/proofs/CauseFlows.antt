@@ -1,5 +1,5 @@
 -- What a turn tells of one association has its cause, act by act.
-use Rattle.std.proofs.Common.{Bool, Err, List, None, Ok, Option, Result, [], ap, append-nil, arith, false, inl, inr, length, refl, subst, sym, true, ℕ, ◌&&◌, ◌++◌, ◌+◌, ◌<◌, ◌==◌, ◌||◌, ◌∷◌, ◌≡◌, ◌≢◌, ◌≤◌}
+use Rattle.std.proofs.Common.{Bool, Err, List, None, Ok, Result, [], ap, append-nil, arith, false, inl, inr, length, refl, subst, sym, true, ℕ, ◌&&◌, ◌++◌, ◌+◌, ◌<◌, ◌==◌, ◌||◌, ◌∷◌, ◌≡◌, ◌≢◌, ◌≤◌}
 use Rattle.std.proofs.lemmas.Bool.{cases_eq}
 use Rattle.bay_device.specs.Outcomes.{last_moment, outcome}
 use Rattle.bay_device.specs.Steps.{IsWithoutOctets}

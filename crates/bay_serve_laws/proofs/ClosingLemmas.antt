@@ -17,7 +17,6 @@ use Rattle.bay_serve.specs.declared.told.Closing.{Closing}
 use Rattle.bay_serve.specs.declared.told.Closing.TheVariants as closing
 use Rattle.bay_serve_laws.specs.Causes.{reason_in, reasons_of}
 use Rattle.bay_serve_laws.specs.Telling.{closed_in}
-use Rattle.bay_serve_laws.proofs.Acts.{after}
 use Rattle.bay_serve_laws.proofs.CallLemmas.{other-number}
 use Rattle.bay_serve_laws.proofs.CarryLemmas.{MayLose}
 use Rattle.bay_serve_laws.proofs.KeepLemmas.{Each, IsNoted}

@@ -16,7 +16,7 @@ use Rattle.bay_serve.specs.declared.process.Reported.{Reported}
 use Rattle.bay_serve.specs.declared.standing.Standing.TheVariants.{Full, Steady}
 use Rattle.bay_serve.specs.declared.told.Closing.{Closing}
 use Rattle.bay_serve.specs.declared.told.Closing.TheVariants as closing
-use Rattle.bay_serve_laws.specs.Causes.{fails_for, has_reason, has_some, is_queue_full, tells}
+use Rattle.bay_serve_laws.specs.Causes.{fails_for, has_some, is_queue_full, tells}
 use Rattle.bay_serve_laws.specs.Events.{ChosenEvent, accept_events, accept_events_at, closing_of, done_at, events_of_each, failed_events, heard_events, line_events, offer_events, read_events, scan_events, settled_events, settled_in_events, settled_next_events}
 use Rattle.bay_serve_laws.specs.Order.{AreClosings, AreInOrder, IsClosing, IsInOrder, Then, ThenReads, brought, opened_at, read_at, told_at}
 use Rattle.bay_serve_laws.proofs.Acts.{Act, Breaks, Can, Fills, HangsUp, Hears, IsOpenAt, Scans, Tells, after, broken, events_by}

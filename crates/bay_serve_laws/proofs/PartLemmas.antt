@@ -15,7 +15,7 @@ use Rattle.bay_serve.specs.Turns.{Held, Noted, Script, Turning, after_event, aft
 use Rattle.bay_serve.specs.declared.process.Reported.{Reported}
 use Rattle.bay_serve.specs.declared.told.Closing.{Closing}
 use Rattle.bay_serve.specs.declared.told.Closing.TheVariants as closing
-use Rattle.bay_serve_laws.specs.Causes.{has_some, tells}
+use Rattle.bay_serve_laws.specs.Causes.{has_some}
 use Rattle.bay_serve_laws.specs.Events.{ChosenEvent, closing_of, commands_in, commands_of, done_at, surely, turn_events}
 use Rattle.bay_serve_laws.specs.Faults.{is_link_failed, tells_failure}
 use Rattle.bay_serve_laws.proofs.Acts.{Act, Asks, Breaks, Can, Fills, HangsUp, Hears, Offers, Parts, Scans, Tells, after, calls_by, events_by}

@@ -11,7 +11,6 @@ use Rattle.bay_trace.specs.Placing.{lying}
 use Rattle.bay_serve.specs.Calls.{Call, Closes}
 use Rattle.bay_serve.specs.Standings.{is_full, is_leaving}
 use Rattle.bay_serve.specs.Turns.{Held, Script, Turning, after_event, after_opening, after_parting, after_scan, after_turn, cut_off, event_of, hung_up, is_up, leaves, put_answer, queue_at, queue_of, standing_of, told_of, turn_begin, turn_calls, with_device, with_noted, with_queue}
-use Rattle.bay_serve.specs.declared.process.ProcessEvent.{ProcessEvent}
 use Rattle.bay_serve.specs.declared.process.Reported.{Reported}
 use Rattle.bay_serve.specs.declared.standing.Standing.{Standing}
 use Rattle.bay_serve.specs.declared.standing.Standing.TheVariants.{Full, Gone, Leaving, LeavingFull, Steady}

@@ -1,5 +1,5 @@
 -- Where a turn tells that the queue of an association was full, by octets alone.
-use Rattle.std.specs.Prelude.{◌≡◌, ℕ, ◌+◌, ◌<◌, ◌↔◌, ◌⊎◌, Bool, true, false, List, [], length, Option, Some}
+use Rattle.std.specs.Prelude.{◌≡◌, ℕ, ◌+◌, ◌<◌, ◌↔◌, ◌⊎◌, Bool, true, false, List, [], length, Some}
 use Rattle.std.specs.declared.net.socket_addr.SocketAddrV4.{SocketAddrV4}
 use Rattle.bay_device.specs.declared.event.Why.{Why}
 use Rattle.bay_serve.specs.Turns.{Held, Script, free_place, is_up_in, queue_at, turn_calls, after_turn}
