@@ -16,9 +16,9 @@ use Rattle.bay_serve_laws.proofs.CallLemmas.{Offering, SayNothing, and-no, and-t
 
 -- A call brings nothing, and nothing happens; octets of an association are heard, with where memory
 -- was refused; its client hangs up; what happens to the process is told; the program runs; an
--- association is closed to which a reply did not fit; one is closed of which the last of these calls
--- failed; what is to be sent to one is offered, by these calls, and so much is left; and that is
--- done for the last time.
+-- association is closed to which a reply did not fit; one is closed of which the last of these
+-- calls failed; what is to be sent to one is offered, by these calls, and so much is left; and that
+-- is done for the last time.
 pub data Act : Type 0 where
   Asks : Call → Act
   Hears : ℕ → Option ℕ → List ℕ → Act

@@ -19,8 +19,6 @@ use Rattle.bay_serve_laws.proofs.SameLemmas.{Same, put_quiet-same}
 use Rattle.bay_serve_laws.proofs.TellsLemmas.{full-by, stepped-closed, told-other}
 use Rattle.bay_serve_laws.proofs.UpLemmas.{close-outcome-far, close-outcome-here, outcome-moment, up_at}
 
--- ---- how associations stand
-
 -- ---- an association that is closed at once, seen from one of them
 
 -- notes with the same standings, in which it is told no more that the queue was full

@@ -142,7 +142,8 @@ left_by-here most now p held taken sent (Some closed) d s h c before o left =
 
 pub ready-here : (most now p : ℕ) (held taken sent : List ℕ) (answer : Result Step StepFault)
     (d : State) (s : Turning) → p < 8 → Carried now p held taken sent s → d.moment ≤ now
-    → IsOpenAt most p s → HeardOpen p answer d → Marked now p p held taken sent answer (with_device d s)
+    → IsOpenAt most p s → HeardOpen p answer d
+    → Marked now p p held taken sent answer (with_device d s)
 ready-here most now p held taken sent (Err fault) d s h c before o left =
     device-carried now p held taken sent d s before (left ∙ sym o.up) c
 ready-here most now p held taken sent (Ok step) d s h c before o left =

@@ -26,7 +26,7 @@ use Rattle.bay_serve_laws.proofs.OfferFlows.{cut-here, each-left, kept-here, par
 use Rattle.bay_serve_laws.proofs.QuietLemmas.{outcome-quiet, process-quiet}
 use Rattle.bay_serve_laws.proofs.ReadFlows.{Marked, answer-carried, begun-carried, left-carried, left_by-far, ready-far, ready-here}
 use Rattle.bay_serve_laws.proofs.UpLemmas.{close-outcome-far, close-outcome-here, open-outcome-up, outcome-moment, process-outcome-up, recv-outcome-far, recv-outcome-here, scan-outcome-up, up_at}
-use Rattle.bay_serve_laws.proofs.WalkLemmas.{Begins, Invariant, IsKept, Opening, Quietly, answers_to, turn-is-acts, turned-keeps}
+use Rattle.bay_serve_laws.proofs.WalkLemmas.{Begins, Invariant, IsKept, Opening, Quietly, answers_to, before, turn-is-acts, turned-keeps}
 
 -- what is carried, by the calls and the answers up to here
 abbrev pub Flowing : ℕ → ℕ → List ℕ → Invariant
@@ -96,7 +96,8 @@ module _ (most now p : ℕ) (held : List ℕ) (low : p < 8) (past : now ≤ last
           (device-carried now p held t u o.after s (moment choice (Recv (i + 1) (lying octets)))
           (recv-outcome-far choice now i p octets s.server.device ne) c)))
         where
-          answered : (q : ℕ) (o : Outcome) → Marked now p q held t u o.answer (with_device o.after s)
+          answered : (q : ℕ) (o : Outcome)
+              → Marked now p q held t u o.answer (with_device o.after s)
               → Carried now p held (t ++ []) (u ++ (answer_to (p + 1) o.answer ++ []))
               (put_answer q o.answer (with_device o.after s))
           answered q o r =
@@ -238,7 +239,7 @@ loses-nothing now given script h tidy time offers =
             rest = queue_of p t ++ f.lost;
             is = f.is;
             kept = kept-at (standing_of p t) (is_up p t) (queue_of p t) f.lost f.may
-                (m.through.calm p) (left p low);
+                (m.passes.calm p) (left p low);
           };
       full = λ p low told. longer-behind 262144 (queue_of p t) (flowing p low).carries.lost
           ((flowing p low).full told);
@@ -247,6 +248,6 @@ loses-nothing now given script h tidy time offers =
         empty = λ p low down.
             let f = (flowing p low).carries in
             empty-at (standing_of p t) (is_up p t) (queue_of p t) f.lost f.may
-            (m.through.calm p) (left p low) down;
+            (m.passes.calm p) (left p low) down;
       };
     }

@@ -1,6 +1,8 @@
 -- A turn is acts, one after the other.
 use Rattle.std.proofs.Common.{Bool, List, None, Option, Result, Some, [], ap, append-nil, append_assoc, arith, cond, false, length, refl, subst, suc, sym, true, zero, ℕ, ◌++◌, ◌+◌, ◌<◌, ◌∙◌, ◌∷◌, ◌≡◌, ◌≤◌}
+use Rattle.std.proofs.lemmas.Bool.{or_left}
 use Rattle.std.proofs.lemmas.List.{length-set}
+use Rattle.std.proofs.lemmas.List.Elements.{All-cons, All-nil}
 use Rattle.std.proofs.lemmas.List.Quantifiers.{position-Some}
 use Rattle.std.specs.declared.net.socket_addr.SocketAddrV4.{SocketAddrV4}
 use Rattle.bay_device.specs.Outcomes.{outcome}
@@ -11,20 +13,51 @@ use Rattle.bay_device.specs.declared.fault.StepFault.{StepFault}
 use Rattle.bay_trace.specs.Placing.{lying}
 use Rattle.bay_serve.specs.Calls.{Accepts, Broken, Call, Closes, Octets, Over, ReadOutcome, Reads, Silence}
 use Rattle.bay_serve.specs.Offers.{Offer, Offered}
-use Rattle.bay_serve.specs.Standings.{after_full, is_full, is_leaving}
-use Rattle.bay_serve.specs.Turns.{Held, Noted, Reading, Script, Turning, accept_calls_at, after_accept, after_each, after_first, after_line, after_opening, after_parting, after_reads, after_scan, after_settling, after_turn, calls_of_each, cut_off, event_of, first_full, first_of, free_place, heard_calls, is_up, leaves, line_calls, nothing_noted, offer_calls, offer_end, offer_of, offer_one, on_accept, on_heard, queue_of, read_calls, read_one, settled_in, settled_next, settling, settling_in, settling_next, standing_in, standing_of, turn_begin, turn_calls, with_device, with_line, with_noted, with_queue}
+use Rattle.bay_serve.specs.Standings.{after_full, is_full, is_leaving, is_told}
+use Rattle.bay_serve.specs.Turns.{Held, Noted, Reading, Script, Turning, accept_calls_at, after_accept, after_each, after_event, after_first, after_line, after_opening, after_parting, after_reads, after_scan, after_settling, after_turn, calls_of_each, cut_off, event_of, first_full, first_of, free_place, heard_calls, is_up, leaves, line_calls, nothing_noted, offer_calls, offer_end, offer_of, offer_one, on_accept, on_heard, queue_of, read_calls, read_one, settled_in, settled_next, settling, settling_in, settling_next, standing_in, standing_of, turn_begin, turn_calls, with_device, with_line, with_noted, with_queue}
 use Rattle.bay_serve.specs.declared.process.ProcessEvent.{ProcessEvent}
 use Rattle.bay_serve.specs.declared.process.Reported.{Reported}
-use Rattle.bay_serve.specs.declared.standing.Standing.TheVariants.{Gone, Steady}
+use Rattle.bay_serve.specs.declared.standing.Standing.TheVariants.{Full, Gone, Steady}
+use Rattle.bay_serve.specs.declared.told.Closing.{Closing}
 use Rattle.bay_serve.specs.declared.told.Closing.TheVariants as closing
+use Rattle.bay_serve_laws.specs.Causes.{is_queue_full, tells}
 use Rattle.bay_serve_laws.specs.Events.{ChosenEvent, accept_events_at, closing_of, done_at, events_of_each, failed_events, heard_events, line_events, offer_events, read_events, settled_events, settled_in_events, settled_next_events, surely, turn_events}
+use Rattle.bay_serve_laws.specs.Order.{AreClosings, IsClosing, brought, read_at, told_at}
 use Rattle.bay_serve_laws.proofs.Acts.{Act, Asks, Breaks, Can, Fills, HangsUp, Hears, IsIdle, IsOpenAt, Offers, Parts, Scans, Tells, accepts, after, broken, calls_by, events_by, silent}
-use Rattle.bay_serve_laws.proofs.CallLemmas.{Offering, offering}
-use Rattle.bay_serve_laws.proofs.CalmLemmas.{cut-device, settled-calm}
+use Rattle.bay_serve_laws.proofs.CallLemmas.{Offering, offering, some-append}
+use Rattle.bay_serve_laws.proofs.CalmLemmas.{closing-puts, cut-device, settled-calm}
+use Rattle.bay_serve_laws.proofs.ClosingLemmas.{Grown, Grown-refl, Grown-trans, grown-kept}
 use Rattle.bay_serve_laws.proofs.DoneLemmas.{done-append}
 use Rattle.bay_serve_laws.proofs.KeepLemmas.{Each, IsNoted, Kept, all-concern, fills-kept, keep-act, keep-stepped}
+use Rattle.bay_serve_laws.proofs.PutLemmas.{Puts}
 use Rattle.bay_serve_laws.proofs.SameLemmas.{put_answer-commands, put_quiet-same, put_told-same}
 use Rattle.bay_serve_laws.proofs.StandingLemmas.{AreCalm, all-steady, full-is, goes-calm}
+use Rattle.bay_serve_laws.proofs.TellsLemmas.{tells-now}
+
+-- ---- what is told in the end
+
+-- what was told at some place is told in the end
+tells-later : (is : Closing → Bool) (a : ℕ) (n m : Noted) → Grown n m → tells is a n.closed ≡ true
+    → tells is a m.closed ≡ true
+tells-later is a n m g e =
+    ap (tells is a) g.closed ∙ some-append _ n.closed g.closings
+    ∙ or_left (tells is a n.closed) (tells is a g.closings) e
+
+-- of an association that is closed since its queue is full it is told
+cut-told : (now place : ℕ) (s : Turning) → standing_of place s ≡ Full
+    → tells is_queue_full (place + 1) (cut_off now closing.QueueFull place s).noted.closed ≡ true
+unfolding cut_off
+cut-told now place s full =
+    let t : Turning = after_event now (Close (place + 1)) s in
+    let puts : Puts s t = closing-puts now place s in
+    entry (is_told (standing_in place t.noted)) t.noted (ap is_told (puts.fills.full place full))
+  where
+    entry : (b : Bool) (n : Noted) → b ≡ false
+        → tells is_queue_full (place + 1)
+        (cond b n (record n { closed = n.closed ++ (place + 1, closing.QueueFull) ∷ [] })).closed
+        ≡ true
+    entry true n e = absurd (cc)
+    entry false n e = tells-now is_queue_full place closing.QueueFull n.closed refl
 
 -- ---- one act after the other
 
@@ -87,98 +120,158 @@ module _ (now most : ℕ) where
   device-act (Offers place calls left) s = refl
   device-act (Parts place calls) s = refl
 
+  -- what acts come to is told in the end
+  pub before : (final : Noted) (s t : Turning) (c : List Call) (e : List ChosenEvent)
+      → Leads s c e t → Grown t.noted final → Grown s.noted final
+  before final s t c e (Stays v) whole = whole
+  before final s t c e (Goes a v c1 e1 w sized can l) whole =
+      let u : Turning = after now a v in
+      Grown-trans v.noted u.noted final
+      (keep-act most Each (Grown v.noted) (grown-kept most v.noted) now a v can
+      (all-concern Each (λ place. tt) a)
+      (record { sized = sized; holds = Grown-refl v.noted })).holds
+      (before final u w c1 e1 l whole)
+
   -- ---- the parts of a turn
 
-  -- acts, behind which each reply fitted that is still to be sent
-  pub record Through (s : Turning) (c : List Call) (e : List ChosenEvent) (t : Turning)
+  -- each of the events closes an association of which it is told in the end that its queue was full
+  abbrev pub Cut : Noted → List ChosenEvent → Type 0
+  Cut final = AreClosings (λ a. tells is_queue_full a final.closed)
+
+  record Settles (s : Turning) (c : List Call) (e : List ChosenEvent) (t : Turning)
       : Type 0 where
-    pub leads : Leads s c e t
-    pub sized : length t.noted.standings ≡ 8
-    pub calm : AreCalm t.noted.standings
+    leads : Leads s c e t
+    closes : (final : Noted) → Grown t.noted final → Cut final e
 
-  pub through-both : (s t u : Turning) (c d : List Call) (e x : List ChosenEvent) → Through s c e t
-      → Through t d x u → Through s (c ++ d) (e ++ x) u
-  through-both s t u c d e x m n = record {
-    leads = both-lead s t u c d e x m.leads n.leads;
-    sized = n.sized;
-    calm = n.calm;
-  }
-
-  pub next-leads : (o : Option ℕ) (s : Turning) (f : Turning → Turning) (calls : Turning → List Call)
-      (events : Turning → List ChosenEvent) → first_full s.noted ≡ o
+  next-settles : (o : Option ℕ) (s : Turning) (f : Turning → Turning)
+      (calls : Turning → List Call) (events : Turning → List ChosenEvent) → first_full s.noted ≡ o
       → length s.noted.standings ≡ 8
-      → ((t : Turning) → length t.noted.standings ≡ 8 → Leads t (calls t) (events t) (f t))
-      → Leads s (settling_next now o s calls) (settled_next_events now o s events)
+      → ((t : Turning) → length t.noted.standings ≡ 8 → Settles t (calls t) (events t) (f t))
+      → Settles s (settling_next now o s calls) (settled_next_events now o s events)
       (settled_next now o s f)
-  next-leads None s f calls events is sized more = Stays s
-  next-leads (Some place) s f calls events is sized more =
+  next-settles None s f calls events is sized more =
+      record { leads = Stays s; closes = λ final whole. All-nil (IsClosing _) }
+  next-settles (Some place) s f calls events is sized more =
       let found = position-Some is_full s.noted.standings place Steady is in
+      let full = full-is (standing_of place s) found.1 in
       let t : Turning = cut_off now closing.QueueFull place s in
-      let can : Can most (Fills place) s = (
-        subst (λ (k : ℕ). place < k) sized found.0,
-        full-is (standing_of place s) found.1,
-      ) in
-      Goes (Fills place) s (calls t) (events t) (f t) sized can
-      (more t (sized-act (Fills place) s can sized))
+      let can : Can most (Fills place) s =
+      (subst (λ (k : ℕ). place < k) sized found.0, full) in
+      let later = more t (sized-act (Fills place) s can sized) in
+      record {
+        leads = Goes (Fills place) s (calls t) (events t) (f t) sized can later.leads;
+        closes = λ final whole.
+            let is_one : IsClosing (λ a. tells is_queue_full a final.closed) (closing_of place) = (
+              place + 1,
+              refl,
+              tells-later is_queue_full (place + 1) t.noted final
+                  (before final t (f t) (calls t) (events t) later.leads whole)
+                  (cut-told now place s full),
+            ) in
+            All-cons (IsClosing (λ a. tells is_queue_full a final.closed)) (closing_of place)
+            (events t) is_one (later.closes final whole);
+      }
 
-  pub settled_in-leads : (count : ℕ) (s : Turning) → length s.noted.standings ≡ 8
-      → Leads s (settling_in now count s) (settled_in_events now count s) (settled_in now count s)
-  settled_in-leads zero s sized = Stays s
-  settled_in-leads (suc count) s sized =
-      next-leads (first_full s.noted) s (settled_in now count) (settling_in now count)
-      (settled_in_events now count) refl sized (settled_in-leads count)
+  settles-in : (count : ℕ) (s : Turning) → length s.noted.standings ≡ 8
+      → Settles s (settling_in now count s) (settled_in_events now count s) (settled_in now count s)
+  settles-in zero s sized =
+      record { leads = Stays s; closes = λ final whole. All-nil (IsClosing _) }
+  settles-in (suc count) s sized =
+      next-settles (first_full s.noted) s (settled_in now count) (settling_in now count)
+      (settled_in_events now count) refl sized (settles-in count)
 
-  pub settled-leads : (s : Turning) → length s.noted.standings ≡ 8
-      → Leads s (settling now s) (settled_events now s) (after_settling now s)
+  settles : (s : Turning) → length s.noted.standings ≡ 8
+      → Settles s (settling now s) (settled_events now s) (after_settling now s)
   unfolding after_settling settling settled_events
-  settled-leads s sized = settled_in-leads 8 s sized
+  settles s sized = settles-in 8 s sized
 
-  pub leads-sized : (s t : Turning) (c : List Call) (e : List ChosenEvent) → Leads s c e t
+  leads-sized : (s t : Turning) (c : List Call) (e : List ChosenEvent) → Leads s c e t
       → length s.noted.standings ≡ 8 → length t.noted.standings ≡ 8
   leads-sized s t c e (Stays v) sized = sized
   leads-sized s t c e (Goes a v c1 e1 w is can l) sized =
       leads-sized (after now a v) w c1 e1 l (sized-act a v can is)
 
+  -- acts, behind which each reply fitted that is still to be sent
+  pub record Passes (s : Turning) (c : List Call) (e : List ChosenEvent) (t : Turning)
+      : Type 0 where
+    pub leads : Leads s c e t
+    pub sized : length t.noted.standings ≡ 8
+    pub calm : AreCalm t.noted.standings
+
+  passes-both : (s t u : Turning) (c d : List Call) (e x : List ChosenEvent) → Passes s c e t
+      → Passes t d x u → Passes s (c ++ d) (e ++ x) u
+  passes-both s t u c d e x m n = record {
+    leads = both-lead s t u c d e x m.leads n.leads;
+    sized = n.sized;
+    calm = n.calm;
+  }
+
+  -- such acts, of which these events come first; behind them associations are closed
+  pub record Through (s : Turning) (first : List ChosenEvent) (c : List Call)
+      (e : List ChosenEvent) (t : Turning) : Type 0 where
+    pub passes : Passes s c e t
+    pub cut : List ChosenEvent
+    pub is : e ≡ first ++ cut
+    pub closes : (final : Noted) → Grown t.noted final → Cut final cut
+
   pub settled-through : (s : Turning) → length s.noted.standings ≡ 8
-      → Through s (settling now s) (settled_events now s) (after_settling now s)
+      → Through s [] (settling now s) (settled_events now s) (after_settling now s)
   settled-through s sized =
-      let l = settled-leads s sized in
+      let m = settles s sized in
       record {
-        leads = l;
-        sized = leads-sized s (after_settling now s) (settling now s) (settled_events now s) l
-            sized;
-        calm = settled-calm now s sized;
+        passes = record {
+          leads = m.leads;
+          sized = leads-sized s (after_settling now s) (settling now s) (settled_events now s)
+              m.leads sized;
+          calm = settled-calm now s sized;
+        };
+        cut = settled_events now s;
+        is = refl;
+        closes = m.closes;
       }
 
   -- an act, and what did not fit then
   pub then-through : (a : Act) (s : Turning) → length s.noted.standings ≡ 8 → Can most a s
-      → (let t : Turning = after now a s in Through s (calls_by a ++ settling now t)
+      → (let t : Turning = after now a s in Through s (events_by a) (calls_by a ++ settling now t)
       (events_by a ++ settled_events now t) (after_settling now t))
   then-through a s sized can =
       let t : Turning = after now a s in
       let m = settled-through t (sized-act a s can sized) in
       record {
-        leads = Goes a s (settling now t) (settled_events now t) (after_settling now t) sized can
-            m.leads;
-        sized = m.sized;
-        calm = m.calm;
+        passes = record {
+          leads = Goes a s (settling now t) (settled_events now t) (after_settling now t) sized can
+              m.passes.leads;
+          sized = m.passes.sized;
+          calm = m.passes.calm;
+        };
+        cut = m.cut;
+        is = ap (λ l. events_by a ++ l) m.is;
+        closes = m.closes;
       }
 
-  pub stays-through : (s : Turning) → length s.noted.standings ≡ 8 → AreCalm s.noted.standings
-      → Through s [] [] s
-  stays-through s sized calm = record { leads = Stays s; sized = sized; calm = calm }
+  -- one with no event, behind which no association is closed
+  quietly : (s t : Turning) (c : List Call) → Leads s c [] t → length t.noted.standings ≡ 8
+      → AreCalm t.noted.standings → Through s [] c [] t
+  quietly s t c leads sized calm = record {
+    passes = record { leads = leads; sized = sized; calm = calm };
+    cut = [];
+    is = refl;
+    closes = λ final whole. All-nil (IsClosing _);
+  }
+
+  stays-through : (s : Turning) → length s.noted.standings ≡ 8 → AreCalm s.noted.standings
+      → Through s [] [] [] s
+  stays-through s sized calm = quietly s s [] (Stays s) sized calm
 
   asks-through : (call : Call) (s : Turning) → IsIdle call → length s.noted.standings ≡ 8
-      → AreCalm s.noted.standings → Through s (call ∷ []) [] s
-  asks-through call s idle sized calm = record {
-    leads = Goes (Asks call) s [] [] s sized idle (Stays s);
-    sized = sized;
-    calm = calm;
-  }
+      → AreCalm s.noted.standings → Through s [] (call ∷ []) [] s
+  asks-through call s idle sized calm =
+      quietly s s (call ∷ []) (Goes (Asks call) s [] [] s sized idle (Stays s)) sized calm
 
   heard-through : (place : ℕ) (choice : Option ℕ) (heard : ReadOutcome) (s : Turning)
       → IsOpenAt most place s → length s.noted.standings ≡ 8 → AreCalm s.noted.standings
-      → Through s (Reads (place + 1) 4096 heard ∷ heard_calls now place choice heard s)
+      → Through s (brought (place + 1) choice heard)
+      (Reads (place + 1) 4096 heard ∷ heard_calls now place choice heard s)
       (heard_events now place choice heard s) (on_heard now place choice heard s)
   heard-through place choice (Octets octets) s up sized calm =
       then-through (Hears place choice octets) s sized up
@@ -191,11 +284,13 @@ module _ (now most : ℕ) where
 
   pub read-through : (place : ℕ) (r : Reading) (s : Turning) → place < most
       → length s.noted.standings ≡ 8 → AreCalm s.noted.standings
-      → Through s (read_calls now place r s) (read_events now place r s) (read_one now place r s)
+      → Through s (read_at place r s.server.device) (read_calls now place r s)
+      (read_events now place r s) (read_one now place r s)
   read-through place r s low sized calm = by-up (is_up place s) refl
     where
       by-up : (up : Bool) → is_up place s ≡ up
-          → Through s (cond up (Reads (place + 1) 4096 r.heard
+          → Through s (cond up (brought (place + 1) r.choice r.heard) [])
+          (cond up (Reads (place + 1) 4096 r.heard
           ∷ heard_calls now place r.choice r.heard s) [])
           (cond up (heard_events now place r.choice r.heard s) [])
           (cond up (on_heard now place r.choice r.heard s) s)
@@ -206,13 +301,20 @@ module _ (now most : ℕ) where
 
   pub line-through : (line : Option ProcessEvent) (s : Turning) → length s.noted.standings ≡ 8
       → AreCalm s.noted.standings
-      → Through s (line_calls now line s) (line_events now line s) (with_line now line s)
+      → Through s (told_at line) (line_calls now line s) (line_events now line s)
+      (with_line now line s)
   line-through None s sized calm = stays-through s sized calm
   line-through (Some event) s sized calm = then-through (Tells event) s sized tt
 
+  -- an association of which a write fails is closed
+  abbrev pub offered_first : ℕ → Offer → Turning → List ChosenEvent
+  offered_first place o s =
+      cond (is_leaving (standing_of place s)) []
+      (cond (is_up place s) (cond (offer_of place o s).failed (closing_of place ∷ []) []) [])
+
   pub offer-through : (place : ℕ) (o : Offer) (s : Turning) → place < most
       → length s.noted.standings ≡ 8 → AreCalm s.noted.standings
-      → Through s (offer_calls now place o s) (offer_events now place o s)
+      → Through s (offered_first place o s) (offer_calls now place o s) (offer_events now place o s)
       (offer_one now place o s)
   offer-through place o s low sized calm =
       by-standing (is_leaving (standing_of place s)) (is_up place s) made.failed refl refl offered
@@ -225,24 +327,25 @@ module _ (now most : ℕ) where
 
       by-standing : (leaving up failed : Bool) → is_leaving (standing_of place s) ≡ leaving
           → is_up place s ≡ up → Offering place (queue_of place s) made.left failed made.calls
-          → Through s (cond leaving (made.calls ++ Closes (place + 1) ∷ [])
+          → Through s (cond leaving [] (cond up (cond failed (closing_of place ∷ []) []) []))
+          (cond leaving (made.calls ++ Closes (place + 1) ∷ [])
           (cond up (made.calls ++ offer_end now place failed s) []))
           (cond leaving [] (cond up (failed_events now place failed s) []))
           (cond leaving (after_parting place s) (cond up (cond failed
           (after_settling now (cut_off now closing.LinkFailed place s))
           (with_queue place made.left s)) s))
-      by-standing true up failed is open_is m = record {
-        leads = subst (λ l. Leads s l [] (after_parting place s))
-            (append-nil (made.calls ++ Closes (place + 1) ∷ []))
-            (Goes (Parts place made.calls) s [] [] (after_parting place s) sized
-            (record { leaves = is; left = made.left; failed = failed; offered = m })
-            (Stays (after_parting place s)));
-        sized = length-set s.noted.standings place Gone ∙ sized;
-        calm = goes-calm s.noted.standings place calm;
-      }
+      by-standing true up failed is open_is m =
+          quietly s (after_parting place s) (made.calls ++ Closes (place + 1) ∷ [])
+          (subst (λ l. Leads s l [] (after_parting place s))
+          (append-nil (made.calls ++ Closes (place + 1) ∷ []))
+          (Goes (Parts place made.calls) s [] [] (after_parting place s) sized
+          (record { leaves = is; left = made.left; failed = failed; offered = m })
+          (Stays (after_parting place s)))) (length-set s.noted.standings place Gone ∙ sized)
+          (goes-calm s.noted.standings place calm)
       by-standing false true true is open_is m =
           let t : Turning = cut_off now closing.LinkFailed place s in
-          subst (λ l. Through s l (closing_of place ∷ settled_events now t) (after_settling now t))
+          subst (λ l. Through s (closing_of place ∷ []) l (closing_of place ∷ settled_events now t)
+          (after_settling now t))
           (append_assoc made.calls (Closes (place + 1) ∷ []) (settling now t))
           (then-through (Breaks place made.calls) s sized (
             made.left,
@@ -251,35 +354,50 @@ module _ (now most : ℕ) where
               offered = m;
             },
           ))
-      by-standing false true false is open_is m = record {
-        leads = Goes (Offers place made.calls made.left) s [] [] (with_queue place made.left s)
-            sized
-            (record {
-              is_open = record { low = low; up = open_is; calm = calm place };
-              offered = m;
-            })
-            (Stays (with_queue place made.left s));
-        sized = sized;
-        calm = calm;
-      }
+      by-standing false true false is open_is m =
+          quietly s (with_queue place made.left s) (made.calls ++ [])
+          (Goes (Offers place made.calls made.left) s [] [] (with_queue place made.left s) sized
+          (record {
+            is_open = record { low = low; up = open_is; calm = calm place };
+            offered = m;
+          }) (Stays (with_queue place made.left s))) sized calm
       by-standing false false failed is open_is m = stays-through s sized calm
 
-  pub each-through : {C : Type 0} (f : ℕ → C → Turning → Turning)
+  pub each-passes : {C : Type 0} (f : ℕ → C → Turning → Turning)
       (calls : ℕ → C → Turning → List Call) (events : ℕ → C → Turning → List ChosenEvent)
       → ((place : ℕ) (c : C) (s : Turning) → place < most → length s.noted.standings ≡ 8
-      → AreCalm s.noted.standings → Through s (calls place c s) (events place c s) (f place c s))
+      → AreCalm s.noted.standings → Passes s (calls place c s) (events place c s) (f place c s))
       → (place : ℕ) (cs : List C) (s : Turning) → place + length cs ≤ most
       → length s.noted.standings ≡ 8 → AreCalm s.noted.standings
-      → Through s (calls_of_each f calls place cs s) (events_of_each f events place cs s)
+      → Passes s (calls_of_each f calls place cs s) (events_of_each f events place cs s)
       (after_each f place cs s)
-  each-through f calls events step place [] s few sized calm = stays-through s sized calm
-  each-through f calls events step place (c ∷ cs) s few sized calm =
+  each-passes f calls events step place [] s few sized calm =
+      record { leads = Stays s; sized = sized; calm = calm }
+  each-passes f calls events step place (c ∷ cs) s few sized calm =
       let t : Turning = f place c s in
       let m = step place c s (omega arith) sized calm in
-      through-both s t (after_each f (place + 1) cs t) (calls place c s)
+      passes-both s t (after_each f (place + 1) cs t) (calls place c s)
       (calls_of_each f calls (place + 1) cs t) (events place c s)
       (events_of_each f events (place + 1) cs t) m
-      (each-through f calls events step (place + 1) cs t (omega arith) m.sized m.calm)
+      (each-passes f calls events step (place + 1) cs t (omega arith) m.sized m.calm)
+
+  pub reads-pass : (place : ℕ) (rs : List Reading) (s : Turning) → place + length rs ≤ most
+      → length s.noted.standings ≡ 8 → AreCalm s.noted.standings
+      → Passes s (calls_of_each (read_one now) (read_calls now) place rs s)
+      (events_of_each (read_one now) (read_events now) place rs s)
+      (after_each (read_one now) place rs s)
+  reads-pass =
+      each-passes (read_one now) (read_calls now) (read_events now)
+      (λ place r s low sized calm. (read-through place r s low sized calm).passes)
+
+  pub offers-pass : (place : ℕ) (os : List Offer) (s : Turning) → place + length os ≤ most
+      → length s.noted.standings ≡ 8 → AreCalm s.noted.standings
+      → Passes s (calls_of_each (offer_one now) (offer_calls now) place os s)
+      (events_of_each (offer_one now) (offer_events now) place os s)
+      (after_each (offer_one now) place os s)
+  offers-pass =
+      each-passes (offer_one now) (offer_calls now) (offer_events now)
+      (λ place o s low sized calm. (offer-through place o s low sized calm).passes)
 
   -- ---- a whole turn
 
@@ -299,7 +417,7 @@ module _ (now most : ℕ) where
     pub begins : Begins h start calls events
     pub more : List Call
     pub further : List ChosenEvent
-    pub through : Through start more further t
+    pub passes : Passes start more further t
     pub opens : (place : ℕ) (from : SocketAddrV4) → free_place h ≡ Some place
         → taken ≡ Some (Some from) → start ≡ after_opening now place (turn_begin h)
     pub calls_are : calls ++ more ≡ c
@@ -314,18 +432,18 @@ module _ (now most : ℕ) where
 
   -- nothing is opened
   quiet-turned : (h : Held) (taken : Option (Option SocketAddrV4)) (calls : List Call)
-      → Through (turn_begin h) calls [] (turn_begin h)
+      → Passes (turn_begin h) calls [] (turn_begin h)
       → ((place : ℕ) (from : SocketAddrV4) → free_place h ≡ Some place
       → taken ≡ Some (Some from) → ⊥)
       → Turned h taken calls [] (turn_begin h)
-  quiet-turned h taken calls through none = record {
+  quiet-turned h taken calls passes none = record {
     start = turn_begin h;
     calls = [];
     events = [];
     begins = Quietly;
     more = calls;
     further = [];
-    through = through;
+    passes = passes;
     opens = λ place from free took. absurd (none place from free took);
     calls_are = refl;
     events_are = refl;
@@ -339,16 +457,16 @@ module _ (now most : ℕ) where
       → Turned h taken (accept_calls_at now place taken (turn_begin h))
       (accept_events_at now place taken (turn_begin h)) (on_accept now place taken (turn_begin h))
   accept-turned h None taken is =
-      quiet-turned h taken [] (stays-through (turn_begin h) refl (begun-calm h))
+      quiet-turned h taken [] (stays-through (turn_begin h) refl (begun-calm h)).passes
       (λ q from free took. cc)
   accept-turned h (Some place) None is =
       quiet-turned h None (Accepts (place + 1) None ∷ [])
       (asks-through (Accepts (place + 1) None) (turn_begin h) (accepts (place + 1) None) refl
-      (begun-calm h)) (λ q from free took. cc)
+      (begun-calm h)).passes (λ q from free took. cc)
   accept-turned h (Some place) (Some None) is =
       quiet-turned h (Some None) (Accepts (place + 1) (Some None) ∷ [])
       (asks-through (Accepts (place + 1) (Some None)) (turn_begin h)
-      (accepts (place + 1) (Some None)) refl (begun-calm h)) (λ q from free took. cc)
+      (accepts (place + 1) (Some None)) refl (begun-calm h)).passes (λ q from free took. cc)
   accept-turned h (Some place) (Some (Some from)) is =
       let t : Turning = after_opening now place (turn_begin h) in
       record {
@@ -358,7 +476,7 @@ module _ (now most : ℕ) where
         begins = Opening place from is;
         more = settling now t;
         further = settled_events now t;
-        through = settled-through t (opening-sized place h);
+        passes = (settled-through t (opening-sized place h)).passes;
         opens = λ q from free took.
             let same : place ≡ q = let f : Some place ≡ Some q = sym is ∙ free in cc in
             ap (λ k. after_opening now k (turn_begin h)) same;
@@ -369,7 +487,7 @@ module _ (now most : ℕ) where
   then-turned : (h : Held) (taken : Option (Option SocketAddrV4)) (t u : Turning)
       (c d : List Call) (e x : List ChosenEvent)
       → Turned h taken c e t
-      → (length t.noted.standings ≡ 8 → AreCalm t.noted.standings → Through t d x u)
+      → (length t.noted.standings ≡ 8 → AreCalm t.noted.standings → Passes t d x u)
       → Turned h taken (c ++ d) (e ++ x) u
   then-turned h taken t u c d e x m n = record {
     start = m.start;
@@ -378,8 +496,8 @@ module _ (now most : ℕ) where
     begins = m.begins;
     more = m.more ++ d;
     further = m.further ++ x;
-    through = through-both m.start t u m.more d m.further x m.through
-        (n m.through.sized m.through.calm);
+    passes = passes-both m.start t u m.more d m.further x m.passes
+        (n m.passes.sized m.passes.calm);
     opens = m.opens;
     calls_are = sym (append_assoc m.calls m.more d) ∙ ap (λ l. l ++ d) m.calls_are;
     events_are = sym (append_assoc m.events m.further x) ∙ ap (λ l. l ++ x) m.events_are;
@@ -401,13 +519,11 @@ module _ (now most : ℕ) where
       (then-turned h script.accepted z s2 _ _ _ _
       (then-turned h script.accepted s1 z _ _ _ _
       (accept-turned h (free_place h) script.accepted refl)
-      (line-through (first_of given) s1))
-      (each-through (read_one now) (read_calls now) (read_events now) read-through 0 script.readings
-      z (omega (arith, reads))))
-      (line-through given.event s2))
-      (λ sized calm. then-through Scans s3 sized tt))
-      (each-through (offer_one now) (offer_calls now) (offer_events now) offer-through 0
-      script.offers s4 (omega (arith, offers)))
+      (λ sized calm. (line-through (first_of given) s1 sized calm).passes))
+      (reads-pass 0 script.readings z (omega (arith, reads))))
+      (λ sized calm. (line-through given.event s2 sized calm).passes))
+      (λ sized calm. (then-through Scans s3 sized tt).passes))
+      (offers-pass 0 script.offers s4 (omega (arith, offers)))
 
 -- ---- an invariant
 
@@ -440,7 +556,7 @@ module _ (now most : ℕ) where
       (c : List Call) (e : List ChosenEvent) → Turned now most h taken c e t
       → t.server.device ≡ (done_at now e h.device).after
   turned-device h taken t c e m =
-      leads-device m.start t m.more m.further m.through.leads
+      leads-device m.start t m.more m.further m.passes.leads
       ∙ ap (λ d. (done_at now m.further d).after)
       (begins-device h m.start m.calls m.events m.begins)
       ∙ sym (done-append now m.events m.further h.device).after
@@ -490,7 +606,7 @@ module _ (now most : ℕ) (I : Invariant) where
         (ap (λ d. first ++ (done_at now m.further d).answers)
         (begins-device now most h m.start m.calls m.events m.begins) ∙ sym both.answers
         ∙ ap (λ l. (done_at now l h.device).answers) m.events_are)
-        (leads-keep m.start t m.more m.further m.through.leads m.calls m.events first i)
+        (leads-keep m.start t m.more m.further m.passes.leads m.calls m.events first i)
 
 -- ---- notes
 
@@ -514,5 +630,5 @@ module _ (now most : ℕ) (P : Noted → Type 0) (k : IsNoted most Each P) where
       (c : List Call) (e : List ChosenEvent) → Turned now most h taken c e t → P nothing_noted
       → P t.noted
   keep-turn h taken t c e m p =
-      keep-leads m.start t m.more m.further m.through.leads
+      keep-leads m.start t m.more m.further m.passes.leads
       (keep-begins h m.start m.calls m.events m.begins p).holds
