@@ -1,5 +1,5 @@
 -- Each line of a scan tells what the text of the program means.
-use Rattle.std.proofs.Common.{◌≡◌, ℕ, ◌+◌, ◌<◌, ◌≤◌, ◌^◌, Bool, true, false, List, [], ◌∷◌, ◌++◌, codes, length, map, Option, Some, None, Result, IfOk, inl, inr, refl, ap, ap₂, sym, subst, ◌∙◌, arith}
+use Rattle.std.proofs.Common.{◌≡◌, ℕ, ◌+◌, ◌<◌, ◌≤◌, ◌^◌, Bool, true, false, List, [], ◌∷◌, ◌++◌, codes, length, map, Option, Some, None, Result, IfOk, inl, inr, refl, ap, ap₂, sym, subst, ◌∙◌, arith, zero, suc}
 use Rattle.std.specs.Fmt.{decimal}
 use Rattle.bay_audit_laws.proofs.LoadLemmas.{first-both}
 use Rattle.bay_audit_laws.proofs.RowLemmas.{AllBoth, outputs-told, told-both, told_by}
@@ -31,16 +31,20 @@ use Rattle.bay_replay.proofs.HistoryLemmas.{past-fixed}
 use Rattle.bay_replay.proofs.KeptLemmas.{Scanned, scan_told, step-on-time, turned}
 use Rattle.bay_replay.proofs.LoadedLemmas.{file-sound}
 use Rattle.bay_report_laws.specs.Meant.{AreMeant, AreValues, IsMeant, ScansAreMeant}
-use Rattle.bay_report_laws.specs.Printed.{PrintedScan, PrintedSwitch, printed_scan}
+use Rattle.bay_report_laws.specs.Printed.{PrintedScan, PrintedSwitch, printed_scan, lines_in, printed_budget}
 use Rattle.bay_report_laws.specs.ReadBack.{HaveIds, switches_told}
 use Rattle.bay_report_laws.specs.Released.{IsPrintedFor}
 use Rattle.bay_report_laws.proofs.LineLemmas.{decimal-free}
 use Rattle.bay_report_laws.proofs.OrderLemmas.{load, no-read, of-each, printed-for, stands}
 use Rattle.bay_report_laws.proofs.PlaceLemmas.{Placed}
 use Rattle.bay_report_laws.proofs.PrintLemmas.{IsLineOf, IsScanLine, load-is, told-plain}
-use Rattle.bay_report_laws.proofs.ReadLemmas.{IsOther, no-scan-line, no-space, order_word, scan-read}
+use Rattle.bay_report_laws.proofs.ReadLemmas.{IsOther, no-scan-line, no-space, order_word, scan-read, budget-read}
 use Rattle.bay_report_laws.proofs.ScanLemmas.{past-in}
 use Rattle.bay_report_laws.proofs.WithinLemmas.{AreFew, known-run, load-none, past-few}
+use Rattle.std.specs.List.{Contains}
+use Rattle.il_verify.specs.Verdicts.{IsBudget}
+use Rattle.bay_report_laws.specs.Texts.{AreWithinBudget, ScansAreWithinBudget, first_of}
+use Rattle.bay_replay.proofs.BudgetLemmas.{IsWithin}
 
 -- ---- the rows of the interlocking values stand
 
@@ -123,6 +127,37 @@ scan-of now steps p old did told = elim (turned p.now p.event old p.answer p.aft
   | inr scan ↦ scan
 ]
 
+module _ (first : State) (past : List Past) (steps : EachPast Steps first past)
+    (ids : HaveIds first.switches) (few : EachPast AreFew first past) where
+  abbrev scan_said : (p : Past) → ℕ → PrintedScan
+  scan_said p count = record {
+    moment = p.now;
+    steps = count;
+    switches = switches_told p.after 0 p.after.switches;
+  }
+
+  -- A scan's line is read as what it tells.
+  scan-reads : (before : List (List ℕ)) (line : List ℕ) (at : Placed past before line)
+      (l : IsScanLine at.order.now at.order.answer at.order.after line) (read : PrintedScan)
+      → printed_scan line ≡ Some read → scan_said at.order l.steps ≡ read
+  scan-reads before line at l read reads =
+      let p : Past = at.order in
+      let here : EachPast Steps first (p ∷ at.earlier) =
+      past-in Steps first at.later p at.earlier past at.split steps in
+      let scan =
+      scan-of p.now l.steps p (device_after first at.earlier) here.0 l.told in
+      let small : l.steps < 2 ^ 64 =
+      (past-in AreFew first at.later p at.earlier past at.split few).0 l.steps l.told in
+      let late : p.now ≤ last_moment =
+      step-on-time p.now p.event (device_after first at.earlier) p.answer p.after _ here.0
+      scan.answered in
+      let early : p.now < 2 ^ 64 = omega arith in
+      some-same (scan_said p l.steps) read
+      (sym (ap printed_scan l.is
+      ∙ scan-read p.now l.steps (switches_told p.after 0 p.after.switches) early small
+      (told-plain p.after 0 p.after.switches (subst HaveIds
+      (sym (past-fixed first (p ∷ at.earlier) here).switches) ids))) ∙ reads)
+
 module _ (c : Checked) (first : State) (past : List Past) (steps : EachPast Steps first past)
     (ids : HaveIds first.switches) (few : EachPast AreFew first past)
     (means : EachPast (MeansAt c) first past) (most : length first.switches ≤ 32)
@@ -143,20 +178,9 @@ module _ (c : Checked) (first : State) (past : List Past) (steps : EachPast Step
       let meant : Means c p.now old p.after =
       subst (λ (r : Result Step StepFault). IfOk r (λ step. Means c p.now old p.after))
       scan.answered (meant_at scan.event_is) in
-      let small : l.steps < 2 ^ 64 =
-      (past-in AreFew first at.later p at.earlier past at.split few).0 l.steps l.told in
-      let late : p.now ≤ last_moment =
-      step-on-time p.now p.event old p.answer p.after _ here.0 scan.answered in
-      let early : p.now < 2 ^ 64 = omega arith in
       let fixed = past-fixed first at.earlier here.1 in
       let switches : p.after.switches ≡ first.switches =
       (past-fixed first (p ∷ at.earlier) here).switches in
-      let all : List PrintedSwitch = switches_told p.after 0 p.after.switches in
-      let told : PrintedScan = record { moment = p.now; steps = l.steps; switches = all } in
-      let both_read : ◌≡◌ {A = Option PrintedScan} (Some told) (Some read) =
-      sym (ap printed_scan l.is
-      ∙ scan-read p.now l.steps all early small
-      (told-plain p.after 0 p.after.switches (subst HaveIds (sym switches) ids))) ∙ reads in
       let outputs : List Value = outputs_of (map point_of c.externals) meant.after.externals in
       let count : ℕ = length first.switches in
       let many : length old.switches ≡ count =
@@ -172,7 +196,8 @@ module _ (c : Checked) (first : State) (past : List Past) (steps : EachPast Step
       are-values p.after first.writes outputs 0 first.switches
       (λ j less. rows j (omega (arith, less)))
       in
-      subst (IsMeant c begin first past (load_text ∷ before) line) (some-same told read both_read)
+      subst (IsMeant c begin first past (load_text ∷ before) line)
+      (scan-reads first past steps ids few before line at l read reads)
       (record {
         later = at.later;
         scan = p;
@@ -232,3 +257,53 @@ run-meant parts first text status run before after line read e reads =
 
 pub scans-are-meant : ScansAreMeant
 scans-are-meant = of-each printed_scan other-no-scan load-none AreMeant run-meant
+
+-- ---- the budget
+
+-- an item of a list stands between others
+item-split : {A : Type 0} (xs : List A) (x : A) → Contains xs x
+    → (front : List A) × ((back : List A) × (xs ≡ front ++ x ∷ back))
+item-split [] x at = absurd (omega (arith, at.1))
+item-split (y ∷ xs) x (zero, within, is) = ([], (xs, ap (λ z. z ∷ xs) is))
+item-split (y ∷ xs) x (suc k, within, is) =
+    let there = item-split xs x (k, omega arith, is) in
+    (y ∷ there.0, (there.1.0, ap (λ ys. y ∷ ys) there.1.1))
+
+run-within : (parts : ScenarioParts) (first : State) (text : List ℕ) (status : ℕ)
+    → IsRun parts first text status → AreWithinBudget text
+run-within parts first text status run line scan at is =
+    let cut = item-split (lines_in text) line at in
+    let o =
+    stands printed_scan other-no-scan load-none parts first text status run cut.0 cut.1.0 line scan
+    cut.1.1 is in
+    let order = o.at.order in
+    let l = of-scan order.now order.answer order.after line scan is o.at.is in
+    let known = known-run parts first text status run in
+    let report = run.printed.report in
+    let few = past-few first report.budget known.small known.ids run.printed.reported.budget
+    run.past run.steps known.within in
+    let steps =
+    past-in Steps first o.at.later order o.at.earlier run.past o.at.split run.steps in
+    let within : l.steps ≤ report.budget =
+    (past-in IsWithin first o.at.later order o.at.earlier run.past o.at.split known.within).0
+    l.steps l.told report.budget
+    (subst (λ image. IsBudget image.code report.budget)
+    (sym (past-fixed first o.at.earlier steps.1).image) run.printed.reported.budget) in (
+      report.budget,
+      ap (λ ls. printed_budget (first_of ls))
+          (cut.1.1 ∙ ap (λ ls. ls ++ line ∷ cut.1.0) o.begins)
+          ∙ budget-read report.instructions report.depth report.budget known.small,
+      subst (λ n. n ≤ report.budget)
+          (ap (λ (x : PrintedScan). x.steps)
+          (scan-reads first run.past run.steps known.ids few o.behind line o.at l scan is)) within,
+    )
+
+pub scans-are-within : ScansAreWithinBudget
+scans-are-within scenario log text status told line scan at is =
+    elim (of-each printed_scan other-no-scan load-none
+    (λ parts first text status run. AreWithinBudget text) run-within scenario log text status told) [
+      | inl none ↦
+          absurd (let no : ◌≡◌ {A = Option PrintedScan} None (Some scan) =
+          sym (none line at) ∙ is in cc)
+      | inr run ↦ run.are line scan at is
+    ]
