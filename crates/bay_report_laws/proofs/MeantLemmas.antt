@@ -39,7 +39,7 @@ use Rattle.bay_report_laws.proofs.OrderLemmas.{load, no-read, of-each, printed-f
 use Rattle.bay_report_laws.proofs.PlaceLemmas.{Placed}
 use Rattle.bay_report_laws.proofs.PrintLemmas.{IsLineOf, IsScanLine, load-is, told-plain}
 use Rattle.bay_report_laws.proofs.ReadLemmas.{IsOther, no-scan-line, no-space, order_word, scan-read, budget-read}
-use Rattle.bay_report_laws.proofs.ScanLemmas.{past-in}
+use Rattle.bay_report_laws.proofs.ScanLemmas.{past-in, some-same}
 use Rattle.bay_report_laws.proofs.WithinLemmas.{AreFew, known-run, load-none, past-few}
 use Rattle.std.specs.List.{Contains}
 use Rattle.il_verify.specs.Verdicts.{IsBudget}
@@ -114,9 +114,6 @@ are-values s writes outputs k (switch ∷ switches) told =
           ∙ own-truth (output_of k EnableClose writes outputs)),
       are-values s writes outputs (k + 1) switches (λ j less. told j (omega (arith, less))),
     )
-
-some-same : {A : Type 0} (x y : A) → ◌≡◌ {A = Option A} (Some x) (Some y) → x ≡ y
-some-same x y e = cc
 
 scan-of : (now : ℕ) (steps : ℕ) (p : Past) (old : State)
     → Steps p.now p.event old p.answer p.after → scan_told p.answer ≡ Some steps

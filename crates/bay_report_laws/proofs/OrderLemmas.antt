@@ -30,7 +30,7 @@ use Rattle.bay_report_laws.proofs.NameLemmas.{name-plain}
 use Rattle.bay_report_laws.proofs.PlaceLemmas.{AreGroups, Groups, Placed, cut, flat, groups-whole, heads, placed, tails}
 use Rattle.bay_report_laws.proofs.PrintLemmas.{IsCommandLine, IsLineOf, id-at, load-is, step-lines}
 use Rattle.bay_report_laws.proofs.ReadLemmas.{IsOther, command-read, load_line, no-command-line, no-space, told_text}
-use Rattle.bay_report_laws.proofs.ScanLemmas.{past-in}
+use Rattle.bay_report_laws.proofs.ScanLemmas.{past-in, some-same}
 use Rattle.bay_report_laws.proofs.WithinLemmas.{ending-lines, known-run, load-free, no-parts-lines, refused-lines}
 
 -- the lines of all events
@@ -68,9 +68,6 @@ module _ (begin load : List ℕ) (load_is : begin ≡ load ++ 10 ∷ []) where
 
 -- ---- what a command's line says
 
-some-same : {A : Type 0} (x y : A) → ◌≡◌ {A = Option A} (Some x) (Some y) → x ≡ y
-some-same x y e = cc
-
 module _ (first : State) (past : List Past) (steps : EachPast Steps first past)
     (ids : HaveIds first.switches) (before : List (List ℕ)) (line : List ℕ)
     (at : Placed past before line)
@@ -103,7 +100,7 @@ module _ (first : State) (past : List Past) (steps : EachPast Steps first past)
 
 -- ---- the text of a run
 
-each-none : (Is : List ℕ → Type 0) (lines : List (List ℕ)) → Each Is lines
+pub each-none : (Is : List ℕ → Type 0) (lines : List (List ℕ)) → Each Is lines
     → Each (λ l. Unit {0}) lines
 each-none Is [] all = tt
 each-none Is (line ∷ lines) all = ((all.0.0, tt), each-none Is lines all.1)

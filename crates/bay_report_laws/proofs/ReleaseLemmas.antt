@@ -36,7 +36,7 @@ use Rattle.bay_report_laws.proofs.PrintLemmas.{IsCommandLine, IsLineOf, ended-li
 use Rattle.bay_report_laws.proofs.ReadLemmas.{no-scan-line, no-space, order_word, scan-read, scan_line}
 use Rattle.bay_report_laws.proofs.ScanLemmas.{LastScan, fresh-at, last-scan, past-in, same-since}
 use Rattle.bay_report_laws.proofs.WithinLemmas.{AreFew, known-run, past-few}
-use Rattle.bay_report_laws.proofs.OrderLemmas.{load, load-no-command, of-command, of-each, order-read, order-steps, order-switches, other-no-command, printed-for, stands}
+use Rattle.bay_report_laws.proofs.OrderLemmas.{each-none, load, load-no-command, of-command, of-each, order-read, order-steps, order-switches, other-no-command, printed-for, stands}
 
 -- ---- freshness
 
@@ -126,15 +126,10 @@ scan-lines q ended_by steps own ids answered whole each =
     record {
       before = first.lines;
       is = same-lines _ (λ l. Unit {0}) own (first.lines ++ line ∷ []) each
-          (each-append (λ l. Unit {0}) first.lines (line ∷ []) (none first.lines first.each)
+          (each-append (λ l. Unit {0}) first.lines (line ∷ []) (each-none _ first.lines first.each)
           ((scan-free q.now steps (switches_told q.after 0 q.after.switches) all, tt), tt))
           (sym whole ∙ text);
     }
-  where
-    none : (lines : List (List ℕ)) → Each (λ l. IsLineOf q.now q.answer q.after l) lines
-        → Each (λ l. Unit {0}) lines
-    none [] all = tt
-    none (l ∷ lines) all = ((all.0.0, tt), none lines all.1)
 
 -- ---- a command
 

@@ -33,7 +33,7 @@ pub record LastScan (first : State) (past : List Past) (m : ℕ) : Type 0 where
   pub keeps : Keeps scan.after.rows (device_after first past).rows
   pub none : NoScans since
 
-some-same : {A : Type 0} (x y : A) → ◌≡◌ {A = Option A} (Some x) (Some y) → x ≡ y
+pub some-same : {A : Type 0} (x y : A) → ◌≡◌ {A = Option A} (Some x) (Some y) → x ≡ y
 some-same x y e = cc
 
 pub last-scan : (first : State) (past : List Past) (m : ℕ) → first.last_scan ≡ None
