@@ -1,16 +1,15 @@
 -- Steps of reading, and numbers that are read back whatever follows them.
-use Rattle.std.proofs.Common.{◌≡◌, ℕ, zero, suc, ◌-◌, ◌^◌, ◌<◌, ◌≤◌, ℤ, FitsSigned, Bool, true, false, cond, ltb, List, [], ◌∷◌, ◌++◌, length, take, drop, Option, Some, None, refl, sym, ap, ◌∙◌, arith}
+use Rattle.std.proofs.Common.{◌≡◌, ℕ, zero, suc, ◌-◌, ◌^◌, ◌<◌, ◌≤◌, ℤ, FitsSigned, false, ltb, List, [], ◌∷◌, ◌++◌, length, take, drop, refl, sym, ap, ◌∙◌, arith}
 use Rattle.std.specs.Prelude.{Result, Ok, Err}
 use Rattle.std.specs.Int.{cast_signed, from_be_bytes}
 use Rattle.std.proofs.lemmas.Bool.{le-ltb}
 use Rattle.std.proofs.lemmas.List.{get_or-take, take_rest}
 use Rattle.bay_base.specs.Results.{◌>>=◌}
 use Rattle.il_image.specs.declared.fault.ImageFault.{ImageFault}
-use Rattle.il_image.specs.declared.fault.ImageFault.TheVariants.{Truncated}
 use Rattle.il_image.specs.declared.write.Size.{Size}
 use Rattle.il_image.specs.declared.write.Size.TheVariants.{One, Two, Four, Eight}
 use Rattle.il_image.specs.Octets.{AreOctets, octet_count, bits_of_size, number_octets, signed_octets}
-use Rattle.il_image.specs.Reading.{known_value, number_at, signed_at}
+use Rattle.il_image.specs.Reading.{number_at, signed_at}
 use Rattle.il_image.proofs.OctetLemmas.{written-number, written-signed}
 
 -- ---- steps
@@ -25,17 +24,8 @@ pub bind-is : {A B : Type 0} (r : Result A ImageFault) (f : A → Result B Image
 bind-is (Ok y) f x s e g = let same : y ≡ x = cc in ap f same ∙ g
 bind-is (Err fault) f x s e g = absurd cc
 
-pub known-ok : {A : Type 0} (o : Option A) (x : A) → known_value o ≡ Ok x → o ≡ Some x
-known-ok None x e = absurd cc
-known-ok (Some y) x e = cc
-
 pub ok-same : {A : Type 0} (x y : A) → (◌≡◌ {A = Result A ImageFault} (Ok x) (Ok y)) → x ≡ y
 ok-same x y e = cc
-
-pub chosen-ok : {A : Type 0} (b : Bool) (x y : A)
-    → (◌≡◌ {A = Result A ImageFault} (cond b (Err Truncated) (Ok x)) (Ok y)) → (b ≡ false) × (x ≡ y)
-chosen-ok true x y e = absurd cc
-chosen-ok false x y e = (refl, cc)
 
 -- ---- octets
 
