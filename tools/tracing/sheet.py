@@ -249,7 +249,8 @@ class StandardSheet(Sheet):
         for (standard, clause), found in standards.by_clause().items():
             tables.setdefault(standard, []).append(self.clause(clause, found))
         body = [f'<h2>{html.escape(standard)}</h2><table><tr><th>Clause</th><th>Definitions</th>'
-                f'<th>Laws that cite them</th><th>Promises with cases</th></tr>{"".join(rows)}</table>'
+                f'<th>Laws that cite them</th><th>Promises with cases</th></tr>{"".join(rows)}'
+                '</table>'
                 for standard, rows in tables.items()]
         listed = sorted(self.listed, key=lambda it: (it.crate, it.name))
         return ''.join((

@@ -27,7 +27,8 @@ use Rattle.bay_serve_laws.proofs.KeepLemmas.{Concerns, IsFilled, keep-act, keep-
 use Rattle.bay_serve_laws.proofs.QuietLemmas.{outcome-quiet, process-quiet}
 use Rattle.bay_serve_laws.proofs.TellsLemmas.{or-none}
 use Rattle.bay_serve_laws.proofs.TurnFlows.{Flowing, act-flows, begins-flowing}
-use Rattle.bay_serve_laws.proofs.WalkLemmas.{Begins, IsKept, Opening, Quietly, answers_to, turn-is-acts, turned-keeps}
+use Rattle.bay_serve_laws.proofs.KeptLemmas.{IsKept, answers_to, turned-keeps}
+use Rattle.bay_serve_laws.proofs.WalkLemmas.{Begins, Opening, Quietly, turn-is-acts}
 
 -- ---- an act
 

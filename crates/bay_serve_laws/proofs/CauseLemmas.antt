@@ -73,6 +73,7 @@ pub record StillIn (p : ℕ) (n : Noted) (standings : List Standing) (closed : L
       → (is_told (standing_in p n) ≡ true) ⊎ (tells is_queue_full (p + 1) closed ≡ true)
   more : tells is_queue_full (p + 1) n.closed ≡ true → tells is_queue_full (p + 1) closed ≡ true
 
+-- so is what is noted later
 abbrev pub Still : ℕ → Noted → Noted → Type 0
 Still p n m = StillIn p n m.standings m.closed m.memory
 

@@ -29,6 +29,7 @@ pub record IsLonger (before after : List (ℕ × Closing)) : Type 0 where
   pub closings : List (ℕ × Closing)
   pub closed : after ≡ before ++ closings
 
+-- what was told is told still
 abbrev pub Grown : Noted → Noted → Type 0
 Grown n m = IsLonger n.closed m.closed
 

@@ -9,7 +9,8 @@ use Rattle.bay_serve_laws.specs.Events.{ChosenEvent, turn_events}
 use Rattle.bay_serve_laws.specs.Flows.{brought_by, given_of, received_of}
 use Rattle.bay_serve_laws.proofs.Acts.{Act, Asks, Breaks, Can, Fills, HangsUp, Hears, Offers, Parts, Scans, Tells, calls_by, events_by, none-if}
 use Rattle.bay_serve_laws.proofs.CallLemmas.{given-append}
-use Rattle.bay_serve_laws.proofs.WalkLemmas.{Begins, Opening, Quietly, turn-is-acts, turned-keeps}
+use Rattle.bay_serve_laws.proofs.KeptLemmas.{turned-keeps}
+use Rattle.bay_serve_laws.proofs.WalkLemmas.{Begins, Opening, Quietly, turn-is-acts}
 
 module _ (a : ℕ) where
   received-append : (xs ys : List ChosenEvent)

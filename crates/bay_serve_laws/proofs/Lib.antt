@@ -14,6 +14,7 @@ pub mod TellingLemmas
 pub mod TellsLemmas
 pub mod CarryLemmas
 pub mod PutLemmas
+pub mod KeptLemmas
 pub mod MoveLemmas
 pub mod CutLemmas
 pub mod ReadFlows

@@ -29,7 +29,8 @@ use Rattle.bay_serve_laws.proofs.KeepLemmas.{Concerns, keep-act, keep-rest, keep
 use Rattle.bay_serve_laws.proofs.PutLemmas.{told_why-standings}
 use Rattle.bay_serve_laws.proofs.SameLemmas.{put_answer-commands, put_quiet-same}
 use Rattle.bay_serve_laws.proofs.UpLemmas.{HeardOpen, LeftOpen, close-outcome-far, open-outcome-here, open-outcome-up, process-outcome-up, recv-outcome-far, recv-outcome-here, scan-outcome-up, up_at}
-use Rattle.bay_serve_laws.proofs.WalkLemmas.{Begins, Opening, Quietly, device-act, turn-is-acts, turned-keeps}
+use Rattle.bay_serve_laws.proofs.KeptLemmas.{turned-keeps}
+use Rattle.bay_serve_laws.proofs.WalkLemmas.{Begins, Opening, Quietly, device-act, turn-is-acts}
 
 get-is : (ts : List (Option Talk)) (i : ℕ)
     → unwrap_or (slice_get ts i) None ≡ get_or ts i None

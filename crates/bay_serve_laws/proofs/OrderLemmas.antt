@@ -19,7 +19,8 @@ use Rattle.bay_serve_laws.proofs.CallLemmas.{Offering, offering, some-append}
 use Rattle.bay_serve_laws.proofs.ClosingLemmas.{Grown, Grown-refl}
 use Rattle.bay_serve_laws.proofs.SameLemmas.{put_quiet-same}
 use Rattle.bay_serve_laws.proofs.StandingLemmas.{AreCalm}
-use Rattle.bay_serve_laws.proofs.WalkLemmas.{Cut, Through, accept-turned, before, leads-device, line-through, offer-through, offered_first, offers-pass, opening-sized, read-through, reads-pass, settled-through, then-through}
+use Rattle.bay_serve_laws.proofs.KeptLemmas.{leads-device}
+use Rattle.bay_serve_laws.proofs.WalkLemmas.{Cut, Through, accept-turned, before, line-through, offer-through, offered_first, offers-pass, opening-sized, read-through, reads-pass, settled-through, then-through}
 
 -- the notes at the end of the turn
 module _ (now : ℕ) (final : Noted) where

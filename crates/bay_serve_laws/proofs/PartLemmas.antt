@@ -23,7 +23,8 @@ use Rattle.bay_serve_laws.proofs.CallLemmas.{some-append}
 use Rattle.bay_serve_laws.proofs.DoneLemmas.{commands-append}
 use Rattle.bay_serve_laws.proofs.QuietLemmas.{IsQuiet, outcome-quiet, process-quiet}
 use Rattle.bay_serve_laws.proofs.SameLemmas.{Same, Same-refl, goes-commands, goes-same, leaves-same, parted-same, put_answer-commands, put_quiet-same, put_told-same}
-use Rattle.bay_serve_laws.proofs.WalkLemmas.{Begins, IsKept, Opening, Quietly, answers_to, turn-is-acts, turned-device, turned-keeps}
+use Rattle.bay_serve_laws.proofs.KeptLemmas.{IsKept, answers_to, turned-device, turned-keeps}
+use Rattle.bay_serve_laws.proofs.WalkLemmas.{Begins, Opening, Quietly, turn-is-acts}
 
 -- the device after a turn, the commands that it tells, and what it tells of failed links
 pub record Part (now : ℕ) (s : Turning) (calls : List Call) (events : List ChosenEvent) (t : Turning)

@@ -23,7 +23,8 @@ use Rattle.bay_serve_laws.specs.Flows.{IsTidy}
 use Rattle.bay_serve_laws.specs.Room.{AreInRoom}
 use Rattle.bay_serve_laws.proofs.Acts.{Act, Asks, Breaks, Can, Fills, HangsUp, Hears, Offers, Parts, Scans, Tells, after}
 use Rattle.bay_serve_laws.proofs.PutLemmas.{IsPut, puts-all, puts-ended, puts-quiet}
-use Rattle.bay_serve_laws.proofs.WalkLemmas.{Begins, Opening, Quietly, turn-is-acts, turned-keeps}
+use Rattle.bay_serve_laws.proofs.KeptLemmas.{turned-keeps}
+use Rattle.bay_serve_laws.proofs.WalkLemmas.{Begins, Opening, Quietly, turn-is-acts}
 
 abbrev Fits : List ℕ → Type 0
 Fits queue = length queue ≤ 262144

@@ -13,7 +13,8 @@ use Rattle.bay_serve.specs.declared.told.Closing.{Closing}
 use Rattle.bay_serve.specs.declared.told.Closing.TheVariants as closing
 use Rattle.bay_serve_laws.specs.Telling.{and_if, closings_of, times_in, times_told}
 use Rattle.bay_serve_laws.proofs.KeepLemmas.{Each, IsNoted}
-use Rattle.bay_serve_laws.proofs.WalkLemmas.{keep-turn, turn-is-acts}
+use Rattle.bay_serve_laws.proofs.KeptLemmas.{keep-turn}
+use Rattle.bay_serve_laws.proofs.WalkLemmas.{turn-is-acts}
 
 -- ---- counting
 

@@ -26,7 +26,8 @@ use Rattle.bay_serve_laws.proofs.OfferFlows.{cut-here, each-left, kept-here, par
 use Rattle.bay_serve_laws.proofs.QuietLemmas.{outcome-quiet, process-quiet}
 use Rattle.bay_serve_laws.proofs.ReadFlows.{Marked, answer-carried, begun-carried, left-carried, left_by-far, ready-far, ready-here}
 use Rattle.bay_serve_laws.proofs.UpLemmas.{close-outcome-far, close-outcome-here, open-outcome-up, outcome-moment, process-outcome-up, recv-outcome-far, recv-outcome-here, scan-outcome-up, up_at}
-use Rattle.bay_serve_laws.proofs.WalkLemmas.{Begins, Invariant, IsKept, Opening, Quietly, answers_to, before, turn-is-acts, turned-keeps}
+use Rattle.bay_serve_laws.proofs.KeptLemmas.{Invariant, IsKept, answers_to, turned-keeps}
+use Rattle.bay_serve_laws.proofs.WalkLemmas.{Begins, Opening, Quietly, before, turn-is-acts}
 
 -- what is carried, by the calls and the answers up to here
 abbrev pub Flowing : ℕ → ℕ → List ℕ → Invariant

@@ -85,6 +85,7 @@ none-read version octets end = record {
   end = end;
 }
 
+-- octets of code are instructions, and then the first that is none
 pub split : (version : Version) (n : ℕ) (octets : List ℕ) → length octets ≤ n
     → Split version octets
 split version n [] le = none-read version [] (inl refl)

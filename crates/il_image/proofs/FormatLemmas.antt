@@ -176,6 +176,7 @@ made-lawful {A} n make S same spelled =
     go octets true = refl
     go octets false = ap (λ (x : A). Ok (x, drop n octets)) (sym (same octets))
 
+-- two octets spell a number
 abbrev pub IsNumber : List ℕ → ℕ × List ℕ → Type 0
 IsNumber = Is number_octets (λ n. n < 2 ^ 16)
 

@@ -19,6 +19,7 @@ use Rattle.il_image.proofs.ReadLemmas.{behind-octets, bind-ok, ok-same, take_oct
 abbrev pub left : {A : Type 0} → A × List ℕ → List ℕ → Read A
 left r more = Ok (r.0, r.1 ++ more)
 
+-- a whole thing has no more octets
 abbrev pub spoilt : {A : Type 0} → A → List ℕ → Result A ImageFault
 spoilt x [] = Ok x
 spoilt x (m ∷ more) = Err Truncated
@@ -27,6 +28,7 @@ spoilt x (m ∷ more) = Err Truncated
 abbrev pub Empty : {A : Type 0} → A × List ℕ → Type 0
 Empty r = r.1 ≡ []
 
+-- whatever it is
 abbrev pub Any : {B : Type 0} → B → Type 0
 Any x = Unit {0}
 

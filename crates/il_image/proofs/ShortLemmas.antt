@@ -76,6 +76,7 @@ pub record Grown {A : Type 0} (f : List ℕ → Read A) (octets : List ℕ) : Ty
   pub is : f more ≡ Ok (what, [])
   pub fewer : length octets < length more
 
+-- what is cut short is read, where more octets stand behind it
 pub grown : {A : Type 0} {S : List ℕ → A × List ℕ → Type 0} {f : List ℕ → Read A}
     → Lawful left Empty S Never f → (octets : List ℕ) → AreOctets octets
     → f octets ≡ Err Truncated → Grown f octets
