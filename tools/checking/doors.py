@@ -39,7 +39,7 @@ class Guarded:
 
     def opens(self) -> int:
         """How many associations the bay was asked for."""
-        return len(re.findall(r'(?m)^\d+ association \d open from ', self.server.printed()))
+        return len(re.findall(r'(?m)^\S+ association \d open from ', self.server.printed()))
 
     def client(self, name: str) -> Client:
         return Client('127.0.0.1', self.door.port, Names(BAY.read_text(encoding='utf-8')),

@@ -45,10 +45,13 @@ def shown(heads: list[str], rows: Sequence[Sequence[object]], none: str) -> str:
 def asked(digest: Digest) -> list[str]:
     """Who asked, and why what was refused."""
     rows = [[it.who, it.places, it.links, it.done, it.refused] for it in digest.askers()]
-    whys = [[why, count] for why, count in digest.refusals()]
-    return ['<h2>Who asked</h2>',
-            shown(['Certificate', 'From', '#Associations', '#Done', '#Refused'], rows, 'Nobody.'),
-            '<h2>Why controls were refused</h2>', shown(['Why', '#Times'], whys, 'None was.')]
+    parts = ['<h2>Who asked</h2>',
+             shown(['Certificate', 'From', '#Associations', '#Done', '#Refused'], rows, 'Nobody.'),
+             '<h2>Why controls were refused</h2>',
+             shown(['Why', '#Times'], digest.refusals(), 'None was.')]
+    if ends := digest.ends():
+        parts += ['<h2>How operates ended</h2>', shown(['How', '#Times'], ends, '')]
+    return parts
 
 
 def kept_out(digest: Digest) -> list[str]:

@@ -5,7 +5,6 @@ from collections.abc import Callable
 from dataclasses import dataclass
 
 from common import moments
-from common.positions import WAYS
 from common.texts import counted, in_line
 
 from . import server_lines as lines
@@ -16,6 +15,11 @@ from .server_lines import Event
 from .stunnel_lines import Connection, Note
 
 GOOD, BAD, QUIET = 'good', 'bad', 'quiet'
+# What a switch may do, by the releases of opening and closing as the log has them.
+RELEASES = {'open=0 close=0': 'may be neither opened nor closed',
+            'open=0 close=1': 'may be closed, not opened',
+            'open=1 close=0': 'may be opened, not closed',
+            'open=1 close=1': 'may be opened and closed'}
 
 
 @dataclass(frozen=True)
@@ -113,6 +117,11 @@ class Digest:
                         and self.span.has(event.moment))
         return found.most_common()
 
+    def ends(self) -> list[tuple[str, int]]:
+        """How the operates of the span ended, and how often."""
+        return Counter(event.words for event, _ in self.story.events
+                       if event.kind == lines.DONE and self.span.has(event.moment)).most_common()
+
     def process(self) -> str:
         """How often the process was lost, and how long it was away."""
         losses = [it for it in self.story.losses if self.span.meets(*it)]
@@ -203,8 +212,10 @@ def row_of(event: Event, link: Link | None) -> Row:
             kind = QUIET if event.code == '0' else BAD
         case lines.CONTROL if event.is_good():
             told, kind = f'{event.asked()}: done', GOOD
-        case _:
+        case lines.CONTROL:
             told, kind = f'{event.asked()}: refused ({event.code}): {event.words}', BAD
+        case _:
+            told, kind = without_link(event)
     return Row(event.moment, link.who(), told, kind)
 
 
@@ -213,13 +224,22 @@ def without_link(event: Event) -> tuple[str, str]:
     why = f': {event.words}' if event.words else ''
     match event.kind:
         case lines.COMMAND:
-            return f'command: {WAYS[event.way]} {event.switch}', GOOD
+            return f'command: {event.way} {event.switch}', GOOD
+        case lines.POSITION:
+            return f'{event.switch} is {event.words}', BAD if event.words == 'bad' else QUIET
+        case lines.RELEASE:
+            return f'{event.switch} {RELEASES[event.words]}', QUIET
+        case lines.DONE:
+            is_good = event.words == lines.REACHED
+            return f'operate of {event.switch} ended: {event.words}', GOOD if is_good else BAD
         case lines.REFUSED:
             return f'a line of the process is refused ({event.code}){why}', BAD
         case lines.CONNECTED:
             return 'the process has connected', QUIET
+        case lines.PARTED:
+            return f'the process\'s connection is closed ({event.code}){why}', BAD
         case lines.LOST:
-            return f'the process is lost ({event.code}){why}', BAD
+            return 'the process is lost: no operate is accepted until it speaks', BAD
         case lines.BEGUN:
             return f'the server listens: clients on {event.address}{event.words}', QUIET
         case lines.LOADED:
@@ -242,6 +262,9 @@ def text_of(digest: Digest) -> list[str]:
     found += ['', 'Why controls were refused']
     found += [f'  {counted(count, "time")}: {why}' for why, count in digest.refusals()
               ] or ['  none was']
+    if ends := digest.ends():
+        found += ['', 'How operates ended', *(f'  {counted(count, "time")}: {how}'
+                                              for how, count in ends)]
     found += ['', 'Who was not let in']
     found += [f'  {counted(count, "time")} from {hosts}: {why}'
               for why, count, hosts in digest.kept_out()] or ['  nobody']

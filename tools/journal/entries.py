@@ -10,8 +10,9 @@ from dataclasses import dataclass
 MONTHS = ('Jan', 'Feb', 'Mar', 'Apr', 'May', 'Jun', 'Jul', 'Aug', 'Sep', 'Oct', 'Nov', 'Dec')
 DAY = 86_400_000  # milliseconds
 PRIORITY = re.compile(r'<[0-7]>')
-# What stands before a line, by the format of journalctl (-o): the time, the host, the program.
-PROGRAM = r' (?:\S+) (?P<program>[^\s\[]+)(?:\[(?P<number>\d+)\])?: (?P<text>.*)$'
+# What stands before a line, by the format of journalctl (-o): the time, the host, the program,
+# whose name is no number: bayctl itself logs a time and `refused 113: ..`.
+PROGRAM = r' (?:\S+) (?P<program>(?!\d+:)[^\s\[]+)(?:\[(?P<number>\d+)\])?: (?P<text>.*)$'
 ISO = re.compile(r'(?P<iso>\d{4}-\d\d-\d\dT\d\d:\d\d:\d\d(?:[.,]\d{1,6})?(?:[+-]\d\d:?\d\d|Z)?)'
                  + PROGRAM, re.ASCII)
 FULL = re.compile(r'(?:[A-Z][a-z]{2} )(?P<full>\d{4}-\d\d-\d\d \d\d:\d\d:\d\d)(?:\.(?P<part>\d+))? '

@@ -39,9 +39,11 @@ class Link:
 @dataclass
 class Server:
     """A process of bayctl as its lines tell it: the port of its clients, its links that are open,
-    whether its process is there, and how far the system's clock is from its own."""
+    who operated a switch last, whether its process is there, and how far the system's clock is from
+    its own."""
     port: str = ''
     links: dict[int, Link] = field(default_factory=dict)
+    operated: dict[str, Link] = field(default_factory=dict)
     lost: int | None = None
     apart: int = 0
 
@@ -81,14 +83,17 @@ class Joining:
                 self.ends(server, event.moment)
             case lines.CONNECTED:
                 self.returns(server, event.moment)
-            case lines.LOST:
+            case lines.PARTED:
                 server.lost = len(self.story.losses)
                 self.story.losses.append((event.moment, None))
             case lines.CLOCK:
                 server.apart = int(event.code or 0)
 
     def link_of(self, server: Server, event: Event) -> Link | None:
-        """The link of an event; one that opens or closes it, and what is asked on it, is noted."""
+        """The link of an event; one that opens or closes it, and what is asked on it, is noted. The
+        end of an operate belongs to the link that asked for it."""
+        if event.kind == lines.DONE:
+            return server.operated.pop(event.switch, None)
         if event.association is None:
             return None
         number = event.association
@@ -106,6 +111,8 @@ class Joining:
         elif event.kind == lines.CONTROL:
             link.done += event.is_good()
             link.refused += not event.is_good()
+            if event.verb == lines.OPERATE and event.is_good():
+                server.operated[event.switch] = link
         return link
 
     def connection_of(self, server: Server, event: Event) -> Connection | None:
@@ -130,6 +137,7 @@ class Joining:
         for link in server.links.values():
             link.closed = moment
         server.links.clear()
+        server.operated.clear()
         self.returns(server, moment)
 
     def returns(self, server: Server, moment: int) -> None:

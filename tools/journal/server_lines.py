@@ -1,16 +1,21 @@
-"""What a line says that `bayctl serve` prints or logs: USER, 'The log' and 'Serving'."""
+"""What a line says that `bayctl serve` prints or logs: USER, 'The log' and 'Serving'. What it logs
+begins with the time in UTC; what it prints, and logged up to version 1.4, with milliseconds since
+1970."""
 import re
 from collections.abc import Iterable
 from dataclasses import dataclass
 
 from common.positions import WAYS
 
-from .entries import Entry
+from .entries import Entry, zoned
 
 OPEN, CLOSED, CONTROL, COMMAND, REFUSED = 'open', 'closed', 'control', 'command', 'refused'
-CONNECTED, LOST, LOADED, BEGUN = 'process open', 'process closed', 'loaded', 'begun'
+CONNECTED, PARTED, LOADED, BEGUN = 'process open', 'process closed', 'loaded', 'begun'
 ENDED, CLOCK, FAULT = 'ended', 'clock', 'fault'
-TWICE = (CLOSED, REFUSED, CONNECTED, LOST)  # printed and logged
+POSITION, RELEASE, LOST, DONE = 'position', 'release', 'process lost', 'operate ended'
+REACHED = 'position reached'  # how an operate ends well
+OPERATE = 'operate'
+TWICE = (CLOSED, REFUSED, CONNECTED, PARTED)  # printed and logged
 VERDICT = r': (?P<verdict>done|refused (?P<code>\d+): (?P<words>.*))'
 # The kinds of lines that begin with a moment.
 LINES = [
@@ -18,17 +23,21 @@ LINES = [
     (CLOSED, r'association (?P<association>\d) closed (?P<code>\d+|memory)(?:: (?P<words>.*))?'),
     (CLOSED, r'closed (?P<association>\d) (?P<code>\d+|memory)'),
     (CONTROL, r'association (?P<association>\d) (?P<verb>select|operate|cancel) (?P<switch>\w+)'
-              r'(?: (?P<way>on|off) orCat=(?P<category>-?\d+) orIdent=(?P<identity>.*) '
+              r'(?: (?P<way>close|open|on|off) orCat=(?P<category>-?\d+) orIdent=(?P<identity>.*) '
               r'ctlNum=(?P<count>\d+))?' + VERDICT),
     (COMMAND, r'command (?P<switch>\w+) (?P<way>on|off)'),
     (REFUSED, r'refused (?P<code>\d+)(?:: (?P<words>.*))?'),
     (CONNECTED, r'process open'),
-    (LOST, r'process closed (?P<code>\d+)(?:: (?P<words>.*))?'),
+    (PARTED, r'process closed (?P<code>\d+)(?:: (?P<words>.*))?'),
+    (LOST, r'process lost'),
+    (POSITION, r'position (?P<switch>\w+) (?P<words>open|closed|intermediate|bad)'),
+    (RELEASE, r'release (?P<switch>\w+) (?P<words>open=[01] close=[01])'),
+    (DONE, r'operate of (?P<switch>\w+) ended: (?P<words>position reached|time over)'),
     (BEGUN, r'clients on (?P<address>[\d.]+:\d+)(?P<words>, process on [\d.]+:\d+)?'),
     (ENDED, r'(?P<words>all turns are served)'),
     (CLOCK, r'the system\'s clock (?P<words>agrees again|is (?P<code>\d+) ms (?:ahead|behind))')]
-STAMPED = [(kind, re.compile(rf'(?P<moment>\d{{1,20}}) {pattern}', re.ASCII))
-           for kind, pattern in LINES]
+STAMP = r'(?:(?P<moment>\d{1,20})|(?P<time>\d{4}-\d\d-\d\dT\d\d:\d\d:\d\d\.\d{3}Z)) '
+STAMPED = [(kind, re.compile(STAMP + pattern, re.ASCII)) for kind, pattern in LINES]
 # Lines without a moment.
 BARE = [(LOADED, re.compile(r'(?P<words>instructions=\d+ depth=\d+ budget=\d+)', re.ASCII)),
         (FAULT, re.compile(r'(?P<words>(?:bayctl: )?(?:fault (?:\d+|memory)|load refused).*)'))]
@@ -37,7 +46,7 @@ BARE = [(LOADED, re.compile(r'(?P<words>instructions=\d+ depth=\d+ budget=\d+)',
 @dataclass(frozen=True)
 class Event:
     """What a line says. `code` is a number of closing, refusal or cause; of a clock it is the
-    difference in milliseconds."""
+    difference in milliseconds. `way` is open or close."""
     moment: int
     source: str
     kind: str
@@ -56,7 +65,7 @@ class Event:
 
     def asked(self) -> str:
         """What a control asks, in words."""
-        way = f' {WAYS[self.way]}' if self.way else ''
+        way = f' {self.way}' if self.way else ''
         by = f' (orIdent {self.identity})' if self.identity else ''
         return f'{self.verb} {self.switch}{way}{by}'
 
@@ -66,7 +75,8 @@ def event_of(entry: Entry, before: int) -> Event | None:
     before, for lines that have none."""
     for kind, pattern in STAMPED:
         if found := pattern.fullmatch(entry.text):
-            return made(entry, kind, found, int(found['moment']))
+            moment = zoned(found['time']) if found['time'] else int(found['moment'])
+            return None if moment is None else made(entry, kind, found, moment)
     for kind, pattern in BARE:
         if found := pattern.fullmatch(entry.text):
             return made(entry, kind, found, before if entry.moment is None else entry.moment)
@@ -81,8 +91,8 @@ def made(entry: Entry, kind: str, found: re.Match[str], moment: int) -> Event:
         return parts.get(name, '')
 
     return Event(moment, entry.source, kind, int(number) if number else None, part('code'),
-                 part('words'), part('address'), part('verb'), part('switch'), part('way'),
-                 part('identity'))
+                 part('words'), part('address'), part('verb'), part('switch'),
+                 WAYS.get(part('way'), part('way')), part('identity'))
 
 
 def told_once(events: Iterable[Event]) -> list[Event]:

@@ -4,7 +4,6 @@ import collections
 import subprocess
 import threading
 
-from common.positions import WAYS
 from journal import server_lines as lines
 from journal.entries import Entry
 from journal.server_lines import Event, event_of
@@ -12,7 +11,6 @@ from live.watch import time_told
 
 UNIT, LINES = 'bayctl@{}.service', 5000  # the service of a bay; lines that are read of its past
 AGAIN, KEPT = 5.0, 4  # seconds until the journal is asked again; commands that are shown
-OPERATE = 'operate'
 
 
 class Journal:
@@ -35,11 +33,13 @@ class Journal:
                 self.is_logged |= event.kind == lines.BEGUN
             case lines.COMMAND:
                 self.notes(event, 'commanded', True)
-            case lines.CONTROL if event.verb == OPERATE and not event.is_good():
+            case lines.CONTROL if event.verb == lines.OPERATE and not event.is_good():
                 self.notes(event, f'refused, {event.words} ({event.code})', False)
+            case lines.DONE if event.words != lines.REACHED:
+                self.notes(event, event.words, False)
             case lines.CONNECTED:
                 self.process = f'process connected since {time_told(event.moment)}'
-            case lines.LOST:
+            case lines.PARTED:
                 why = f': {event.words}' if event.words else ''
                 told = time_told(event.moment)
                 self.process = f'process gone since {told} ({event.code}{why})'
@@ -49,8 +49,9 @@ class Journal:
                 self.links.pop(event.association, None)
 
     def notes(self, event: Event, told: str, is_good: bool) -> None:
+        way = f' {event.way}' if event.way else ''
         self.commands.append({'time': time_told(event.moment), 'good': is_good,
-                              'told': f'{event.switch} {WAYS[event.way]}: {told}'})
+                              'told': f'{event.switch}{way}: {told}'})
 
     def told(self) -> dict:
         return {'commands': list(self.commands), 'process': self.process,

@@ -3,6 +3,7 @@ address and port; and the span of a day."""
 import datetime
 import json
 import pathlib
+import re
 import sys
 import unittest
 from html.parser import HTMLParser
@@ -10,8 +11,8 @@ from html.parser import HTMLParser
 TOOLS = pathlib.Path(__file__).resolve().parent.parent
 sys.path.insert(0, str(TOOLS))
 from journal import server_lines
-from journal.digest import Span
-from journal.entries import Entry, entries_of, entry_of
+from journal.digest import Span, without_link
+from journal.entries import Entry, entries_of, entry_of, zoned
 from journal.server_lines import event_of
 from tests.tool import Tools, zone
 
@@ -19,24 +20,47 @@ DAY = 1_795_824_000_000  # 2026-11-28 00:00 UTC
 START = DAY + 36_000_000
 NOW = START + 86_400_000
 BLOCKED = 'the interlocking does not release the operation'
+
+def utc(moment):
+    return datetime.datetime.fromtimestamp(moment / 1000, datetime.UTC)
+
+
+def at(after):
+    """The time so many milliseconds after START as a server logs it."""
+    return f'{utc(START + after):%Y-%m-%dT%H:%M:%S}.{(START + after) % 1000:03}Z'
+
+
 SERVER = f'''instructions=14 depth=2 budget=14
-{START} clients on 127.0.0.1:10102, process on 127.0.0.1:10103
-{START + 50} process open
-{START + 1100} association 1 open from 127.0.0.1:56620
-{START + 1200} association 1 select QA1: done
-{START + 1210} association 1 operate QB1 on orCat=2 orIdent=<b> ctlNum=0: refused 10: {BLOCKED}
-{START + 1220} association 2 open from 127.0.0.1:40000
-{START + 1230} association 2 operate QB1 off orCat=-3 orIdent= ctlNum=7: done
-{START + 1330} association 1 closed 0: its client ended it
-{START + 1400} process closed 134: no line for 500 ms
-{START + 2650} process open
-{START + 3000} the system's clock is 1200 ms ahead
-{START + 3100} association 2 closed 131: its connection failed, or sent nothing
-{START + 3200} refused 113: 0 contact QX 1
+{at(0)} clients on 127.0.0.1:10102, process on 127.0.0.1:10103
+{at(10)} process lost
+{at(10)} position QB1 bad
+{at(10)} release QB1 open=0 close=0
+{at(50)} process open
+{at(60)} position QB1 closed
+{at(60)} release QB1 open=1 close=0
+{at(1100)} association 1 open from 127.0.0.1:56620
+{at(1200)} association 1 select QA1: done
+{at(1210)} association 1 operate QB1 close orCat=2 orIdent=<b> ctlNum=0: refused 10: {BLOCKED}
+{at(1220)} association 2 open from 127.0.0.1:40000
+{at(1230)} association 2 operate QB1 open orCat=-3 orIdent= ctlNum=7: done
+{at(1330)} association 1 closed 0: its client ended it
+{at(1350)} position QB1 open
+{at(1350)} release QB1 open=1 close=1
+{at(1350)} operate of QB1 ended: position reached
+{at(1360)} association 2 operate QB1 close orCat=2 orIdent= ctlNum=8: done
+{at(1400)} process closed 134: no line for 500 ms
+{at(1400)} process lost
+{at(1400)} position QB1 bad
+{at(2650)} process open
+{at(2700)} operate of QB1 ended: time over
+{at(3000)} the system's clock is 1200 ms ahead
+{at(3100)} association 2 closed 131: its connection failed, or it sent nothing for 10 seconds
+{at(3200)} refused 113: 0 contact QX 1
 '''
 PRINTED = f'''{START + 50} process open
 {START + 1230} command QB1 off
 {START + 1330} closed 1 0
+{START + 1360} command QB1 on
 {START + 1400} process closed 134
 {START + 2650} process open
 {START + 3100} closed 2 131
@@ -73,10 +97,14 @@ TOLD = '''all that the log has
 
 Who asked
   O=Station, CN=operator: 1 association, 1 done, 1 refused, from 10.0.0.9
-  no certificate, from 127.0.0.1: 1 association, 1 done, 0 refused, from 127.0.0.1
+  no certificate, from 127.0.0.1: 1 association, 2 done, 0 refused, from 127.0.0.1
 
 Why controls were refused
   1 time: the interlocking does not release the operation (10)
+
+How operates ended
+  1 time: position reached
+  1 time: time over
 
 Who was not let in
   1 time from 10.0.0.7: it showed no certificate
@@ -94,7 +122,12 @@ What happened
   10:00:00.000  [from 10.0.0.7] not let in: it showed no certificate
   10:00:00.000  stunnel starts
   10:00:00.000  stunnel has read its configuration, and with it the revocation list
+  10:00:00.010  the process is lost: no operate is accepted until it speaks
+  10:00:00.010  QB1 is bad
+  10:00:00.010  QB1 may be neither opened nor closed
   10:00:00.050  the process has connected
+  10:00:00.060  QB1 is closed
+  10:00:00.060  QB1 may be opened, not closed
   10:00:01.000  [from 10.0.0.8] not let in: certificate revoked; it showed a certificate of \
 O=Station, CN=old
   10:00:01.100  [O=Station, CN=operator] association 1 opened from 10.0.0.9:59886
@@ -105,15 +138,23 @@ interlocking does not release the operation
   10:00:01.230  [no certificate, from 127.0.0.1] operate QB1 open: done
   10:00:01.230  command: open QB1
   10:00:01.330  [O=Station, CN=operator] association 1 closed (0): its client ended it
-  10:00:01.400  the process is lost (134): no line for 500 ms
+  10:00:01.350  QB1 is open
+  10:00:01.350  QB1 may be opened and closed
+  10:00:01.350  [no certificate, from 127.0.0.1] operate of QB1 ended: position reached
+  10:00:01.360  [no certificate, from 127.0.0.1] operate QB1 close: done
+  10:00:01.360  command: close QB1
+  10:00:01.400  the process's connection is closed (134): no line for 500 ms
+  10:00:01.400  the process is lost: no operate is accepted until it speaks
+  10:00:01.400  QB1 is bad
   10:00:02.000  [from 10.0.0.8] not let in: it speaks no TLS
   10:00:02.650  the process has connected
+  10:00:02.700  [no certificate, from 127.0.0.1] operate of QB1 ended: time over
   10:00:03.000  the system's clock is 1200 ms ahead
   10:00:03.000  [from 10.0.0.9] not let in: 127.0.0.1:10102 is not reached: Connection refused; \
 it showed a certificate of O=Station, CN=operator
   10:00:03.000  stunnel: Failed to load the revocation list
   10:00:03.100  [no certificate, from 127.0.0.1] association 2 closed (131): its connection \
-failed, or sent nothing
+failed, or it sent nothing for 10 seconds
   10:00:03.200  a line of the process is refused (113): 0 contact QX 1
   10:00:04.000  stunnel ends
 '''
@@ -123,17 +164,13 @@ def of_journal(form):
     """The lines of both as journalctl prints them in a format."""
     lines = [(START, 'bayctl[812]', 'instructions=14 depth=2 budget=14')]
     for line in (SERVER + PRINTED).splitlines()[1:]:
-        lines.append((int(line.split()[0]), 'bayctl[812]', line))
+        lines.append((event_of(Entry(line), 0).moment, 'bayctl[812]', line))
     for line in DOOR.splitlines():
         clock = datetime.datetime.strptime(line[:19], '%Y.%m.%d %H:%M:%S')
         moment = int(clock.replace(tzinfo=datetime.UTC).timestamp()) * 1000
         lines.append((moment, 'stunnel[77]', line[20:]))
     return ''.join(form(moment, program, text) + '\n' for moment, program, text in sorted(
         lines, key=lambda it: it[0]))
-
-
-def utc(moment):
-    return datetime.datetime.fromtimestamp(moment / 1000, datetime.UTC)
 
 
 def as_json(moment, program, text):
@@ -172,6 +209,18 @@ class Logs(Tools):
         found = self.told(*self.both())
         self.assertEqual(found.out, TOLD)
         self.assertEqual(found.error, '')
+
+    def test_logs_of_earlier_versions(self):
+        """They have milliseconds since 1970, on and off, and no more than links and controls."""
+        earlier = re.sub(r'(?m)^\S+ (position|release|operate of|process lost).*\n', '', SERVER)
+        earlier = re.sub(r'(?m)^\S+Z(?= )', lambda it: str(zoned(it[0])), earlier)
+        earlier = earlier.replace('QB1 close', 'QB1 on').replace('QB1 open o', 'QB1 off o')
+        _, out, door = self.both()
+        found = self.told(self.file('server', earlier), out, door)
+        gone = re.compile(r'( ended: | is (open|closed|bad)$| may be | is lost: )', re.MULTILINE)
+        ends = '\nHow operates ended\n  1 time: position reached\n  1 time: time over\n'
+        kept = [it for it in TOLD.replace(ends, '').splitlines() if not gone.search(it)]
+        self.assertEqual(found.out.splitlines(), kept)
 
     def test_the_journal_in_each_format(self):
         """Joined as in files; times of stunnel have the journal's accuracy."""
@@ -235,7 +284,8 @@ class Logs(Tools):
     def test_several_days_have_dates(self):
         later = f'{DAY + 90_000_000} process closed 0: it ended its connection\n'
         found = self.told(self.file('server', SERVER + later))
-        self.assertIn('2026-11-29 01:00:00.000Z  the process is lost (0)', found.out)
+        self.assertIn('2026-11-29 01:00:00.000Z  the process\'s connection is closed (0)',
+                      found.out)
         self.assertIn('and it has not come back 1 time', found.out)
 
     def test_the_page(self):
@@ -245,7 +295,8 @@ class Logs(Tools):
         parser = Balanced()
         parser.feed(text)
         self.assertEqual(parser.open, [])
-        for told in ('O=Station, CN=operator', '(orIdent &lt;b&gt;)', 'the process is lost (134)',
+        for told in ('O=Station, CN=operator', '(orIdent &lt;b&gt;)', 'connection is closed (134)',
+                     '<h2>How operates ended</h2>', '<td>QB1 may be opened and closed</td>',
                      'certificate revoked; it showed a certificate of O=Station, CN=old'):
             self.assertIn(told, text)
         self.assertNotIn('<b>', text)
@@ -268,7 +319,7 @@ class Logs(Tools):
         server, out, gate = self.both()
         self.assertIn('bayctl was started without --log', self.told(out).error)
         self.assertIn('no line of bayctl: what was asked is not told', self.told(gate).error)
-        late = self.file('late', SERVER.replace('179586', '179587'))
+        late = self.file('late', SERVER.replace('T10:', 'T12:'))
         found = self.told(late, gate)
         self.assertIn('1 connection that stunnel let in fits no association', found.error)
         self.assertNotIn('CN=operator: 1 association', found.out)
@@ -303,7 +354,7 @@ class Joins(Tools):
                                                     moved))
 
     def test_a_log_that_begins_late(self):
-        late = ''.join(SERVER.splitlines(keepends=True)[4:])
+        late = ''.join(SERVER.splitlines(keepends=True)[9:])
         self.assertIn('unknown: its opening is not in the log: 1 association, 1 done, 1 refused',
                       self.joined(late, DOOR))
 
@@ -318,6 +369,25 @@ class Joins(Tools):
 
 
 class Lines(unittest.TestCase):
+    def test_what_each_line_says(self):
+        for text, kind, words in (
+                ('position QA1 intermediate', server_lines.POSITION, 'QA1 is intermediate'),
+                ('release Q_1 open=0 close=1', server_lines.RELEASE,
+                 'Q_1 may be closed, not opened'),
+                ('process lost', server_lines.LOST,
+                 'the process is lost: no operate is accepted until it speaks'),
+                ('operate of QA1 ended: time over', server_lines.DONE,
+                 'operate of QA1 ended: time over')):
+            for moment in (f'{at(1)}', f'{START + 1}'):
+                found = event_of(Entry(f'{moment} {text}'), 0)
+                self.assertEqual((found.kind, found.moment), (kind, START + 1), text)
+                self.assertEqual(without_link(found)[0], words)
+
+    def test_a_line_that_looks_like_one_of_a_journal(self):
+        """Of a file without a journal: the host `refused`, the program 113."""
+        entry = entry_of(f'{at(5)} refused 113: 0 contact QX 1', NOW)
+        self.assertEqual(event_of(entry, 0).words, '0 contact QX 1')
+
     def test_identities_that_look_like_an_answer(self):
         told = 'A ctlNum=1: done ctlNum=2: refused 9: x'
         line = f'5 association 1 operate Q1 on orCat=2 orIdent={told} ctlNum=7: done'
@@ -326,6 +396,9 @@ class Lines(unittest.TestCase):
 
     def test_lines_that_are_none(self):
         for line in ('', 'x', '5', '5 scan steps=1', '5 association 1', '5 command QA1 up',
+                     '5 position QA1 up', '5 release QA1 open=2 close=0', '5 process lost: x',
+                     '5 operate of QA1 ended: x', '2026-11-28T10:00:00Z process open',
+                     '2026-11-31T10:00:00.000Z process open', f'{at(5)}  process open',
                      'x 5 process open', '٥ process open', '5 closed 1',
                      '9' * 21 + ' process open'):
             self.assertIsNone(event_of(Entry(line), 0), line)

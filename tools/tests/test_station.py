@@ -26,16 +26,18 @@ from wire.served import free_port, until
 
 OTHER = FILE.replace('"B1"', '"B2"')
 LOGGED = '''instructions=14 depth=2 budget=14
-1785000000000 clients on 127.0.0.1:10102, process on 127.0.0.1:10103
+2026-07-25T17:20:00.000Z clients on 127.0.0.1:10102, process on 127.0.0.1:10103
 1785000001000 process open
-1785000002000 association 1 open from 127.0.0.1:40000
-1785000002500 association 2 open from 127.0.0.1:40002
-1785000003000 association 1 operate QB1 off orCat=2 orIdent=A ctlNum=7: refused 10: the \
-interlocking does not release the operation
-1785000004000 association 1 operate QA1 off orCat=2 orIdent=A ctlNum=8: done
+2026-07-25T17:20:01.000Z process open
+2026-07-25T17:20:02.000Z association 1 open from 127.0.0.1:40000
+2026-07-25T17:20:02.500Z association 2 open from 127.0.0.1:40002
+2026-07-25T17:20:03.000Z association 1 operate QB1 open orCat=2 orIdent=A ctlNum=7: refused 10: \
+the interlocking does not release the operation
+2026-07-25T17:20:04.000Z association 1 operate QA1 open orCat=2 orIdent=A ctlNum=8: done
 1785000004000 command QA1 off
 1785000005000 closed 2 0
-1785000005000 association 2 closed 0: its client ended it
+2026-07-25T17:20:05.000Z association 2 closed 0: its client ended it
+2026-07-25T17:20:06.000Z operate of QA1 ended: time over
 '''
 
 
@@ -104,7 +106,7 @@ class Journals(Tools):
         found = self.heard(LOGGED)
         self.assertEqual([(it['told'], it['good']) for it in found['commands']], [
             ('QB1 open: refused, the interlocking does not release the operation (10)', False),
-            ('QA1 open: commanded', True)])
+            ('QA1 open: commanded', True), ('QA1: time over', False)])
         self.assertRegex(found['process'], r'^process connected since \S+ \d\d:\d\d:01\.000$')
         self.assertEqual(found['links'], [(1, '127.0.0.1:40000')])
 
@@ -121,7 +123,7 @@ class Journals(Tools):
     def test_without_a_log(self):
         """The links are not told, which is another thing than that there are none."""
         printed = [line for line in LOGGED.splitlines(True)
-                   if 'association' not in line and 'clients' not in line]
+                   if 'Z ' not in line]
         found = self.heard(''.join(printed))
         self.assertIsNone(found['links'])
         self.assertEqual([it['told'] for it in found['commands']], ['QA1 open: commanded'])
@@ -159,8 +161,8 @@ class Journals(Tools):
             f'print({LOGGED!r}, end="", flush=True)\n'
             'print("9000 command", sys.argv[1].replace("@", "_")[7:17], "on", flush=True)\n'
             'time.sleep(60)'))
-        found = until(lambda: (it := follower.told())['commands'][2:] and it, 'it is read')
-        self.assertEqual(found['commands'][2]['told'], 'bayctl_E05 close: commanded')
+        found = until(lambda: (it := follower.told())['commands'][3:] and it, 'it is read')
+        self.assertEqual(found['commands'][3]['told'], 'bayctl_E05 close: commanded')
         self.assertEqual((found['links'], found['trouble']), ([(1, '127.0.0.1:40000')], ''))
 
     def test_a_journal_that_can_not_be_read(self):
