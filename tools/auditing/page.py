@@ -161,7 +161,7 @@ class Report:
     def conditions(self) -> str:
         rows = [(f'<b>{escaped(name)}</b> {WAYS[way]}', product_list(it))
                 for (name, way), it in released(self.audit).items()]
-        how = ('as it is proved; where it hangs on variables or timers, these are named'
+        how = ('as it is proved; where it depends on variables or timers, these are named'
                if self.audit.answer else 'as it was tried, once timers have run out')
         return (f'<h2>Derived conditions</h2><p class="quiet">When each release is given, in the '
                 f'fewest words: {how}.</p>' + table(['!Release', 'is given when'], rows))

@@ -100,7 +100,7 @@ class Derived:
     def lines(self) -> list[str]:
         """The words of each product; behind what it depends on is said so."""
         found = self.condition.lines() if self.condition.products or not self.hanging else []
-        return found + [f'{line} (hangs on {", ".join(kept)})'
+        return found + [f'{line} (depends on {", ".join(kept)})'
                         for kept, condition in self.hanging for line in condition.lines()]
 
     def is_never(self) -> bool:
@@ -177,7 +177,7 @@ def derived(release: Release, bay_file: dict, rules: list[Rule]) -> Derived:
 def lost_table(answer: Answer | None, bay_file: dict) -> list[tuple[str, str, str]]:
     """What is told of opening and of closing each switch while the process is lost; nothing where
     bayctl does not tell it."""
-    told = {(it.name, it.way): f'hangs on {", ".join(it.kept)}' if it.kept else it.state
+    told = {(it.name, it.way): f'depends on {", ".join(it.kept)}' if it.kept else it.state
             for it in (answer.lost if answer else [])}
     return [(switch['id'], *(told.get((raised(switch['id']), way), '') for way in range(len(WAYS))))
             for switch in bay_file['switch'] if told]

@@ -150,7 +150,7 @@ class Driver:
             unit.woken.set()
 
     def fail(self, unit: Unit, fault: ModuleFault) -> None:
-        """What hangs on a module is bad."""
+        """What is wired to a module is bad."""
         if str(fault) not in (unit.fault, CONNECTION_CLOSED):
             self.say(f'module {unit.module.name}: {fault}')
             unit.fault = str(fault)

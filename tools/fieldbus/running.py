@@ -29,7 +29,7 @@ def options(description: str | None) -> Parser:
     """The options that drivers of all buses have."""
     found = Parser(description)
     found.add_argument('--bay', required=True, metavar='F', help='the bay file')
-    found.add_argument('--wiring', metavar='F', help='what hangs on which module')
+    found.add_argument('--wiring', metavar='F', help='what is wired to which module')
     found.add_argument('--process', type=port_of, metavar='P', help='the port of the process')
     found.add_argument('--key', metavar='F', help='the key of the server')
     found.add_argument('--check', action='store_true',

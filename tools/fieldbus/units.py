@@ -38,7 +38,7 @@ class Unit:
 
     async def put(self, coil: int, value: bool) -> None:
         """Switches a coil. Where that isn't answered it may be done later, as by a gateway with a
-        queue: for a while all that hangs on the module stays bad, so that nothing is released."""
+        queue: for a while all that is wired to the module stays bad, and nothing is released."""
         try:
             await self.link.put(coil, value)
         except ModuleFault as fault:

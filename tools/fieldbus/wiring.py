@@ -297,7 +297,7 @@ class Reading:
                 raise table.wrong(f'its {kind}s {min(every)} and {max(every)} are too far apart: '
                                   f'one request reads {most:,}')
         if not every_line(module):
-            raise table.wrong('nothing hangs on it: leave it out')
+            raise table.wrong('nothing is wired to it: leave it out')
 
 
 def every_line(module: Module) -> bool:
@@ -322,7 +322,7 @@ def pulse_of(table: Table, travel: int) -> tuple[float, bool]:
 
 
 class Modules(list[Module]):
-    """The modules of a wiring, each with what hangs on it, and what it says to hang on none."""
+    """The modules of a wiring, each with what is wired to it, and what it says is wired to none."""
     not_wired: list[str]
 
 

@@ -72,7 +72,7 @@ def why_not(condition: Condition | Derived | None, seen: Seen) -> str:
     found = [(*seen.missing(product), kept) for product, kept in products]
     for broken, unseen, kept in found:
         if kept and not broken and not unseen:
-            return f'{STILL} yet: it hangs on {", ".join(kept)}'
+            return f'{STILL} yet: it depends on {", ".join(kept)}'
     visible, hidden = [it for it in found if it[0]], [it for it in found if not it[0] and it[1]]
     told = []
     if visible:

@@ -181,7 +181,7 @@ class Trial(unittest.TestCase):
         self.assertEqual(self.judged(Release('QA1', 0), True), ['cases are not parts'])
         hangs = Release('QA1', 0, [case(1, 'a')])
         self.assertEqual(self.judged(hangs, True, True) + self.judged(hangs, False, True), [])
-        self.assertEqual(self.judged(hangs, True), ['a case that hangs on nothing'])
+        self.assertEqual(self.judged(hangs, True), ['a case that depends on nothing'])
 
     def test_programs_without_memory_have_none(self):
         for seed in range(20):

@@ -83,8 +83,8 @@ class Answers(unittest.TestCase):
         self.assertEqual(found.rules[0].case, Case({AA: ((3, 3),)}, (COMPUTED,)))
         self.assertEqual([case.kept for case in found.releases[0].cases], [(COMPUTED,), ('M1_AA',)])
         told = proving.conditions(found, FILE)['QA1', 1].lines()
-        self.assertEqual(told, [f'M1_AA 3 (hangs on {COMPUTED})',
-                                'M1_AA >= 4 and M1_AA <= 11 (hangs on M1_AA)'])
+        self.assertEqual(told, [f'M1_AA 3 (depends on {COMPUTED})',
+                                'M1_AA >= 4 and M1_AA <= 11 (depends on M1_AA)'])
         audit = proved('never QA1 close when M1_AA = 3\n', text)
         self.assertIn(f'holds, unless {COMPUTED} breaks it with M1_AA 3',
                       verdicts.lines_of(audit, audit.findings[0])[1])
@@ -188,7 +188,7 @@ class Asking(Tools):
             'When the process is lost (each position is bad, each input 0):')
         self.assertEqual(found.out.splitlines()[at + 1:at + 5], [
             '         open      close', '    QA1  released  blocked',
-            '    QC1  released  hangs on t1', 'WARNING: QC1 may be opened while the process is '
+            '    QC1  released  depends on t1', 'WARNING: QC1 may be opened while the process is '
             'lost: each position is bad and each input 0'])
         scenario = (self.folder / 'broken_2.scenario').read_text()
         self.assertTrue(scenario.endswith('%%\n0 contact QA1 0\n0 contact QC1 1\n'
@@ -319,7 +319,7 @@ class Verdicts(unittest.TestCase):
     def test_what_is_released_while_the_process_is_lost(self):
         found = proved(RULES, ANSWER)
         self.assertEqual(proving.lost_table(found.answer, FILE), [
-            ('QA1', 'released', 'blocked'), ('QC1', 'hangs on t1, LOCK', 'released')])
+            ('QA1', 'released', 'blocked'), ('QC1', 'depends on t1, LOCK', 'released')])
         self.assertEqual(verdicts.lost_warnings(found), [
             'QC1 may be closed while the process is lost: each position is bad and each input 0'])
         self.assertIn('<h2>When the process is lost</h2>', page_of(found))
@@ -341,7 +341,7 @@ class Verdicts(unittest.TestCase):
         page = page_of(proved(RULES, ANSWER))
         for told in ('proved: QA1 may always be opened', '<span class="mark good">PROVED</span>',
                      'holds, unless t1 breaks it with VT_DEAD 0; tried in 4', 'NOT PASSED: of 5',
-                     '(hangs on t1, LOCK)', '<b>Proved</b>: bayctl runs', 'as it is proved'):
+                     '(depends on t1, LOCK)', '<b>Proved</b>: bayctl runs', 'as it is proved'):
             self.assertIn(told, page)
         self.assertNotIn('Nothing is proved', page)
 
@@ -407,7 +407,7 @@ class Conditions(unittest.TestCase):
         self.assertEqual(told[('QC1', 0)], ['never'])
         self.assertEqual(told[('QC1', 1)], [
             'QA1 open and VT_DEAD and M1_AA 0',
-            'QA1 open and (M1_AA <= -1 or M1_AA >= 6) (hangs on t1, LOCK)'])
+            'QA1 open and (M1_AA <= -1 or M1_AA >= 6) (depends on t1, LOCK)'])
 
     def test_what_no_rule_asks_for(self):
         """By the cases that are proved, though not all was tried: the part of each that lies in no
@@ -419,11 +419,11 @@ class Conditions(unittest.TestCase):
         found = proved(rules, LOADED + held + ANSWER[ANSWER.index('release'):])
         bare = judging.uncovered(found)
         self.assertEqual({key: (count, it.lines()) for key, (count, it) in bare.items()}, {
-            ('QC1', 1): (None, ['QA1 open and M1_AA <= -1 (hangs on t1, LOCK)',
+            ('QC1', 1): (None, ['QA1 open and M1_AA <= -1 (depends on t1, LOCK)',
                                 'QA1 open and not VT_DEAD and (M1_AA <= -1 or M1_AA >= 6) '
-                                '(hangs on t1, LOCK)'])})
+                                '(depends on t1, LOCK)'])})
         self.assertIn('is released, as proved, and no rule with', page_of(found))
-        self.assertIn('and M1_AA &lt;= -1 (hangs on', page_of(found))
+        self.assertIn('and M1_AA &lt;= -1 (depends on', page_of(found))
 
     def test_it_is_exact(self):
         rng, words = random.Random(3), ('QA1 open', 'QA1 not bad', 'VT_DEAD', 'not VT_DEAD',
@@ -464,7 +464,7 @@ class Conditions(unittest.TestCase):
         closing = self.FOUND['QC1', 1]
         for position, value, told in (
                 ('closed', 7, 'QA1 is closed and must be open'),
-                ('open', 7, 'the program does not release it yet: it hangs on t1, LOCK'),
+                ('open', 7, 'the program does not release it yet: it depends on t1, LOCK'),
                 ('open', 0, 'input VT_DEAD must be 1 (not seen here)')):
             seen = Seen({'QA1': position}, {'M1_AA': value})
             self.assertIn(told, why_not(closing, seen))

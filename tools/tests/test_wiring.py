@@ -79,7 +79,7 @@ WRONG = [
      put('[[switch]]', SECOND.format(502) + '[[switch]]')),
     ('switch QA1: module is missing: write one of io, io2',
      put('[[switch]]', SECOND.format(503) + '[[switch]]')),
-    ('module io2: nothing hangs on it: leave it out',
+    ('module io2: nothing is wired to it: leave it out',
      put('[[switch]]', SECOND.format(503) + '[[switch]]').replace(
          'open = 0', 'module = "io"\nopen = 0').replace(
          'open = 3', 'module = "io"\nopen = 3').replace(
