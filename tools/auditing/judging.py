@@ -134,7 +134,8 @@ def audit(bay, rules: list, bayctl, pause: int | None = None, answer: Answer | N
             finding.shown = shown(bay, finding.rule, finding.proof.case, bayctl)
     chosen = chosen_of(bay, findings, answer is None or is_table_asked)
     found = Audit(bay, findings, answer, [], offsets, 0)
-    tell_size(bay, len(chosen), offsets)
+    if chosen:
+        tell_size(bay, len(chosen), offsets)
     go_through(found, chosen, bayctl)
     for finding in findings:
         if finding.rule.since and chosen:

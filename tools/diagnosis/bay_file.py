@@ -94,8 +94,8 @@ def open_quote(line: str) -> int | None:
 
 
 def twice_told(place: Place, line: str, text: str) -> None:
-    """Of a section that stands twice, where it stood first."""
-    head = re.match(r'\s*\[\s*([\w-]+)\s*\]', line)
+    """Of a section that stands twice, where it stood first, perhaps as a list or as none."""
+    head = re.match(r'\s*\[\[?\s*([\w-]+)\s*\]', line)
     before = text.split('\n')[:place.line - 1]
     first = next((at for at, other in enumerate(before, 1)
                   if head and re.match(rf'\s*\[\[?\s*{re.escape(head[1])}\s*\]', other)), None)

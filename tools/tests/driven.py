@@ -15,11 +15,15 @@ TRAVEL, PULSE, DOUBT, TIMEOUT = 1200, 400, 800, 400  # ms
 TRIES = 3  # of a test
 BAY = f'''[bay]
 domain = "E1"
+vendor = "V"
+model = "M"
 revision = "2 b"
+scan_max_age_ms = 500
 [[switch]]
 id = "QA1"
 kind = "breaker"
 control = "sbo-enhanced"
+sbo_timeout_ms = 5000
 travel_ms = {TRAVEL}
 [[switch]]
 id = "QC1"

@@ -24,14 +24,19 @@ domain = "E1"
 vendor = "V"
 model = "M"
 revision = "1"
+scan_max_age_ms = 500
 [[switch]]
 id = "QA1"
 kind = "breaker"
 control = "sbo-enhanced"
+sbo_timeout_ms = 5000
+travel_ms = 2000
 [[switch]]
 id = "QB1"
 kind = "disconnector"
 control = "sbo"
+sbo_timeout_ms = 5000
+travel_ms = 2000
 [[input]]
 name = "KEY"
 [[meter]]

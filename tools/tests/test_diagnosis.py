@@ -180,6 +180,8 @@ class Bays(unittest.TestCase):
                  'switch must be a list of tables', 'write [[switch]] for each switch'),
                 (two, 50, 'the section [switch] is given twice',
                  'write [[switch]] for each switch'),
+                (FILE.replace('[[switch]]', '[switch]', 1), 50, 'the section [switch] is given',
+                 'write [[switch]] for each switch'),
                 (FILE + '[bay]\n', 50, 'the section [bay] is given twice', 'remove one of them'),
                 (FILE.replace('"V"', '"V'), 50, 'this quote is not closed', 'put a quote'),
                 (FILE.replace('[bay]', '// a comment\n[bay]'), 50, 'a key can\'t begin with //',

@@ -474,7 +474,9 @@ class Stopped(Tools):
 
         with served(Bay(reports)) as server:
             bay = self.file('bay', '[bay]\ndomain = "B"\nvendor = "V"\nmodel = "M"\n'
-                            '[[switch]]\nid = "QA1"\nkind = "breaker"\ncontrol = "sbo"\n')
+                            'revision = "1"\nscan_max_age_ms = 500\n'
+                            '[[switch]]\nid = "QA1"\nkind = "breaker"\n'
+                            'control = "status"\n')
             words = [sys.executable, '-B', TOOLS / 'panel', '--bay', bay,
                      str(server.getsockname()[1]), '--http', '0']
             with interruptible():

@@ -21,9 +21,11 @@ from wire.conversation import Conversation
 from wire.mms import BITS, BOOLEAN, INTEGER, STRUCTURE, TEXT, TIME, UNSIGNED, Data
 from wire.same_bay import Comparison, compared
 
-HEAD = '[bay]\ndomain = "B1"\nvendor = "V"\nmodel = "M"\nrevision = "1"\n'
+HEAD = '[bay]\ndomain = "B1"\nvendor = "V"\nmodel = "M"\nrevision = "1"\n' \
+       'scan_max_age_ms = 500\n'
 QA1, QB1, QB2, QC1 = (
     f'[[switch]]\nid = "{name}"\nkind = "{kind}"\ncontrol = "{control}"\n'
+    + 'travel_ms = 4000\n' * (control != 'status')
     for name, kind, control in (
         ('QA1', 'breaker', 'sbo'), ('QB1', 'disconnector', 'direct'),
         ('QB2', 'disconnector', 'direct'), ('QC1', 'earthing', 'status')))
@@ -141,7 +143,7 @@ class Differences(unittest.TestCase):
 
     def test_switches_that_changed_places(self):
         """Of two that differ in nothing else but their class."""
-        one = QA1.replace('sbo"\nsbo_timeout_ms = 2000', 'direct"')
+        one = QA1.replace('sbo"', 'direct"').replace('sbo_timeout_ms = 2000\n', '')
         found, _ = differing(HEAD + QB1 + one, HEAD + one + QB1)
         self.assertEqual(found, [
             f'the server\'s {control} and {own} are not one switch, '
@@ -206,6 +208,13 @@ class Operating(Tools):
         found, is_operated = self.asked(FILE, 'operate', 'QB1', 'close')
         self.assertEqual(found.out, 'operate QB1: accepted\noperate QB1: done: closed\n')
         self.assertEqual((found.status, is_operated), (0, True))
+
+    def test_a_file_that_bayctl_refuses(self):
+        """Of two switches with one id one would be operated, and it might be the wrong one."""
+        found, is_operated = self.asked(FILE, 'operate', 'QB1', 'close',
+                                        file=FILE.replace('"QB2"', '"QB1"'))
+        self.assertRegex(found.error, r'bay\.toml is refused with 54: line 19: switch 3 \(QB1\): ')
+        self.assertEqual((found.out, found.status, is_operated), ('', 3, False))
 
     def test_reading_is_not_refused(self):
         found, _ = self.asked(FILE.replace('"M"', '"N"'), 'read', 'CSWI1$ST$Pos$stVal')

@@ -17,10 +17,14 @@ from wire.served import Running, free_port, until
 
 BAY = '''[bay]
 domain = "E1"
+vendor = "V"
+model = "M"
 revision = "2 b"
+scan_max_age_ms = 500
 [[switch]]
 id = "QA1"
 kind = "breaker"
+control = "direct"
 travel_ms = 40
 [[input]]
 name = "ES"

@@ -68,7 +68,7 @@ class Listing(Tools):
         self.bay('D', FILE, 'PORT=0\n')
         self.bay('E', FILE, 'PORT=10102\n')
         found = {it.name: it.trouble for it in all_of([], str(self.folder))}
-        for name, told in (('A', 'TOML'), ('B', 'B/env: it has no line PORT=..'),
+        for name, told in (('A', 'refused with 50'), ('B', 'B/env: it has no line PORT=..'),
                            ('C', 'C/env: No such file'), ('D', '0 is not a port')):
             self.assertIn(told, found[name])
         self.assertEqual(found['E'], '')
