@@ -13,7 +13,7 @@ from .symbols import REACH, STYLE, blade, ending, windings
 
 TOP, BUS, APART = 40, 34, 112  # above the first busbar, between two, between two levels
 LEFT, RIGHT, BRANCH = 46, 150, 250  # room beside a node, and of an earthing switch
-FITS = 640  # how narrow a picture of a page may be shown
+FITS = 560  # how narrow a picture of a page may be shown
 STACK, TAIL = 56, 82  # between two earthing switches of a node, and below the last level
 ROUND = 25  # from the middle of a transformer to its wires
 WORDS = {True: '✓', False: '✕', None: '?'}  # of a release: given, not given, or it depends
