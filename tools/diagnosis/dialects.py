@@ -8,6 +8,8 @@ OPERATORS = {
     'SPA': 'JMP', 'SPB': 'JMPC', 'SPBN': 'JMPCN', 'JU': 'JMP', 'JC': 'JMPC', 'JCN': 'JMPCN',
     'BE': 'RET', 'BEA': 'RET', 'BEB': 'RETC', 'BEU': 'RET', 'BEC': 'RETC', 'CALL': 'CAL',
     'LADE': 'LD', 'SET': 'LD TRUE', 'CLR': 'LD FALSE'}
+# What loads the first operand of a condition, for which STEP 7 has the same word.
+FIRST = {'AND': 'LD', 'OR': 'LD', 'XOR': 'LD', 'ANDN': 'LDN', 'ORN': 'LDN', 'XORN': 'LDN'}
 TRUTHS = {'WAHR': 'TRUE', 'FALSCH': 'FALSE', 'VRAI': 'TRUE', 'FAUX': 'FALSE', 'VERO': 'TRUE',
           'FALSO': 'FALSE', 'JA': 'TRUE', 'NEIN': 'FALSE'}
 STRUCTURED = {'IF', 'ELSIF', 'ELSE', 'END_IF', 'CASE', 'END_CASE', 'FOR', 'END_FOR', 'WHILE',
@@ -26,6 +28,8 @@ def operator_told(first: str, rest: list[str]) -> tuple[str, str] | None:
     if word is None:
         return None
     mend = f'write {word}' if ' ' in word or not rest else f'write {word} {rest[0]}'
+    if word in FIRST and rest and rest[0] != '(':
+        mend += f', or {FIRST[word]} {rest[0]} where a condition begins'
     return f'{first} is an operator of another dialect: here it is {word}', mend
 
 

@@ -263,7 +263,7 @@ class Programs(unittest.TestCase):
         head = HEAD.format('a, b : BOOL;')
         for line, told, mend in (
                 ('U SF6_OK', 'U is an operator of another dialect: here it is AND',
-                 'write AND SF6_OK'),
+                 'write AND SF6_OK, or LD SF6_OK where a condition begins'),
                 ('on a', 'on is an operator of another dialect: here it is ORN', 'write ORN a'),
                 ('U(', 'here it is AND', 'write AND ('), ('BEA', 'here it is RET', 'write RET'),
                 ('SET', 'here it is LD TRUE', 'write LD TRUE'),

@@ -88,8 +88,10 @@ class Simulations(unittest.TestCase):
 @needs_loopback
 class Simulated(Simulations):
     def test_first_values(self):
-        file, _ = self.play('--at', 'QA1=closed', '--set', 'es=1')
-        self.assertEqual(self.lines(file, 2), ['0 contact QA1 2', '0 input ES 1'])
+        file, _ = self.play('--at', 'QA1=closed', '--set', 'es=1', '--set', 'm1_aa=-5',
+                            '--set', 'M1_HZ=bad')
+        self.assertEqual(self.lines(file, 4), ['0 contact QA1 2', '0 input ES 1',
+                                               '0 measure M1 AA -5', '0 measure M1 HZ bad'])
         file.close()
 
     def test_a_command(self):
