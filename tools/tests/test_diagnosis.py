@@ -264,7 +264,8 @@ class Programs(unittest.TestCase):
         for line, told, mend in (
                 ('U SF6_OK', 'U is an operator of another dialect: here it is AND',
                  'write AND SF6_OK, or LD SF6_OK where a condition begins'),
-                ('on a', 'on is an operator of another dialect: here it is ORN', 'write ORN a'),
+                ('on a', 'on is an operator of another dialect: here it is ORN',
+                 'write ORN a, or LDN a where a condition begins'),
                 ('U(', 'here it is AND', 'write AND ('), ('BEA', 'here it is RET', 'write RET'),
                 ('SET', 'here it is LD TRUE', 'write LD TRUE'),
                 ('= a', '= is no operator: ST stores the result', 'write ST or EQ'),
