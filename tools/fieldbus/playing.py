@@ -7,7 +7,7 @@ import struct
 import sys
 import time
 
-from bay.served import served_bay_at
+from bay.accepted import accepted_bay_at
 from common.ending import DONE, Failed
 from common.keyboard import Keyboard
 from common.texts import raised
@@ -217,5 +217,5 @@ async def played(modules: list[Module]) -> None:
 
 def play(bay: str, wiring: str) -> int:
     """Plays the modules of a wiring until it is interrupted."""
-    asyncio.run(played(wiring_at(wiring, served_bay_at(bay)[1], MODBUS)))
+    asyncio.run(played(wiring_at(wiring, accepted_bay_at(bay)[1], MODBUS)))
     return DONE

@@ -3,8 +3,8 @@ import argparse
 import pathlib
 from dataclasses import dataclass
 
+from bay.accepted import accepted_bay_at
 from bay.files import BadFile, text_of
-from bay.served import served_bay_at
 from common.ending import CalledWrong, Failed
 from wire.sockets import port_of
 
@@ -28,7 +28,7 @@ def pair(path: str, port: str) -> Listed:
         number = port_of(port)
     except argparse.ArgumentTypeError as error:
         raise CalledWrong(f'--bay: {error}') from None
-    text, file = served_bay_at(path)
+    text, file = accepted_bay_at(path)
     return Listed(file['bay']['domain'], file, text, number)
 
 
@@ -49,7 +49,7 @@ def folder_of(path: pathlib.Path) -> Listed:
         settings = settings_of(path / SETTINGS)
         if PORT not in settings:
             raise BadFile(f'{path / SETTINGS}: it has no line {PORT}=..')
-        return Listed(path.name, *reversed(served_bay_at(path / BAY)), port_of(settings[PORT]))
+        return Listed(path.name, *reversed(accepted_bay_at(path / BAY)), port_of(settings[PORT]))
     except (Failed, argparse.ArgumentTypeError) as error:
         return Listed(path.name, {}, '', 0, str(error))
 

@@ -1,4 +1,4 @@
-"""The bay file of a served bay: one that bayctl takes."""
+"""The bay file of a bay that is operated or played: one that bayctl takes."""
 from typing import Any
 
 from diagnosis.bay_file import refusals
@@ -6,7 +6,7 @@ from diagnosis.bay_file import refusals
 from .files import BadFile, Path, bay_at, octets_of
 
 
-def served_bay_at(path: Path) -> tuple[str, dict[str, Any]]:
+def accepted_bay_at(path: Path) -> tuple[str, dict[str, Any]]:
     """The text of a bay file, and its tables. One that bayctl would refuse ends the tool: of two
     switches with one id the wrong one could be operated."""
     for found in refusals(octets_of(path)):
