@@ -27,6 +27,7 @@ CODES = {0: 'ended', 10: 'no TPKT', 11: 'no TPDU that may come now', 12: 'anothe
          132: 'another bay, another key, or no line bay first', 133: 'a time that is too far away',
          134: 'no line in time'}
 
+LACKING = 'the scenario: a part is missing; two lines %% stand between its parts'
 ENDED = {'fault memory': 'memory ran out', 'fault 121': 'standard input can\'t be read (121)',
          'fault 122': 'a write failed (122)',
          'fault 120 line 0': 'a part of the scenario is missing (120)'}
@@ -191,7 +192,7 @@ def parts_of(octets) -> tuple:
     text = octets.decode('utf-8', 'backslashreplace')
     parts = re.split(r'(?m)^%%\r?(?:\n|\Z)', text, maxsplit=2)
     if len(parts) < 3:
-        raise Failed('the scenario: a part is missing; two lines %% stand between its parts')
+        raise Failed(LACKING)
     lines = [line.removesuffix('\r') for line in parts[2].split('\n')]
     return parts[0].removeprefix('\ufeff'), parts[1], lines
 
@@ -202,9 +203,10 @@ class NotLoaded(Failed):
     def __init__(self, printed: str, status: int = 0) -> None:
         said, _, _ = printed.strip('\n').partition('\n')
         is_refusal = said.startswith('load refused ')
+        said = f'{LACKING} (120); tools/join makes one' if said == 'fault 120 line 0' else said
         if not said:
             said = f'bayctl printed nothing, and ended with status {status}'
-        elif not said.startswith(('load refused ', 'fault ')):
+        elif not said.startswith(('load refused ', 'fault ', LACKING)):
             said = f'the report begins with no line of a load: {said[:60]}'
         super().__init__(said + (' (tools/diagnose tells why)' if is_refusal else ''))
         self.status = FOUND if is_refusal else UNREACHED

@@ -203,6 +203,9 @@ class Scenarios(Tools):
             found = self.call_tool(tool, scenario, '--report', report)
             self.assertEqual((found.status, found.error), (
                 3, f'{tool}: the report begins with no line of a load: a\n'))
+            report = self.file('report', 'fault 120 line 0\n')
+            self.assertIn('two lines %% stand between its parts (120); tools/join makes one',
+                          self.call_tool(tool, scenario, '--report', report).error)
 
     def test_moments_that_are_too_large(self):
         for moment in ('253402300800000', '4294967296000', '18446744073709551615'):
