@@ -99,7 +99,7 @@ def broken_lines(audit: Audit, finding: Finding) -> list[str]:
         is_run = finding.rule.since and not finding.rule.wanted
         how = "a run from the program's start" if is_run else (
             'every state that the program can reach')
-        found.append(f'proved: in {how}, with {where}')
+        found.append(f'proved: broken in {how}, with {where}')
     if finding.broken:
         after = f', {finding.after:,} ms after' if finding.after else ''
         found.append(f'{tried_told(audit, finding)}, first by '

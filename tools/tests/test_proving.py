@@ -181,7 +181,7 @@ class Asking(Tools):
         self.assertEqual((found.status, found.out.splitlines()[:5]), (1, [
             'PROVED: QA1 may always be opened when VT_DEAD',
             'BROKEN: never QC1 close when QA1 not open',
-            '    proved: in every state that the program can reach, with QA1 intermediate',
+            '    proved: broken in every state that the program can reach, with QA1 intermediate',
             '    tried: broken in 6 of 6 combinations, first by QA1 intermediate, VT_DEAD 0',
             '    replay broken_2.scenario, which shows it']), found)
         at = found.out.splitlines().index(
@@ -232,7 +232,8 @@ class Verdicts(unittest.TestCase):
             ['OPEN: never QC1 close when not VT_DEAD',
              'holds, unless t1 breaks it with VT_DEAD 0; tried in 4 combinations, no break found'],
             ['BROKEN: never QC1 close when QA1 not open',
-             'proved: in every state that the program can reach, with QA1 intermediate|closed|bad, '
+             'proved: broken in every state that the program can reach, with '
+             'QA1 intermediate|closed|bad, '
              'VT_DEAD 1',
              verdicts.DOUBTED],
             ['OPEN: never QC1 close until VT_DEAD for 5s',
