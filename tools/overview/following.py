@@ -9,7 +9,7 @@ from journal.entries import Entry
 from journal.server_lines import Event, event_of
 from live.watch import time_told
 
-UNIT, LINES = 'bayctl@{}.service', 5000  # the service of a bay; lines that are read of its past
+UNIT, LINES = 'bayctl@{}.service', 20_000  # a bay's service; lines that are read of its past
 AGAIN, KEPT = 5.0, 4  # seconds until the journal is asked again; commands that are shown
 
 
