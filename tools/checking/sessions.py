@@ -1,4 +1,6 @@
-"""Sessions of clients with a served bay: what they sent, joined and replayed, and as captures."""
+"""Sessions of clients with a served bay: what they sent, joined and replayed, and as captures, and
+what a server logged."""
+import contextlib
 import pathlib
 import re
 import socket
@@ -12,10 +14,11 @@ from bay.names import Names
 from tests.test_capture import ACK, CLIENT, FIN, SERVER, SYN, segment
 from wire.client import Client
 from wire.same_bay import compared
-from wire.served import Server, until, value
+from wire.served import Server, Simulator, until, value
 
 SERVED = pathlib.Path(__file__).resolve().parent.parent.parent / 'examples' / 'served'
 BAY, LOGIC, TRACE = SERVED / 'bay.toml', SERVED / 'logic.il', SERVED / 'trace'
+CLOSED = '10'
 
 
 class Tap:
@@ -91,6 +94,25 @@ def sessions(checks) -> None:
     for is_torn in (False, True):
         captured(checks, checks.file('session.pcap', tap.capture(is_torn)))
     same_bays(checks)
+    logged(checks)
+
+
+def logged(checks) -> None:
+    """tools/log tells what a server logged: where the switches were, what was released, who asked,
+    how an operate ended, and that the process was lost."""
+    with Server(checks.bayctl, BAY, LOGIC, '--log', with_process=True) as server:
+        with contextlib.closing(server.client()) as client, \
+                Simulator(BAY, server, '--at', 'QA1=closed', '--travel', 20):
+            until(lambda: value(client, 'XCBR1$ST$Pos$stVal') == CLOSED, 'all is told')
+            checks.wants('a client', *checks.run('client', '--bay', BAY, str(server.port),
+                                                 'operate', 'QA1', 'open', '--as', 'anna'),
+                         ['operate QA1: done: open'], 0)
+        until(lambda: server.printed().count('position QC1') > 1, 'the loss is logged')
+        log = checks.file('session.log', server.printed())
+    checks.wants('the log of a session', *checks.run('log', log), [
+        'QA1 is closed', 'operate QA1 open (orIdent anna): done', 'QA1 is open',
+        'QB1 may be opened and closed', 'operate of QA1 ended: position reached',
+        'the process is lost', 'QC1 is bad'], 0)
 
 
 # Shows P-133.
