@@ -260,11 +260,15 @@ class Sheets(Tools):
     def wired(self, text=WIRING):
         bay = self.file('bay.toml', '''[bay]
 domain = "E1"
+vendor = "V"
+model = "M"
 revision = "<2>"
+scan_max_age_ms = 500
 [[switch]]
 id = "QA1"
 kind = "breaker"
 control = "sbo-enhanced"
+sbo_timeout_ms = 5000
 travel_ms = 400
 [[switch]]
 id = "QC1"
