@@ -8,7 +8,7 @@ import time
 from typing import Any
 
 from bay.accepted import accepted_bay_at
-from bay.files import may_be_written, octets_of
+from bay.files import bay_at, may_be_written, octets_of
 from common.ending import DONE, UNREACHED, Parser
 from wire.process import key_of
 from wire.sockets import port_of
@@ -87,7 +87,8 @@ def run(parser: Parser, chosen: argparse.Namespace, bus: Bus) -> int:
         parser.error('--html is of --check')
     if chosen.html:
         may_be_written(chosen.html)
-    bay = accepted_bay_at(chosen.bay)[1]
+    # Coils are switched off whatever else is wrong with the bay file.
+    bay = (bay_at if chosen.off else accepted_bay_at)(chosen.bay)[1]
     modules = wiring_at(chosen.wiring, bay, bus)
     if chosen.check:
         check(modules, bus, chosen, bay)

@@ -300,6 +300,16 @@ id = "M1"
         self.assertEqual((found.status, text.count('<tr>')), (0, 12))
         self.assertIn('Revision &lt;2&gt;', text)
 
+    def test_a_bay_file_that_bayctl_refuses(self):
+        """Nothing is driven by it, but coils go off."""
+        words = self.wired()
+        bay = self.folder / 'bay.toml'
+        bay.write_text(bay.read_text().replace('scan_max_age_ms = 500\n', ''))
+        found = self.call_tool('modbus', *words, '--process', 1)
+        self.assertIn('bay.toml is refused with 51: ', found.error)
+        found = self.call_tool('modbus', *words, '--off')
+        self.assertIn('module io: its coils may be on: no connection', found.out)
+
     def test_what_does_not_go_together(self):
         words = self.wired()
         for more, told in ((['--html', 'x'], '--html is of --check'), ([], '--process is missing'),
