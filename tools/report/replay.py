@@ -219,6 +219,7 @@ def replayed(octets: bytes | None, bayctl, report=None) -> tuple[str, int]:
             raise Failed('standard input: it is closed')
         found = sys.stdin.buffer.read() if str(report) == '-' else octets_of(report)
         return found.decode('utf-8', 'backslashreplace'), 0
+    parts_of(octets)  # what is no scenario need not be asked for, which may take minutes
     found = run(bayctl, 'replay', given=octets)
     if sys.stderr:
         sys.stderr.write(found.stderr.decode('utf-8', 'backslashreplace'))

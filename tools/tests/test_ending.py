@@ -206,6 +206,8 @@ class Scenarios(Tools):
             report = self.file('report', 'fault 120 line 0\n')
             self.assertIn('two lines %% stand between its parts (120); tools/join makes one',
                           self.call_tool(tool, scenario, '--report', report).error)
+            found = self.call_tool(tool, self.file('bay', BAY), '--bayctl', self.folder / 'none')
+            self.assertIn('a part is missing', found.error, 'before bayctl is asked')
 
     def test_moments_that_are_too_large(self):
         for moment in ('253402300800000', '4294967296000', '18446744073709551615'):
