@@ -1,3 +1,4 @@
 pub mod AskedLemmas
+pub mod MomentLemmas
 pub mod ReadLemmas
 pub mod SentLemmas

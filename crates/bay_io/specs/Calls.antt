@@ -2,8 +2,9 @@
 use Rattle.std.specs.Prelude.{◌≡◌, ℕ, ◌≤◌, ◌==◌, nat_lt, Bool, true, false, ◌&&◌, ◌||◌, not, List, [], ◌∷◌, ◌++◌, length, take, Option, Some, None, is_none, Result, Ok, Err, is_ok}
 use Rattle.std.specs.Fmt.{decimal}
 use Rattle.std.specs.Result.{result_ok}
+use Rattle.bay_io.specs.Moments.{utc_text}
 use Rattle.bay_io.specs.declared.calls.LinePart.{LinePart}
-use Rattle.bay_io.specs.declared.calls.LinePart.TheVariants.{Text, Number}
+use Rattle.bay_io.specs.declared.calls.LinePart.TheVariants.{Text, Number, Moment}
 
 -- how many octets there was room for, and those that came
 pub record ReadCall : Type 0 where
@@ -31,10 +32,11 @@ writes octets answer = Write octets (result_ok answer)
 abbrev pub flushes : {X E : Type 0} → Result X E → WriteCall
 flushes answer = Flush (is_ok answer)
 
--- a part of a line: a text, or a number's decimal digits
+-- a part of a line: a text, a number's decimal digits, or a moment
 abbrev pub part_text : LinePart → List ℕ
 part_text (Text text) = text.now
 part_text (Number number) = decimal number
+part_text (Moment moment) = utc_text moment
 
 abbrev pub parts_text : List LinePart → List ℕ
 parts_text [] = []

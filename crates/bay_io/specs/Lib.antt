@@ -7,9 +7,10 @@
 -- and of a writer (whether a write or a flush has failed, whether it was flushed since its last
 -- write, whether it logs).
 -- `Input`: what reads gave up to the end or a limit, and which ways to stop reading are a failed
--- read.
+-- read. `Moments`: a moment as a text.
 
 pub mod Calls
 pub mod Input
+pub mod Moments
 pub mod Sent
 pub mod Watched

@@ -30,6 +30,8 @@ pub enum LinePart<'a> {
     Text(&'a [u8]),
     /// A number, in decimal digits.
     Number(u64),
+    /// A moment in milliseconds since 1970, as `YYYY-MM-DDThh:mm:ss.mmmZ` (ISO 8601, in UTC).
+    Moment(u64),
 }
 
 /// A sink for octets, with a meaning like that of a `OctetSource`. It may have a log beside them.

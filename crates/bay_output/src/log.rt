@@ -7,6 +7,7 @@ ghost use Rattle.bay_output.specs.Offers.{Empties};
 
 use crate::offer::{Offered, offer_all};
 use bay_io::calls::{LinePart, Sink};
+use bay_io::moments::utc_text;
 use bay_io::outbox::Outbox;
 use std::io;
 use std::marker::Model;
@@ -36,6 +37,7 @@ fn keep_part(waiting: &mut Outbox, part: LinePart<'_>) -> bool
     match part {
         LinePart::Text(text) => waiting.keep(text),
         LinePart::Number(number) => waiting.keep_number(number),
+        LinePart::Moment(moment) => waiting.keep(utc_text(moment).as_slice()),
     }
 }
 
