@@ -1,6 +1,7 @@
 pub mod CellLemmas
 pub mod DoesLemmas
 pub mod FetchLemmas
+pub mod HoldLemmas
 pub mod NeverLemmas
 pub mod PlaceLemmas
 pub mod RunLemmas

@@ -1,17 +1,17 @@
 -- Inputs and outputs by the places of their points.
-use Rattle.std.proofs.Common.{◌≡◌, take, ℕ, zero, suc, ◌+◌, ◌<◌, ◌≤◌, ℤ, Bool, true, false, not, cond, List, [], ◌∷◌, ◌++◌, length, map, drop, refl, sym, ap, subst, ◌∙◌, arith, Option, Some, None}
+use Rattle.std.proofs.Common.{◌≡◌, ℕ, zero, suc, ◌+◌, ◌<◌, ◌≤◌, ℤ, Bool, true, false, not, cond, List, [], ◌∷◌, ◌++◌, length, map, drop, refl, sym, ap, subst, ◌∙◌, arith, Option, Some, None}
 use Rattle.std.specs.Prelude.{IsSome, slice_get, slice_set, slice_index_or}
 use Rattle.bay_base.specs.declared.types.ElementaryType.{ElementaryType}
 use Rattle.il_image.specs.Images.{IsValue}
 use Rattle.il_image.specs.declared.image.ImagePoint.{ImagePoint}
 use Rattle.il_image.specs.declared.value.Value.{Value}
-use Rattle.il_image.specs.Values.{number_of, type_of, value_of}
+use Rattle.il_image.specs.Values.{type_of, value_of}
 use Rattle.il_scan.specs.Places.{output_value, value_there}
 use Rattle.il_scan.specs.PointPlaces.{AllBelow, read_places, with_words, write_places}
 use Rattle.il_scan.specs.Scans.{first_input, read_only, type_of_point, with_inputs}
 use Rattle.il_scan.specs.PointPlaces.{AreValues, writable_count}
 use Rattle.il_scan.specs.Standing.{AreWords, given_by}
-use Rattle.il_scan.specs.Words.{AreTyped, slot_at, value_at, words_of}
+use Rattle.il_scan.specs.Words.{AreTyped, slot_at, value_at}
 
 -- ---- one element moves from behind a seam to before it
 
@@ -165,38 +165,6 @@ pub below-at : (most : ℕ) (places : List ℕ) (k : ℕ) → AllBelow most plac
 below-at most [] k h l = absurd (omega (arith, l))
 below-at most (n ∷ places) zero h l = h.0
 below-at most (n ∷ places) (suc k) h l = below-at most places k h.1 (omega (arith, l))
-
-pub put_step : (reads : List ℕ) (inputs : List Value) (slots : List ℤ) (k : ℕ) (v : Value)
-    → k < length reads → slice_get inputs k ≡ Some v
-    → with_words (drop k reads) (drop k (words_of inputs)) slots
-    ≡ with_words (drop (k + 1) reads) (drop (k + 1) (words_of inputs))
-    (slice_set slots (slice_index_or reads k 0) (number_of v))
-put_step [] inputs slots k v l e = absurd (omega (arith, l))
-put_step (n ∷ reads) [] slots k v l e = absurd cc
-put_step (n ∷ reads) (i ∷ inputs) slots zero v l e =
-    let same : i ≡ v = cc in
-    ap (λ (x : Value). with_words reads (words_of inputs) (slice_set slots n (number_of x))) same
-put_step (n ∷ reads) (i ∷ inputs) slots (suc k) v l e =
-    let on : suc (k + 1) ≡ suc k + 1 = omega arith in
-    put_step reads inputs slots k v (omega (arith, l)) e
-    ∙ ap (λ (m : ℕ). with_words (drop m (n ∷ reads)) (drop m (words_of (i ∷ inputs)))
-    (slice_set slots (slice_index_or reads k 0) (number_of v))) on
-
--- one value more is of its type
-pub typed-more : (types : List ElementaryType) (values : List Value) (k : ℕ) (t : ElementaryType)
-    (v : Value) → AreTyped (take k types) (take k values)
-    → slice_get types k ≡ Some t → slice_get values k ≡ Some v → type_of v ≡ t → IsValue v
-    → AreTyped (take (k + 1) types) (take (k + 1) values)
-typed-more [] values k t v h a b e is = absurd cc
-typed-more (u ∷ types) [] k t v h a b e is = absurd cc
-typed-more (u ∷ types) (w ∷ values) zero t v h a b e is =
-    let first : t ≡ u = cc in
-    let second : v ≡ w = cc in
-    ((subst (λ (x : Value). type_of x ≡ u) second (e ∙ first), subst IsValue second is), tt)
-typed-more (u ∷ types) (w ∷ values) (suc k) t v h a b e is =
-    let on : suc (k + 1) ≡ suc k + 1 = omega arith in
-    subst (λ (m : ℕ). AreTyped (take m (u ∷ types)) (take m (w ∷ values))) on
-    (h.0, typed-more types values k t v h.1 a b e is)
 
 -- ---- outputs
 

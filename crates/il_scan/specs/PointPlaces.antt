@@ -1,11 +1,12 @@
 -- Inner: how the code goes over the points of an image: their places, and the test of inputs.
-use Rattle.std.specs.Prelude.{ℕ, ℤ, ◌≡◌, ◌+◌, ◌<◌, ◌&&◌, Bool, true, false, is_some, List, [], ◌∷◌, drop, slice_get, slice_set, Some, if◌then◌else◌}
+use Rattle.std.specs.Prelude.{ℕ, ℤ, ◌≡◌, ◌+◌, ◌<◌, ◌&&◌, Bool, true, false, is_some, List, [], ◌∷◌, drop, slice_get, slice_index_or, slice_set, Some, if◌then◌else◌}
 use Rattle.bay_base.specs.Types.{same_type}
 use Rattle.bay_base.specs.declared.types.ElementaryType.{ElementaryType}
 use Rattle.il_image.specs.Images.{IsValue}
 use Rattle.il_image.specs.Values.{number_of, type_of, value_of}
 use Rattle.il_image.specs.declared.image.ImagePoint.{ImagePoint}
 use Rattle.il_image.specs.declared.value.Value.{Value}
+use Rattle.il_scan.specs.Words.{slot_at}
 
 -- ---- places
 
@@ -32,7 +33,25 @@ abbrev pub AllBelow : ℕ → List ℕ → Type 0
 AllBelow most [] = Unit {0}
 AllBelow most (n ∷ places) = (n < most) × AllBelow most places
 
+-- The places are above this one.
+abbrev pub AllAbove : ℕ → List ℕ → Type 0
+AllAbove least [] = Unit {0}
+AllAbove least (n ∷ places) = (least < n) × AllAbove least places
+
+-- Each place is above those before it.
+abbrev pub IsRising : List ℕ → Type 0
+IsRising [] = Unit {0}
+IsRising (n ∷ places) = AllAbove n places × IsRising places
+
 -- ---- inputs and outputs
+
+-- The input of this number, if there is one, is of its type and stands at its place.
+pub record IsPut (places : List ℕ) (types : List ElementaryType) (values : List Value)
+    (slots : List ℤ) (k : ℕ) : Type 0 where
+  pub word : (v : Value) → slice_get values k ≡ Some v
+      → slot_at slots (slice_index_or places k 0) ≡ number_of v
+  pub typed : (t : ElementaryType) (v : Value) → slice_get types k ≡ Some t
+      → slice_get values k ≡ Some v → (type_of v ≡ t) × IsValue v
 
 -- Each is a value of its type.
 abbrev pub AreValues : List Value → Type 0

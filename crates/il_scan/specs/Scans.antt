@@ -1,5 +1,5 @@
 -- What a scan of a machine is.
-use Rattle.std.specs.Prelude.{ℕ, ℤ, zero, suc, ◌≡◌, ◌+◌, ◌<◌, ◌≤◌, false, not, List, [], ◌∷◌, length, map, filter, drop, slice_get, Some, if◌then◌else◌}
+use Rattle.std.specs.Prelude.{ℕ, ℤ, zero, suc, ◌≡◌, ◌+◌, ◌<◌, ◌≤◌, ◌⊎◌, false, not, List, [], ◌∷◌, length, map, filter, drop, slice_get, Some, if◌then◌else◌}
 use Rattle.bay_base.specs.declared.types.ElementaryType.{ElementaryType}
 use Rattle.il_image.specs.declared.image.ImagePoint.{ImagePoint}
 use Rattle.il_image.specs.declared.timer.TimerState.{TimerState}
@@ -11,6 +11,7 @@ use Rattle.il_image.specs.Timers.{first_state}
 use Rattle.il_image.specs.Values.{default_value}
 use Rattle.il_verify.specs.Verdicts.{IsBudget, IsDepth}
 use Rattle.il_scan.specs.Words.{AreTyped, values_of}
+use Rattle.il_scan.specs.declared.span.Span.{Span}
 
 -- what callers see of a machine: its verified image, and what its slots and its timers hold between
 -- scans
@@ -78,6 +79,23 @@ outputs_of [] slots = []
 outputs_of (p ∷ points) [] = []
 outputs_of (p ∷ points) (slot ∷ slots) =
     if p.writable then slot ∷ outputs_of points slots else outputs_of points slots
+
+-- the slots of the points that may only be read
+abbrev pub inputs_in : {A : Type 0} → List ImagePoint → List A → List A
+inputs_in [] slots = []
+inputs_in (p ∷ points) [] = []
+inputs_in (p ∷ points) (slot ∷ slots) =
+    if p.writable then inputs_in points slots else slot ∷ inputs_in points slots
+
+-- The place is not in the span.
+abbrev pub IsOutside : Span → ℕ → Type 0
+IsOutside span k = (k < span.from) ⊎ (span.to ≤ k)
+
+-- Outside the span, what is held are the inputs.
+abbrev pub AreHeld : Span → List Value → List Value → Type 0
+AreHeld span inputs held =
+    (k : ℕ) (v : Value) → IsOutside span k → slice_get inputs k ≡ Some v
+    → slice_get held k ≡ Some v
 
 -- ---- a scan
 

@@ -7,6 +7,7 @@
 // - `act`: what each instruction does.
 // - `run`: a run of the code, from its first instruction to a HALT.
 // - `slots`: inputs and outputs, and what slots hold at first.
+// - `span`: some of the read-only points.
 // - `points`: inputs and outputs point by point.
 // - `machine`: the machine, and its scans.
 // - `laws`: what holds of verified code in any state.
@@ -19,4 +20,5 @@ pub mod machine;
 pub mod points;
 pub(crate) mod run;
 pub(crate) mod slots;
+pub mod span;
 pub(crate) mod stack;

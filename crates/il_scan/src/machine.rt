@@ -2,7 +2,7 @@
 ghost use Rattle.std.specs.Prelude.{◌≡◌, ◌↔◌, IfErr, IfOk, IsTrue, map};
 ghost use Rattle.std.specs.Borrow.{sem};
 ghost use Rattle.il_scan.specs.PointPlaces.{read_places};
-ghost use Rattle.il_scan.specs.Scans.{AreInputs, Scans, TakesMemory, held_first, outputs_of, read_only, type_of_point};
+ghost use Rattle.il_scan.specs.Scans.{AreHeld, AreInputs, Scans, TakesMemory, held_first, inputs_in, outputs_of, read_only, type_of_point};
 ghost use Rattle.il_scan.specs.Standing.{IsHeld, IsKept};
 ghost use Rattle.il_scan.specs.Scans.{held_of};
 ghost use Rattle.il_scan.specs.Words.{values_of};
@@ -15,6 +15,7 @@ use crate::slots::{
     Places, are_inputs, first_slots, first_timers, give_outputs, places_of, read_inputs,
     room_for_outputs,
 };
+use crate::span::Span;
 use il_image::image::Image;
 use il_image::timer::TimerState;
 use il_image::value::Value;
@@ -86,10 +87,12 @@ fn memory_of(alloc: Global, image: &Image) -> Result<Memory, AllocError>
     })
 }
 
-// Runs a scan over words: takes the inputs and runs the code.
+// Runs a scan over words: takes the inputs of a span, where the slots hold the others, and runs the
+// code.
 fn run_points<I: Inputs>(
     image: &Image,
     inputs: &I,
+    span: Span,
     now: u64,
     slots: &mut [i64],
     timers: &mut [TimerState],
@@ -99,12 +102,16 @@ fn run_points<I: Inputs>(
     requires types { I.types inputs.now ≡ map type_of_point (read_only image.now.points) }
     requires held { IsHeld image.now slots.old timers.old }
     requires read { reads.now ≡ read_places 0 image.now.points }
+    requires hold { AreHeld span (I.values inputs.now)
+        (inputs_in image.now.points (values_of (slot_types image.now) slots.old)) }
     ensures scans { Scans (held_of image.now slots.old timers.old) (I.values inputs.now) now
         (held_of image.now slots.new timers.new) result
         (outputs_of image.now.points (values_of (slot_types image.now) slots.new)) }
     ensures held { IsHeld image.now slots.new timers.new }
+    ensures kept { inputs_in image.now.points (values_of (slot_types image.now) slots.new)
+        ≡ I.values inputs.now }
 {
-    read_inputs(reads, inputs, slots);
+    read_inputs(reads, inputs, span, slots);
     run(image, now, slots, timers)
 }
 
@@ -128,7 +135,12 @@ fn run_once(
         places.now.writes.items outputs.new }
 {
     let inputs = Listed { values: inputs };
-    let steps = run_points(image, &inputs, now, slots, timers, places.reads.as_slice());
+    let reads = places.reads.as_slice();
+    let all = Span {
+        from: 0,
+        to: reads.len(),
+    };
+    let steps = run_points(image, &inputs, all, now, slots, timers, reads);
     give_outputs(image.points(), places.writes.as_slice(), slots, outputs);
     steps
 }
@@ -188,9 +200,27 @@ impl Machine {
         ensures { Scans self.old (I.values inputs.now) now self.new result
             (outputs_of self.new.image.points self.new.slots) }
     {
+        let all = Span {
+            from: 0,
+            to: self.places.reads.len(),
+        };
+        self.scan_changed(inputs, all, now)
+    }
+
+    /// Runs one scan as `scan_points` does, where the slots of the read-only points outside a span
+    /// hold their inputs, as an earlier scan left them there.
+    pub fn scan_changed<I: Inputs>(&mut self, inputs: &I, changed: Span, now: u64) -> u32
+        requires types { I.types inputs.now ≡ map type_of_point (read_only self.old.image.points) }
+        requires hold { AreHeld changed (I.values inputs.now)
+            (inputs_in self.old.image.points self.old.slots) }
+        ensures scans { Scans self.old (I.values inputs.now) now self.new result
+            (outputs_of self.new.image.points self.new.slots) }
+        ensures kept { inputs_in self.new.image.points self.new.slots ≡ I.values inputs.now }
+    {
         run_points(
             self.verified.image(),
             inputs,
+            changed,
             now,
             self.slots.as_mut_slice(),
             self.timers.as_mut_slice(),

@@ -1,15 +1,17 @@
 // Inputs, outputs, and what slots and timers hold at first.
-ghost use Rattle.std.specs.Prelude.{◌≡◌, ◌+◌, ◌<◌, ◌≤◌, ◌++◌, IfErr, IfOk, IsSome, OnOk, Some, drop, if◌then◌else◌, length, map, pos, slice_set};
+ghost use Rattle.std.specs.Prelude.{ℕ, ◌≡◌, ◌+◌, ◌<◌, ◌≤◌, ◌++◌, IfErr, IfOk, IsSome, OnOk, Some, drop, if◌then◌else◌, length, map, pos, slice_set};
 ghost use Rattle.il_image.specs.Timers.{first_state};
 ghost use Rattle.il_image.specs.Values as values;
 ghost use Rattle.il_scan.specs.PointPlaces as places;
 ghost use Rattle.il_scan.specs.PointPlaces.{writable_count};
+ghost use Rattle.il_scan.specs.Scans.{IsOutside};
 ghost use Rattle.il_scan.specs.Standing.{AreWords};
 ghost use Rattle.il_scan.specs.Places as spec;
-ghost use Rattle.il_scan.specs.PointPlaces.{AllBelow, read_places, with_words, write_places};
+ghost use Rattle.il_scan.specs.PointPlaces.{AllBelow, IsPut, IsRising, read_places, with_words, write_places};
 ghost use Rattle.il_scan.specs.Words.{AreTyped, slot_at, value_at, words_of};
 
 use crate::points::Inputs;
+use crate::span::Span;
 use bay_base::types::{ElementaryType, TimerKind};
 use il_image::image::{Image, ImagePoint};
 use il_image::timer::TimerState;
@@ -97,15 +99,21 @@ fn take_input(slots: &mut [i64], place: usize, input: Value)
     slots[place] = input.number();
 }
 
-/// Puts inputs into the slots at these places, one for each, in order.
+/// Puts the inputs of a span into the slots at their places. The other inputs are there already, so
+/// that all are there then.
 #[inline(always)]
-pub(crate) fn read_inputs<I: Inputs>(reads: &[usize], inputs: &I, slots: &mut [i64])
+pub(crate) fn read_inputs<I: Inputs>(reads: &[usize], inputs: &I, span: Span, slots: &mut [i64])
     requires within { AllBelow (length slots.old) reads.now }
+    requires rising { IsRising reads.now }
     requires sized { length (I.types inputs.now) ≡ length reads.now }
+    requires put { (k : ℕ) → IsOutside span k
+        → IsPut reads.now (I.types inputs.now) (I.values inputs.now) slots.old k }
     ensures slots { slots.new ≡ with_words reads.now (words_of (I.values inputs.now)) slots.old }
     ensures typed { AreTyped (I.types inputs.now) (I.values inputs.now) }
 {
-    for k in 0..reads.len() {
+    let count = reads.len();
+    let to = if span.to < count { span.to } else { count };
+    for k in span.from..to {
         take_input(slots, reads[k], inputs.input(k));
     }
 }

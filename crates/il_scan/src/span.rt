@@ -1,0 +1,31 @@
+// Some of a program's read-only points, one behind the other.
+ghost use Rattle.std.specs.Prelude.{◌≡◌, max, min};
+
+/// Some of the read-only points, by their places among them: those at `from` and behind it, but
+/// before `to`.
+#[derive(Clone, Copy)]
+pub struct Span {
+    pub from: usize,
+    pub to: usize,
+}
+
+impl Span {
+    /// Returns the shortest span that has the points of both.
+    #[inline(always)]
+    pub fn with(self, other: Span) -> Span
+        ensures from { result.from ≡ min self.from other.from }
+        ensures to { result.to ≡ max self.to other.to }
+    {
+        let from = if self.from < other.from {
+            self.from
+        } else {
+            other.from
+        };
+        let to = if self.to < other.to {
+            other.to
+        } else {
+            self.to
+        };
+        Span { from, to }
+    }
+}
