@@ -1,5 +1,5 @@
 -- What a scan reads and writes, where switches and meters stand in the tree.
-use Rattle.std.specs.Prelude.{ℕ, Bool, false, List, [], ◌∷◌, slice_get, unwrap_or, Option, Some, None}
+use Rattle.std.specs.Prelude.{◌≡◌, ◌<◌, ◌≤◌, ℕ, Bool, false, List, [], ◌∷◌, slice_get, unwrap_or, Option, Some, None}
 use Rattle.bay_tree.specs.Rows.{leaf_of}
 use Rattle.bay_tree.specs.declared.leaf.Leaf.{Leaf}
 use Rattle.bay_tree.specs.declared.row.Row.{Row}
@@ -10,6 +10,7 @@ use Rattle.bay_base.specs.declared.point.SwitchPoint.{SwitchPoint}
 use Rattle.il_image.specs.declared.value.Value.{Value}
 use Rattle.il_image.specs.declared.value.Value.TheVariants.{Truth, Long}
 use Rattle.il_scan.specs.Places.{is_true}
+use Rattle.il_scan.specs.declared.span.Span.{Span}
 use Rattle.bay_process.specs.Values.{number_of_leaf, output_at, position_value, with_output}
 use Rattle.bay_process.specs.Layout.{Layout, field_rows, layout_of, name_in, switch_in}
 use Rattle.bay_process.specs.declared.meter.BoundMeter.{BoundMeter}
@@ -38,6 +39,16 @@ bound_value rows switches inputs meters (source.Input k) =
     Truth (unwrap_or (slice_get inputs k) false)
 bound_value rows switches inputs meters (source.Meter k field) =
     meter_value rows field (slice_get meters k)
+
+-- The span has each point of the switch at a place that is read.
+abbrev pub HasPoints : List Source → ℕ → Span → Type 0
+HasPoints reads k span = (n : ℕ) (point : SwitchPoint)
+    → slice_get reads n ≡ Some (source.Switch k point) → (span.from ≤ n) × (n < span.to)
+
+-- Each span has the points of the switch at its place.
+abbrev pub AreSpanned : List Source → List Span → Type 0
+AreSpanned reads spans =
+    (k : ℕ) (span : Span) → slice_get spans k ≡ Some span → HasPoints reads k span
 
 -- the interlocking values of the switches take their points' values
 abbrev pub outputs_put : Layout → List BoundSwitch → List Value → ℕ → List Row → List Row

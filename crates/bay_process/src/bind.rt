@@ -4,6 +4,7 @@ ghost use Rattle.il_verify.specs.Binding.{is_point as is_image_point};
 ghost use Rattle.bay_process.specs.Values as spec;
 ghost use Rattle.bay_process.specs.Layout.{bound_from};
 ghost use Rattle.bay_process.specs.Layout as spec_layout;
+ghost use Rattle.bay_process.specs.Scans.{AreSpanned, HasPoints};
 ghost use Rattle.bay_process.specs.Sources as spec_sources;
 
 use crate::rows::SwitchRows;
@@ -13,6 +14,7 @@ use bay_base::names::same_name;
 use bay_base::text::Text;
 use bay_config::bay::{Point, Source, Switch, SwitchPoint};
 use il_image::image::ImagePoint;
+use il_scan::span::Span;
 use std::alloc::{AllocError, Global};
 
 // Returns whether a point of an image is this point of the bay.
@@ -107,6 +109,40 @@ pub fn bind_switches(
         })?;
     }
     Ok(bound)
+}
+
+// Returns the span of the points of the switch at an index.
+fn span_of(reads: &[Source], switch: usize) -> Span
+    ensures { HasPoints reads.now switch result }
+{
+    let mut span = Span {
+        from: usize::MAX,
+        to: 0,
+    };
+    for place in 0..reads.len() {
+        if let Source::Switch { switch: at, .. } = reads[place] {
+            if at == switch {
+                span = span.with(Span {
+                    from: place,
+                    to: place + 1,
+                });
+            }
+        }
+    }
+    span
+}
+
+/// Returns, for each of `count` switches, the span of its points among the read-only points, which
+/// stand for `reads`.
+pub fn spans_of(alloc: Global, reads: &[Source], count: usize) -> Result<Vec<Span>, AllocError>
+    ensures sized { IfOk result (λ spans. length spans.items ≡ count) }
+    ensures spanned { IfOk result (λ spans. AreSpanned reads.now spans.items) }
+{
+    let mut spans = Vec::new(alloc);
+    for switch in 0..count {
+        spans.push(span_of(reads, switch))?;
+    }
+    Ok(spans)
 }
 
 /// Returns the value FALSE for each input.
