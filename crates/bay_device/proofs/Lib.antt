@@ -4,6 +4,7 @@ pub mod CommandLemmas
 pub mod ConnectionLemmas
 pub mod EntryLemmas
 pub mod FreshLemmas
+pub mod HeldLemmas
 pub mod IdleLemmas
 pub mod LoadLemmas
 pub mod LostLemmas

@@ -37,7 +37,7 @@ use bay_config::read::read_bay;
 use bay_control::control::ControlTable;
 use bay_control::controls::Controls;
 use bay_mms::names::NameTexts;
-use bay_process::bind::falses;
+use bay_process::bind::{falses, spans_of};
 use bay_process::controls::{ControlRows, control_rows};
 use bay_process::meter::BoundMeter;
 use bay_process::parts::{bound_rows, node_names, wired_machine};
@@ -50,6 +50,7 @@ use il_check::program::Typed;
 use il_compile::compile::compile;
 use il_image::decode::decode;
 use il_image::image::Image;
+use il_scan::span::Span;
 use il_text::fault::TextFault;
 use il_text::program::Program;
 use il_text::read::read_program;
@@ -153,6 +154,12 @@ fn state_of(
         bound.inputs.as_slice(),
         bound.meters.as_slice(),
     );
+    let count = bound.bay.switches.as_slice().len();
+    let spans = spans_of(alloc, wired.reads.as_slice(), count)?;
+    let unread = Span {
+        from: 0,
+        to: wired.reads.len(),
+    };
     let state = Box::new(
         alloc,
         DeviceState {
@@ -166,6 +173,8 @@ fn state_of(
             reads: Listing::new(wired.reads),
             writes: Listing::new(wired.writes),
             machine: wired.machine,
+            spans: Listing::new(spans),
+            unread,
             moment: 0,
             last_scan: None,
             is_stale: false,

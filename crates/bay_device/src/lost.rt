@@ -21,6 +21,7 @@ impl DeviceState {
         ensures meters { self.new.meters ≡ self.old.meters }
     {
         let rows = self.meters.as_slice()[meter].rows;
+        self.unread = self.all_points();
         let changed = process::doubt(&mut self.bay, now, meter, rows, field);
         self.is_stale |= changed;
         self.is_lost = false;
@@ -76,6 +77,7 @@ impl DeviceState {
     {
         let over = self.advance(now);
         self.lose_positions(now);
+        self.unread = self.all_points();
         self.is_stale |= self.input_values.first_true().is_some();
         self.input_values.clear();
         self.lose_meters(now);

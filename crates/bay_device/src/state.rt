@@ -1,7 +1,8 @@
 // The state of a device, which can take no memory.
-ghost use Rattle.std.specs.Prelude.{◌≡◌, length, map};
-ghost use Rattle.il_scan.specs.Scans.{read_only, type_of_point};
+ghost use Rattle.std.specs.Prelude.{◌≡◌, ◌<◌, ◌^◌, length, map};
+ghost use Rattle.il_scan.specs.Scans.{AreHeld, inputs_in, read_only, type_of_point};
 ghost use Rattle.bay_process.specs.Layout.{layout_of, AreBound, AreMetersBound};
+ghost use Rattle.bay_process.specs.Scans.{AreSpanned, bound_value};
 ghost use Rattle.bay_process.specs.Sources.{type_of_source};
 ghost use Rattle.bay_device.specs.Table.{AreTables};
 ghost use Rattle.bay_process.specs.Told.{AreTold};
@@ -15,6 +16,7 @@ use bay_process::meter::BoundMeter;
 use bay_process::values::{ToldValues, Truths};
 use bay_services::bay::ServedBay;
 use il_scan::machine::Machine;
+use il_scan::span::Span;
 
 /// The state of a device, as loading makes it and steps change it. Its methods are given no
 /// allocator, and no part of it lends one, or a call that takes memory: lists, texts, the tree and
@@ -40,6 +42,11 @@ pub struct DeviceState {
     pub reads: Listing<Source>,
     pub writes: Listing<Source>,
     pub machine: Machine,
+    /// For each switch the span of its points among the read-only ones.
+    pub spans: Listing<Span>,
+    /// The read-only points whose values may have changed since the last scan. The machine's slots
+    /// hold the values of the others.
+    pub unread: Span,
     /// The time of the last accepted event, in milliseconds since 1970.
     pub moment: u64,
     /// The time of the last scan.
@@ -57,4 +64,23 @@ pub struct DeviceState {
     ghost told_sized: { length told ≡ length bay.switches },
     ghost tabled: { AreTables bay.switches inputs meters tables },
     ghost typed: { map type_of_source reads ≡ map type_of_point (read_only machine.image.points) },
+    ghost spans_sized: { length spans ≡ length bay.switches },
+    ghost few: { length spans < 2 ^ 64 },
+    ghost spanned: { AreSpanned reads spans },
+    ghost held: { AreHeld unread
+        (map (bound_value bay.tree bay.switches input_values meters) reads)
+        (inputs_in machine.image.points machine.slots) },
+}
+
+impl DeviceState {
+    /// Returns the span of all read-only points.
+    pub fn all_points(&self) -> Span
+        ensures from { result.from ≡ 0 }
+        ensures to { result.to ≡ length self.now.reads }
+    {
+        Span {
+            from: 0,
+            to: self.reads.as_slice().len(),
+        }
+    }
 }

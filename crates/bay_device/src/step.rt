@@ -1,7 +1,7 @@
 // What an event of the process does to a device's state: a contact, an input, a measure, a scan,
 // and time.
 ghost use Rattle.std.specs.Prelude.{◌≡◌, ◌<◌, List, Option, Some, None, length, map, slice_get};
-ghost use Rattle.il_scan.specs.Scans.{Scans, outputs_of, read_only, type_of_point};
+ghost use Rattle.il_scan.specs.Scans.{AreHeld, Scans, inputs_in, outputs_of, read_only, type_of_point};
 ghost use Rattle.bay_connection.specs.Talk.{Talk};
 ghost use Rattle.bay_nodes.specs.declared.switch.Switch.{Switch};
 ghost use Rattle.bay_process.specs.Layout.{AreLeafTyped, AreMetersLeafTyped, layout_of, switches_of};
@@ -28,6 +28,7 @@ use bay_process::values::Truths;
 use bay_services::bay::ServedBay;
 use bay_tree::leaf::Dbpos;
 use il_scan::machine::Machine;
+use il_scan::span::Span;
 
 // Returns the first, or the later if there is no first.
 fn or_else(first: Option<Sent>, later: Option<Sent>) -> Option<Sent>
@@ -39,10 +40,11 @@ fn or_else(first: Option<Sent>, later: Option<Sent>) -> Option<Sent>
     }
 }
 
-// Runs the program once on the current positions, inputs and measured values. Returns the number
-// of its steps.
+// Runs the program once on the current positions, inputs and measured values, of which those
+// outside a span are in the machine's slots. Returns the number of its steps.
 fn run_program(
     machine: &mut Machine,
+    unread: Span,
     bay: &ServedBay,
     inputs: &Truths,
     meters: &[BoundMeter],
@@ -53,9 +55,14 @@ fn run_program(
     requires metered { AreMetersLeafTyped (layout_of bay.now.tree) meters.now }
     requires typed { map type_of_source reads.now
         ≡ map type_of_point (read_only machine.old.image.points) }
-    ensures { Scans machine.old
+    requires held { AreHeld unread
+        (map (bound_value bay.now.tree bay.now.switches inputs.now meters.now) reads.now)
+        (inputs_in machine.old.image.points machine.old.slots) }
+    ensures scans { Scans machine.old
         (map (bound_value bay.now.tree bay.now.switches inputs.now meters.now) reads.now) now
         machine.new result (outputs_of machine.new.image.points machine.new.slots) }
+    ensures kept { inputs_in machine.new.image.points machine.new.slots
+        ≡ map (bound_value bay.now.tree bay.now.switches inputs.now meters.now) reads.now }
 {
     let points = ReadPoints {
         tree: &bay.tree,
@@ -64,7 +71,7 @@ fn run_program(
         meters,
         reads,
     };
-    machine.scan_points(&points, now)
+    machine.scan_changed(&points, unread, now)
 }
 
 impl DeviceState {
@@ -109,6 +116,7 @@ impl DeviceState {
             ≡ contact_taken now switch s position (state_view connections self.old) }
     {
         let changed = process::contact(&mut self.bay, now, switch, position);
+        self.unread = self.unread.with(self.spans.as_slice()[switch]);
         self.is_stale |= changed;
         self.is_lost = false;
         if self.bay.controls.contact(switch, position) {
@@ -148,6 +156,7 @@ impl DeviceState {
             None => return Err(StepFault::NoSuchPoint),
         };
         let over = self.advance(now);
+        self.unread = self.all_points();
         self.input_values.set(input, value);
         self.is_stale |= value != before;
         self.is_lost = false;
@@ -171,6 +180,7 @@ impl DeviceState {
             None => return Err(StepFault::NoSuchPoint),
         };
         let over = self.advance(now);
+        self.unread = self.all_points();
         let changed = process::measure(&mut self.bay, now, meter, rows, field, value);
         self.is_stale |= changed;
         self.is_lost = false;
@@ -208,6 +218,7 @@ impl DeviceState {
     {
         let steps = run_program(
             &mut self.machine,
+            self.unread,
             &self.bay,
             &self.input_values,
             self.meters.as_slice(),
@@ -215,6 +226,10 @@ impl DeviceState {
             now,
         );
         process::write_scan(&mut self.bay, &mut self.told, &self.machine.outputs(), now);
+        self.unread = Span {
+            from: usize::MAX,
+            to: 0,
+        };
         self.last_scan = Some(now);
         self.is_stale = false;
         steps

@@ -13,6 +13,7 @@ use Rattle.bay_device.specs.Outcomes.{Outcome, measure_outcome}
 use Rattle.bay_device.specs.StateView.{state_view}
 use Rattle.bay_device.specs.Steps.{quiet_answer}
 use Rattle.bay_device.specs.declared.event.Sent.{Sent}
+use Rattle.bay_device.proofs.HeldLemmas.{all-noted}
 use Rattle.bay_device.proofs.state.DeviceState.measure.Goals as goal
 
 pub measure-changed-requires : goal.measure-changed-requires
@@ -39,6 +40,11 @@ invariant_of-self c =
       told_sized = rw did.switches d.told_sized;
       tabled = rw did.switches d.tabled;
       typed = d.typed;
+      spans_sized = rw did.switches d.spans_sized;
+      few = d.few;
+      spanned = d.spanned;
+      held = all-noted c.all_points-self.result _ d.reads _ c.all_points-self.ensures.from
+          c.all_points-self.ensures.to;
     }
 
 pub returns : goal.returns

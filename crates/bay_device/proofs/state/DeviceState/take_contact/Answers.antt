@@ -5,6 +5,7 @@ use Rattle.bay_process.proofs.ToldLemmas.{told-kept, keeps-contact}
 use Rattle.bay_services.specs.Bay.{Bay}
 use Rattle.bay_device.specs.Device.{reached_report}
 use Rattle.bay_device.specs.declared.event.Sent.{Sent}
+use Rattle.bay_device.proofs.HeldLemmas.{contact-held}
 use Rattle.bay_device.proofs.ProcessLemmas.{switch-there}
 use Rattle.bay_device.proofs.state.DeviceState.take_contact.Goals as goal
 
@@ -25,6 +26,13 @@ invariant_of-self-then-contact c =
       told_sized = rw switches d.told_sized;
       tabled = rw switches d.tabled;
       typed = d.typed;
+      spans_sized = rw switches d.spans_sized;
+      few = d.few;
+      spanned = d.spanned;
+      held = contact-held d c.contact-changed.new.bay.tree c.contact-changed.new.bay.switches
+          c.args.switch s.0 c.args.position c.args.now c.as_slice.result.now c.with-self.result
+          c.requires c.as_slice.ensures s.1 rows layout switches c.with-self.ensures.from
+          c.with-self.ensures.to;
     }
 
 pub invariant_of-self-else-contact : goal.invariant_of-self-else-contact
@@ -44,6 +52,13 @@ invariant_of-self-else-contact c =
       told_sized = rw switches d.told_sized;
       tabled = rw switches d.tabled;
       typed = d.typed;
+      spans_sized = rw switches d.spans_sized;
+      few = d.few;
+      spanned = d.spanned;
+      held = contact-held d c.contact-changed.new.bay.tree c.contact-changed.new.bay.switches
+          c.args.switch s.0 c.args.position c.args.now c.as_slice.result.now c.with-self.result
+          c.requires c.as_slice.ensures s.1 rows layout switches c.with-self.ensures.from
+          c.with-self.ensures.to;
     }
 
 pub returns-then-contact-clause-sent : goal.returns-then-contact-clause-sent

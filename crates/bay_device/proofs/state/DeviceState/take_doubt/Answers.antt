@@ -7,6 +7,7 @@ use Rattle.bay_process.proofs.ToldLemmas.{told-kept, keeps-doubt, field-away}
 use Rattle.bay_services.specs.Bay.{Bay}
 use Rattle.bay_device.specs.Device.{State, doubt_taken, with_bay}
 use Rattle.bay_device.specs.StateView.{state_view}
+use Rattle.bay_device.proofs.HeldLemmas.{all-noted}
 use Rattle.bay_device.proofs.state.DeviceState.take_doubt.Goals as goal
 
 pub invariant_of-self : goal.invariant_of-self
@@ -23,6 +24,11 @@ invariant_of-self c =
       told_sized = rw did.switches d.told_sized;
       tabled = rw did.switches d.tabled;
       typed = d.typed;
+      spans_sized = rw did.switches d.spans_sized;
+      few = d.few;
+      spanned = d.spanned;
+      held = all-noted c.all_points-self.result _ d.reads _ c.all_points-self.ensures.from
+          c.all_points-self.ensures.to;
     }
 
 pub returns-clause-after : goal.returns-clause-after
