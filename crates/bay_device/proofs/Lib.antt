@@ -14,6 +14,7 @@ pub mod NameLemmas
 pub mod OperateLemmas
 pub mod ProcessLemmas
 pub mod RecvLemmas
+pub mod ReleaseLemmas
 pub mod RunLemmas
 pub mod SameLemmas
 pub mod ScanLemmas

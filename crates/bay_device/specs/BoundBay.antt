@@ -4,8 +4,8 @@ use Rattle.bay_config.specs.declared.bay.Bay.{Bay}
 use Rattle.bay_base.specs.declared.point.Source.{Source}
 use Rattle.bay_config.specs.Laws.{IsBay}
 use Rattle.bay_control.specs.Decisions.{controls_of, initial}
-use Rattle.bay_process.specs.Layout.{AreBound, AreMetersBound, layout_of, meters_of}
-use Rattle.bay_process.specs.Told.{AreTold}
+use Rattle.bay_process.specs.Layout.{AreBound, AreMetersBound, layout_of, meters_of, switches_of}
+use Rattle.bay_process.specs.Told.{AreKept}
 use Rattle.bay_services.specs.Bay.{rows_shown}
 use Rattle.bay_services.specs.Released.{AreTimed}
 use Rattle.bay_services.specs.Views.{bay_view}
@@ -18,7 +18,7 @@ pub record IsTimedBay (bay : Bay) : Type 0 where
   pub timed : AreTimed (controls_of bay.switches)
 
 -- A bay is bound, with nothing selected: clients see what the file says, its switches and meters
--- have the rows that their names name, and nothing is told of a scan.
+-- have the rows that their names name, and the text of the releases is that of its rows.
 pub record IsBoundBay (bay : Bay) (writes : List Source) (b : BoundBay) : Type 0 where
   pub served : bay_view b.bay ≡ record {
     domain = bay.domain;
@@ -34,5 +34,4 @@ pub record IsBoundBay (bay : Bay) (writes : List Source) (b : BoundBay) : Type 0
   pub ids : meters_of b.meters ≡ bay.meters
   pub bound : AreBound (layout_of b.bay.tree) writes b.bay.switches
   pub metered : AreMetersBound (layout_of b.bay.tree) b.meters
-  pub told_stands : AreTold b.bay.tree b.told
-  pub told_sized : length b.told ≡ length b.bay.switches
+  pub released : AreKept b.bay.tree (switches_of b.bay.switches) 0 b.releases

@@ -1,9 +1,11 @@
 -- What the look-ups of a device answer.
-use Rattle.std.specs.Prelude.{ℕ, Bool, true, nat_lt, List, length, position, Option, None, Some, if◌then◌else◌}
+use Rattle.std.specs.Prelude.{ℕ, ◌+◌, Bool, true, nat_lt, List, [], ◌∷◌, ◌++◌, length, position, Option, None, Some, if◌then◌else◌}
 use Rattle.bay_tree.specs.Rows.{leaf_of}
 use Rattle.bay_tree.specs.declared.leaf.Leaf.{Leaf}
 use Rattle.bay_base.specs.Names.{same_name}
 use Rattle.bay_device.specs.Device.{State}
+use Rattle.bay_nodes.specs.declared.switch.Switch.{Switch}
+use Rattle.bay_process.specs.Releases.{switch_text}
 use Rattle.bay_process.specs.Values.{is_truth}
 use Rattle.bay_nodes.specs.Names.{StatusNames, control_of, opening_of, closing_of, position_names}
 
@@ -34,6 +36,17 @@ may_close s k = is_enabled s (closing_of k)
 -- both of them, of a switch that is there
 abbrev pub enabled_of : State → ℕ → Option (Bool × Bool)
 enabled_of s k = if nat_lt k (length s.switches) then Some (may_open s k, may_close s k) else None
+
+-- the part of a scan's line on the switch at a place, if there is one
+abbrev pub switch_part : State → ℕ → Option Switch → List ℕ
+switch_part s k None = []
+switch_part s k (Some switch) = switch_text switch.id (may_open s k) (may_close s k)
+
+-- the parts on switches, from place k on
+abbrev pub switches_text : State → ℕ → List Switch → List ℕ
+switches_text s k [] = []
+switches_text s k (switch ∷ switches) =
+    switch_part s k (Some switch) ++ switches_text s (k + 1) switches
 
 -- the position that the control of the switch at a place tells (IEC 61850-7-4, CSWI), of a switch
 -- that is there

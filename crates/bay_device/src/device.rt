@@ -1,5 +1,5 @@
 // The device that is handed out: one bay, stepped by events.
-ghost use Rattle.std.specs.Prelude.{◌≡◌, ◌+◌, ◌<◌, ◌≤◌, [], None, Some, All, length, slice_get, option_map, position, replicate, IfOk, IfSome, IsSome, OnErr, is_none, is_some};
+ghost use Rattle.std.specs.Prelude.{◌≡◌, ◌+◌, ◌<◌, ◌≤◌, ◌++◌, [], codes, None, Some, All, length, slice_get, option_map, position, replicate, IfOk, IfSome, IsSome, OnErr, is_none, is_some};
 ghost use Rattle.bay_control.specs.Backing.{AreBacked};
 ghost use Rattle.bay_services.specs.Accepted.{AreNamedAlike};
 ghost use Rattle.bay_services.specs.Bay.{Bay};
@@ -13,7 +13,7 @@ ghost use Rattle.bay_device.specs.Device as spec_device;
 ghost use Rattle.bay_device.specs.Device.{bay_of};
 ghost use Rattle.bay_device.specs.Entries.{Leading};
 ghost use Rattle.bay_device.specs.Fresh.{FreshAt};
-ghost use Rattle.bay_device.specs.LookUps.{switch_place, input_place, meter_place, enabled_of, position_of};
+ghost use Rattle.bay_device.specs.LookUps.{switch_place, input_place, meter_place, enabled_of, position_of, switches_text};
 ghost use Rattle.bay_device.specs.Meaning.{HaltsAt, MeansAt, Runs};
 ghost use Rattle.bay_device.specs.Operates.{AllOperate, AreOperates};
 ghost use Rattle.bay_device.specs.Outcomes.{associations, connection_at, event_outcome, outcome, recv_after, without_connection};
@@ -529,6 +529,14 @@ impl Device {
         ensures { result ≡ enabled_of self.now switch }
     {
         self.state.ena(switch)
+    }
+
+    /// Returns the text of the interlocking values of all switches, in the order of the bay file:
+    /// ` ID=xy` for each, where `x` is the digit of EnaOpn and `y` that of EnaCls, and a line end.
+    pub fn releases(&self) -> &[u8]
+        ensures { result.now ≡ switches_text self.now 0 self.now.switches ++ codes "\n" }
+    {
+        self.state.releases.text.as_slice()
     }
 
     /// Returns the position that the control of the switch at an index tells (IEC 61850-7-4, CSWI).

@@ -41,7 +41,7 @@ use bay_process::bind::{falses, spans_of};
 use bay_process::controls::{ControlRows, control_rows};
 use bay_process::meter::BoundMeter;
 use bay_process::parts::{bound_rows, node_names, wired_machine};
-use bay_process::values::ToldValues;
+use bay_process::releases::{Releases, kept_releases};
 use bay_services::bay::ServedBay;
 use bay_services::decisions::show_none;
 use bay_tree::tree::Tree;
@@ -83,7 +83,7 @@ pub struct BoundBay {
     pub scan_max_age_ms: u32,
     pub inputs: Listing<Text>,
     pub meters: Listing<BoundMeter>,
-    pub told: ToldValues,
+    pub releases: Releases,
 }
 
 // Takes the items out of a list, which is empty afterwards. Does not allocate.
@@ -105,6 +105,7 @@ fn bound_bay(alloc: Global, mut bay: Box<Bay>, writes: &[Source]) -> Result<Boun
     let switches = take_items(alloc, &mut bay.switches);
     let mut bound = bound_rows(alloc, rows, switches, bay.meters.as_slice(), &nodes, writes)?;
     let control_rows = shown_rows(alloc, &mut bound.tree, bound.switches.len())?;
+    let releases = kept_releases(alloc, &bound.tree, bound.switches.as_slice())?;
     let names = NameTexts::of_tree(alloc, &bound.tree)?;
     let Bay {
         domain,
@@ -131,7 +132,7 @@ fn bound_bay(alloc: Global, mut bay: Box<Bay>, writes: &[Source]) -> Result<Boun
         scan_max_age_ms,
         inputs,
         meters: Listing::new(bound.meters),
-        told: bound.told,
+        releases,
     })
 }
 
@@ -168,7 +169,7 @@ fn state_of(
             inputs: bound.inputs,
             input_values,
             meters: bound.meters,
-            told: bound.told,
+            releases: bound.releases,
             tables,
             reads: Listing::new(wired.reads),
             writes: Listing::new(wired.writes),

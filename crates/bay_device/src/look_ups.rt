@@ -1,33 +1,15 @@
 // What can be asked of a device's state.
-ghost use Rattle.std.specs.Prelude.{◌≡◌, true, List, Option, slice_get, option_map};
+ghost use Rattle.std.specs.Prelude.{◌≡◌, List, Option, slice_get, option_map};
 ghost use Rattle.bay_connection.specs.Talk.{Talk};
-ghost use Rattle.bay_tree.specs.Rows.{leaf_of};
 ghost use Rattle.bay_tree.specs.declared.leaf.Leaf.TheVariants as leaf;
-ghost use Rattle.bay_process.specs.Values.{is_truth};
-ghost use Rattle.bay_process.specs.Layout.{layout_of, status_in, switches_of, AreSwitchRows};
+ghost use Rattle.bay_process.specs.Layout.{switches_of};
 ghost use Rattle.bay_device.specs.LookUps.{switch_place, enabled_of, position_of};
 ghost use Rattle.bay_device.specs.LookUps as spec;
 ghost use Rattle.bay_device.specs.StateView.{state_view};
 
 use crate::state::DeviceState;
-use bay_process::rows::{SwitchRows, is_truth, position_at};
-use bay_process::switch::Enabled;
+use bay_process::rows::position_at;
 use bay_tree::leaf::Dbpos;
-use bay_tree::tree::Tree;
-
-// Returns the interlocking values that the tree holds.
-fn enabled_at(tree: &Tree, rows: &SwitchRows) -> Enabled
-    requires { AreSwitchRows (layout_of tree.now) rows.now }
-    ensures may_open { result.may_open
-        ≡ is_truth true (leaf_of (status_in (layout_of tree.now) rows.now.ena_opn).value tree.now) }
-    ensures may_close { result.may_close
-        ≡ is_truth true (leaf_of (status_in (layout_of tree.now) rows.now.ena_cls).value tree.now) }
-{
-    Enabled {
-        may_open: is_truth(tree, rows.ena_opn.value, true),
-        may_close: is_truth(tree, rows.ena_cls.value, true),
-    }
-}
 
 impl DeviceState {
     /// Returns the index of the input with this name, ignoring the case of its letters.
@@ -70,11 +52,10 @@ impl DeviceState {
         ensures { (connections : List (Option Talk))
             → result ≡ enabled_of (state_view connections self.now) switch }
     {
-        let bound = self.bay.switches.as_slice().get(switch)?;
-        let enabled = match self.told.get(switch) {
-            Some(enabled) => enabled,
-            None => enabled_at(&self.bay.tree, &bound.rows),
-        };
+        if switch >= self.bay.switches.as_slice().len() {
+            return None;
+        }
+        let enabled = self.releases.get(switch);
         Some((enabled.may_open, enabled.may_close))
     }
 

@@ -6,15 +6,15 @@ ghost use Rattle.bay_nodes.specs.declared.switch.Switch.{Switch};
 ghost use Rattle.bay_process.specs.Layout.{layout_of, switches_of, IsMeterBound};
 ghost use Rattle.bay_process.specs.Names.{field_names};
 ghost use Rattle.bay_process.specs.Scans.{outputs_put};
-ghost use Rattle.bay_process.specs.Told.{AreInterlocked, AreTold};
+ghost use Rattle.bay_process.specs.Told.{AreInterlocked, AreKept};
 ghost use Rattle.bay_process.specs.Values.{rows_after_contact, rows_after_doubt, rows_after_measure, tells, tells_doubt, tells_measure};
 ghost use Rattle.bay_services.specs.Views.{bay_view};
 
 use bay_config::bay::MeterField;
 use bay_process::contact::take_position;
 use bay_process::meter::{MeterRows, take_doubt, take_measure};
+use bay_process::releases::Releases;
 use bay_process::scan::write_outputs;
-use bay_process::values::ToldValues;
 use bay_services::bay::ServedBay;
 use bay_tree::leaf::Dbpos;
 use il_scan::points::Outputs;
@@ -84,10 +84,9 @@ pub fn doubt(
 }
 
 /// Writes the values of their points to the interlocking values of all switches.
-pub fn write_scan(bay: &mut ServedBay, told: &mut ToldValues, outputs: &Outputs<'_>, now: u64)
+pub fn write_scan(bay: &mut ServedBay, kept: &mut Releases, outputs: &Outputs<'_>, now: u64)
     requires interlocked { AreInterlocked (layout_of bay.old.tree) bay.old.switches }
-    requires told { AreTold bay.old.tree told.old }
-    requires sized { length told.old ≡ length bay.old.switches }
+    requires kept { AreKept bay.old.tree (switches_of bay.old.switches) 0 kept.old }
     ensures after { bay_view bay.new
         ≡ record (bay_view bay.old) {
           rows = outputs_put (layout_of bay.old.tree) bay.old.switches outputs.now now
@@ -95,8 +94,7 @@ pub fn write_scan(bay: &mut ServedBay, told: &mut ToldValues, outputs: &Outputs<
         } }
     ensures switches { bay.new.switches ≡ bay.old.switches }
     ensures layout { layout_of bay.new.tree ≡ layout_of bay.old.tree }
-    ensures told { AreTold bay.new.tree told.new }
-    ensures sized { length told.new ≡ length bay.old.switches }
+    ensures kept { AreKept bay.new.tree (switches_of bay.old.switches) 0 kept.new }
 {
-    write_outputs(&mut bay.tree, told, bay.switches.as_slice(), outputs, now);
+    write_outputs(&mut bay.tree, kept, bay.switches.as_slice(), outputs, now);
 }

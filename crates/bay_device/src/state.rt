@@ -1,11 +1,11 @@
 // The state of a device, which can take no memory.
 ghost use Rattle.std.specs.Prelude.{◌≡◌, ◌<◌, ◌^◌, length, map};
 ghost use Rattle.il_scan.specs.Scans.{AreHeld, inputs_in, read_only, type_of_point};
-ghost use Rattle.bay_process.specs.Layout.{layout_of, AreBound, AreMetersBound};
+ghost use Rattle.bay_process.specs.Layout.{layout_of, switches_of, AreBound, AreMetersBound};
 ghost use Rattle.bay_process.specs.Scans.{AreSpanned, bound_value};
 ghost use Rattle.bay_process.specs.Sources.{type_of_source};
 ghost use Rattle.bay_device.specs.Table.{AreTables};
-ghost use Rattle.bay_process.specs.Told.{AreTold};
+ghost use Rattle.bay_process.specs.Told.{AreKept};
 
 use crate::due::Due;
 use crate::table::NameTables;
@@ -13,7 +13,8 @@ use bay_base::listing::Listing;
 use bay_base::text::Text;
 use bay_config::bay::Source;
 use bay_process::meter::BoundMeter;
-use bay_process::values::{ToldValues, Truths};
+use bay_process::releases::Releases;
+use bay_process::values::Truths;
 use bay_services::bay::ServedBay;
 use il_scan::machine::Machine;
 use il_scan::span::Span;
@@ -33,8 +34,8 @@ pub struct DeviceState {
     pub input_values: Truths,
     /// The meters, in the order of the bay file.
     pub meters: Listing<BoundMeter>,
-    /// The interlocking values as the last scan wrote them.
-    pub told: ToldValues,
+    /// The interlocking values, in the text that is printed of them.
+    pub releases: Releases,
     /// The places of the ids of the switches, the names of the inputs and the ids of the meters.
     pub tables: NameTables,
     /// What the read-only points stand for, in the order of the points; `writes` is the same for
@@ -60,8 +61,7 @@ pub struct DeviceState {
     pub due: Option<Due>,
     ghost bound: { AreBound (layout_of bay.tree) writes bay.switches },
     ghost metered: { AreMetersBound (layout_of bay.tree) meters },
-    ghost told_stands: { AreTold bay.tree told },
-    ghost told_sized: { length told ≡ length bay.switches },
+    ghost released: { AreKept bay.tree (switches_of bay.switches) 0 releases },
     ghost tabled: { AreTables bay.switches inputs meters tables },
     ghost typed: { map type_of_source reads ≡ map type_of_point (read_only machine.image.points) },
     ghost spans_sized: { length spans ≡ length bay.switches },

@@ -225,7 +225,12 @@ impl DeviceState {
             self.reads.as_slice(),
             now,
         );
-        process::write_scan(&mut self.bay, &mut self.told, &self.machine.outputs(), now);
+        process::write_scan(
+            &mut self.bay,
+            &mut self.releases,
+            &self.machine.outputs(),
+            now,
+        );
         self.unread = Span {
             from: usize::MAX,
             to: 0,

@@ -5,7 +5,7 @@ use Rattle.std.specs.List.{range_with_len}
 use Rattle.bay_nodes.specs.declared.switch.Switch.{Switch}
 use Rattle.bay_device.specs.Device.{State}
 use Rattle.bay_device.specs.LookUps.{enabled_of}
-use Rattle.bay_report.specs.Lines.{digit_of}
+use Rattle.bay_process.specs.Releases.{digit_of}
 
 -- whether a switch may be opened, and closed
 abbrev pub Release : Type 0

@@ -1,7 +1,9 @@
 pub mod BoundLemmas
 pub mod FieldLemmas
+pub mod KeptLemmas
 pub mod ListLemmas
 pub mod NodeLemmas
 pub mod ReadLemmas
+pub mod ReleaseLemmas
 pub mod SourceLemmas
 pub mod ToldLemmas

@@ -1,6 +1,6 @@
 -- What the last scan wrote stands until the next one: no contact and no measure writes an
 -- interlocking value.
-use Rattle.std.proofs.Common.{◌≡◌, ◌≢◌, ℕ, ℤ, pos, ◌+ℤ◌, int_lt, zero, suc, ◌+◌, ◌<◌, ◌^◌, Bool, true, false, cond, ◌&&◌, nat_eq, List, [], ◌∷◌, ◌++◌, length, map, find, get_or, drop, codes, slice_set, Option, Some, None, option_and_then, refl, ap, sym, subst, ◌∙◌, arith}
+use Rattle.std.proofs.Common.{◌≡◌, ◌≢◌, ℕ, ℤ, pos, ◌+ℤ◌, int_lt, ◌+◌, ◌<◌, ◌^◌, Bool, true, false, cond, ◌&&◌, nat_eq, List, [], ◌∷◌, ◌++◌, find, get_or, drop, codes, Option, Some, None, option_and_then, refl, ap, sym, ◌∙◌, arith}
 use Rattle.std.specs.Bool.{beq}
 use Rattle.std.specs.Char.{digit_value}
 use Rattle.std.specs.Fmt.{decimal}
@@ -10,7 +10,7 @@ use Rattle.std.specs.Str.Parse.{AllDigits}
 use Rattle.std.proofs.lemmas.Bool.{and_parts}
 use Rattle.std.proofs.lemmas.Bool.Decides.{nat_tests}
 use Rattle.std.proofs.lemmas.Fmt.{decimal_is_IsNumeral, decimal_injective}
-use Rattle.std.proofs.lemmas.List.{append_cancel_left, get_or-set_same, get_or-set_other}
+use Rattle.std.proofs.lemmas.List.{append_cancel_left}
 use Rattle.std.proofs.lemmas.Slice.Eq.{bytes_eq-Decides}
 use Rattle.bay_tree.specs.Rows.{leaf_of, with_leaf_of}
 use Rattle.bay_tree.specs.declared.row.Row.{Row}
@@ -25,11 +25,11 @@ use Rattle.bay_base.specs.declared.point.MeterField.TheVariants.{TotW, TotVAr, H
 use Rattle.bay_nodes.specs.declared.switch.Switch.{Switch}
 use Rattle.bay_nodes.specs.declared.switch.SwitchKind.{SwitchKind}
 use Rattle.bay_nodes.specs.declared.switch.SwitchKind.TheVariants.{Breaker, Disconnector, Earthing}
-use Rattle.bay_process.specs.Values.{is_truth, is_quality, with_status, with_enabled, with_output, with_count, operation_counted, is_operation, tells, position_quality, rows_after_change, rows_after_contact, tells_doubt, tells_measure, rows_after_doubt, rows_after_measure}
-use Rattle.bay_nodes.specs.Names.{StatusNames, SwitchNames, switch_names, node_of, meter_names, interlocking_of, opening_of, closing_of}
+use Rattle.bay_process.specs.Values.{is_truth, is_quality, with_status, with_enabled, with_count, operation_counted, is_operation, tells, position_quality, rows_after_change, rows_after_contact, tells_doubt, tells_measure, rows_after_doubt, rows_after_measure}
+use Rattle.bay_nodes.specs.Names.{StatusNames, switch_names, node_of, meter_names, interlocking_of, opening_of, closing_of}
 use Rattle.bay_process.specs.Names.{field_names}
 use Rattle.bay_process.specs.declared.switch.Enabled.{Enabled}
-use Rattle.bay_process.specs.Told.{AreValued, Stands, IsTold, AreTold, told_at}
+use Rattle.bay_process.specs.Told.{AreValued, IsTold, Stands}
 
 -- ---- one row
 
@@ -233,24 +233,6 @@ field-away k PhaseA = at-node (node_name (codes "MMXU") (k + 1)) _ _ _ (away-met
 field-away k PhaseB = at-node (node_name (codes "MMXU") (k + 1)) _ _ _ (away-meter (k + 1))
 field-away k PhaseC = at-node (node_name (codes "MMXU") (k + 1)) _ _ _ (away-meter (k + 1))
 
--- and so what was told stands
-pub told-kept : (rows new : List Row) (told : List (Option Enabled)) → AreTold rows told
-    → Keeps rows new → AreTold new told
-told-kept rows new told all keeps k enabled here =
-    let is = all k enabled here in
-    record {
-      opening =
-          record {
-            value_is = keeps k _ ∙ is.opening.value_is;
-            quality_is = keeps k _ ∙ is.opening.quality_is;
-          };
-      closing =
-          record {
-            value_is = keeps k _ ∙ is.closing.value_is;
-            quality_is = keeps k _ ∙ is.closing.quality_is;
-          };
-    }
-
 -- ---- what a scan writes
 
 truth-is : (b : Bool) (o : Option Leaf) → is_truth b o ≡ true → o ≡ Some (leaf.Truth b)
@@ -388,7 +370,7 @@ module _ (k i : ℕ) (few : k + 1 < 2 ^ 64) (less : i + 1 < 2 ^ 64) (apart : k �
       }
 
   -- what another node names stays
-  keeps-output : (o c : Bool) (now : ℕ) (rows : List Row) (s : List ℕ)
+  pub keeps-output : (o c : Bool) (now : ℕ) (rows : List Row) (s : List ℕ)
       → leaf_of (interlocking_of k ++ 36 ∷ s)
       (with_enabled (closing_of i) c now (with_enabled (opening_of i) o now rows))
       ≡ leaf_of (interlocking_of k ++ 36 ∷ s) rows
@@ -465,78 +447,3 @@ told-here k enabled now rows mid new opens first closes second =
       };
       closing = closed;
     }
-
-told-within : (told : List (Option Enabled)) (k : ℕ) (enabled : Enabled)
-    → told_at told k ≡ Some enabled → k < length told
-told-within [] k enabled h = absurd cc
-told-within (x ∷ told) zero enabled h = omega arith
-told-within (x ∷ told) (suc k) enabled h = let below =
-    told-within told k enabled h in omega (arith, below)
-
-told-if : (b : Bool) (told : List (Option Enabled)) (i : ℕ) (enabled : Enabled) (now : ℕ)
-    (rows : List Row) → AreTold rows told → i < length told → length told < 2 ^ 64
-    → IsTold (with_enabled (closing_of i) enabled.may_close now
-    (with_enabled (opening_of i) enabled.may_open now rows)) i enabled
-    → (k : ℕ) → nat_eq k i ≡ b → (e : Enabled)
-    → told_at (slice_set told i (Some enabled)) k ≡ Some e
-    → IsTold (with_enabled (closing_of i) enabled.may_close now
-    (with_enabled (opening_of i) enabled.may_open now rows)) k e
-told-if true told i enabled now rows all lt few written k same e here =
-    let new =
-    with_enabled (closing_of i) enabled.may_close now
-    (with_enabled (opening_of i) enabled.may_open now rows) in
-    let is : k ≡ i = grind (arith, nat_tests) in
-    let own : Some enabled ≡ Some e =
-    sym (get_or-set_same told i (Some enabled) None lt)
-    ∙ ap (told_at (slice_set told i (Some enabled))) (sym is) ∙ here in
-    let one : enabled ≡ e = cc in
-    subst (λ n. IsTold new n e) (sym is) (subst (IsTold new i) one written)
-told-if false told i enabled now rows all lt few written k same e here =
-    let apart : k ≡ i → ⊥ = λ is. let no : nat_eq k i ≡ true =
-    grind (arith, nat_tests) in absurd cc in
-    let before : told_at told k ≡ Some e =
-    sym (get_or-set_other told i k (Some enabled) None apart) ∙ here in
-    let within = told-within told k e before in
-    let stood = all k e before in
-    let keeps =
-    keeps-output k i (omega (arith, within, few)) (omega (arith, lt, few)) apart
-    enabled.may_open enabled.may_close now rows in
-    record {
-      opening =
-          record {
-            value_is = keeps _ ∙ stood.opening.value_is;
-            quality_is = keeps _ ∙ stood.opening.quality_is;
-          };
-      closing =
-          record {
-            value_is = keeps _ ∙ stood.closing.value_is;
-            quality_is = keeps _ ∙ stood.closing.quality_is;
-          };
-    }
-
--- and what is kept of the others stands too
-none-at : {X : Type 0} (xs : List X) (k : ℕ) (e : Enabled) → told_at (map (λ _. None) xs) k ≡ Some e
-    → ⊥
-none-at [] k e here = absurd cc
-none-at (x ∷ xs) zero e here = absurd cc
-none-at (x ∷ xs) (suc k) e here = none-at xs k e here
-
--- what was written of one switch and what is kept of the others stands
-pub told-written : (told : List (Option Enabled)) (i : ℕ) (enabled : Enabled) (names : SwitchNames)
-    (now : ℕ) (rows new : List Row) → AreTold rows told → i < length told → length told < 2 ^ 64
-    → names.ena_opn ≡ opening_of i → names.ena_cls ≡ closing_of i
-    → new ≡ with_output names enabled.may_open enabled.may_close now rows → IsTold new i enabled
-    → AreTold new (slice_set told i (Some enabled))
-told-written told i enabled names now rows new all lt few opens closes is own =
-    let by : new ≡ with_enabled (closing_of i) enabled.may_close now
-    (with_enabled (opening_of i) enabled.may_open now rows) =
-    is ∙ ap (λ n. with_enabled names.ena_cls enabled.may_close now
-    (with_enabled n enabled.may_open now rows)) opens
-    ∙ ap (λ n. with_enabled n enabled.may_close now
-    (with_enabled (opening_of i) enabled.may_open now rows)) closes in
-    rw by (λ k e here. told-if (nat_eq k i) told i enabled now rows all lt few (rw by at own) k refl
-    e here)
-
--- nothing was told
-pub none-told : {X : Type 0} (xs : List X) (rows : List Row) → AreTold rows (map (λ _. None) xs)
-none-told xs rows k e here = absurd (none-at xs k e here)

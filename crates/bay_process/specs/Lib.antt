@@ -11,8 +11,9 @@
 -- point stands for the bay's point of the same name, type and writability. `Layout`: the names and
 -- types of the rows at handles, so that what is done at a handle is said by name. `Nodes` and
 -- `Controls`: which handles a tree gives for the rows of switches and controls. `Scans`: what a
--- scan reads and writes, at handles. `Told`: the interlocking values kept from the last scan stand
--- in the rows, with a good quality. `Parts`: what the parts of a device's state are made of.
+-- scan reads and writes, at handles. `Releases`: the text of the interlocking values. `Told`: what
+-- is kept of them is what the rows have, behind a scan with a good quality. `Parts`: what the parts
+-- of a device's state are made of.
 
 -- What public clauses cite of the crates below.
 pub use Rattle.bay_nodes.specs.Names as NodeNames
@@ -24,6 +25,7 @@ pub mod Layout
 pub mod Names
 pub mod Nodes
 pub mod Parts
+pub mod Releases
 pub mod Scans
 pub mod Sources
 pub mod Told

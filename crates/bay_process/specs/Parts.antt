@@ -1,5 +1,5 @@
 -- The parts that the state of a device is made of.
-use Rattle.std.specs.Prelude.{◌≡◌, true, false, ℕ, List, length, map, None}
+use Rattle.std.specs.Prelude.{◌≡◌, true, false, ℕ, List, length}
 use Rattle.bay_base.specs.declared.point.Source.{Source}
 use Rattle.bay_base.specs.declared.point.Point.{Point}
 use Rattle.bay_nodes.specs.declared.switch.Switch.{Switch}
@@ -37,4 +37,3 @@ pub record AreBoundRows (rows : List Row) (switches : List Switch) (meters : Lis
       bound.switches.items
   pub ids : meters_of bound.meters.items ≡ meters
   pub of_meters : AreMetersBound (layout_of bound.tree) bound.meters.items
-  pub told : bound.told ≡ map (λ _. None) bound.switches.items

@@ -1,9 +1,13 @@
 -- The interlocking values as the last scan wrote them.
-use Rattle.std.specs.Prelude.{◌≡◌, ◌≢◌, ℕ, Bool, List, slice_get, slice_index_or, Option, Some, None}
+use Rattle.std.specs.Prelude.{◌≡◌, ◌≢◌, ◌<◌, ◌⊎◌, ℕ, ◌+◌, Bool, true, List, [], ◌∷◌, slice_get, Some, None}
 use Rattle.bay_tree.specs.Rows.{leaf_of}
 use Rattle.bay_tree.specs.declared.leaf.Leaf.TheVariants as leaf
 use Rattle.bay_tree.specs.declared.leaf.Quality.TheVariants.{Good}
 use Rattle.bay_tree.specs.declared.row.Row.{Row}
+use Rattle.bay_nodes.specs.declared.switch.Switch.{Switch}
+use Rattle.bay_process.specs.Releases.{Shows}
+use Rattle.bay_process.specs.Values.{is_truth}
+use Rattle.bay_process.specs.declared.releases.Releases.{Releases}
 use Rattle.bay_process.specs.Layout.{Layout, status_in, AreSwitchRows}
 use Rattle.bay_nodes.specs.Names.{StatusNames, opening_of, closing_of}
 use Rattle.bay_process.specs.declared.rows.SwitchRows.{SwitchRows}
@@ -25,14 +29,26 @@ pub record IsTold (rows : List Row) (k : ℕ) (enabled : Enabled) : Type 0 where
   pub opening : Stands rows (opening_of k) enabled.may_open
   pub closing : Stands rows (closing_of k) enabled.may_close
 
--- what is kept of the switch at a place; nothing before the first scan
-abbrev pub told_at : List (Option Enabled) → ℕ → Option Enabled
-told_at told k = slice_index_or told k None
+-- both values of the switch at a place, whatever their quality
+abbrev pub enabled_at : List Row → ℕ → Enabled
+enabled_at rows k = record {
+  may_open = is_truth true (leaf_of (opening_of k).value rows);
+  may_close = is_truth true (leaf_of (closing_of k).value rows);
+}
 
--- what is kept of the switches stands in the rows
-abbrev pub AreTold : List Row → List (Option Enabled) → Type 0
-AreTold rows told =
-    (k : ℕ) (enabled : Enabled) → told_at told k ≡ Some enabled → IsTold rows k enabled
+-- those of switches from place k on
+abbrev pub enabled_from : List Row → ℕ → List Switch → List Enabled
+enabled_from rows k [] = []
+enabled_from rows k (s ∷ ss) = enabled_at rows k ∷ enabled_from rows (k + 1) ss
+
+-- The text that is kept tells what the rows have. Those of the first n switches were written by a
+-- scan, as those of all switches were behind the first scan: they stand with a good quality.
+pub record AreKept (rows : List Row) (switches : List Switch) (n : ℕ)
+    (kept : Releases) : Type 0 where
+  pub shows : Shows switches (enabled_from rows 0 switches) kept.text.items kept.places.items
+  pub written : (k : ℕ) (enabled : Enabled)
+      → slice_get (enabled_from rows 0 switches) k ≡ Some enabled
+      → (kept.is_written ≡ true) ⊎ (k < n) → IsTold rows k enabled
 
 -- the handles of the interlocking values of the switch at a place have its names
 pub record AreEnabling (layout : Layout) (k : ℕ) (rows : SwitchRows) : Type 0 where

@@ -1,5 +1,5 @@
 // The points of a verified image on those of a bay.
-ghost use Rattle.std.specs.Prelude.{◌≡◌, false, length, map, option_map, position, find, None, IfOk};
+ghost use Rattle.std.specs.Prelude.{◌≡◌, false, length, map, option_map, position, find, IfOk};
 ghost use Rattle.il_verify.specs.Binding.{is_point as is_image_point};
 ghost use Rattle.bay_process.specs.Values as spec;
 ghost use Rattle.bay_process.specs.Layout.{bound_from};
@@ -9,7 +9,7 @@ ghost use Rattle.bay_process.specs.Sources as spec_sources;
 
 use crate::rows::SwitchRows;
 use crate::switch::{BoundSwitch, SwitchOutputs};
-use crate::values::{ToldValues, Truths};
+use crate::values::Truths;
 use bay_base::names::same_name;
 use bay_base::text::Text;
 use bay_config::bay::{Point, Source, Switch, SwitchPoint};
@@ -154,15 +154,4 @@ pub fn falses(alloc: Global, inputs: &[Text]) -> Result<Truths, AllocError>
         values.push(false)?;
     }
     Ok(Truths::new(values))
-}
-
-/// Returns, for each switch, that no interlocking value was written yet.
-pub fn nothing_told(alloc: Global, switches: &[BoundSwitch]) -> Result<ToldValues, AllocError>
-    ensures { IfOk result (λ told. told ≡ map (λ _. None) switches.now) }
-{
-    let mut values = Vec::new(alloc);
-    for _switch in switches {
-        values.push(None)?;
-    }
-    Ok(ToldValues::new(values))
 }

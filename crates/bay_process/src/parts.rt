@@ -6,12 +6,11 @@ ghost use Rattle.bay_process.specs.Layout.{layout_of};
 ghost use Rattle.bay_process.specs.Nodes.{AreAllMeters, AreAllNodes, HasSwitches, HaveMeters};
 ghost use Rattle.bay_process.specs.Parts.{AreBoundRows, AreBoundSwitches, IsWired};
 
-use crate::bind::{bind_switches, nothing_told, sources_of};
+use crate::bind::{bind_switches, sources_of};
 use crate::meter::BoundMeter;
 use crate::meters::{all_meter_nodes, bind_meters};
 use crate::nodes::{Nodes, all_nodes, all_switch_rows};
 use crate::switch::BoundSwitch;
-use crate::values::ToldValues;
 use bay_base::text::Text;
 use bay_config::bay::{Bay, Point, Source, Switch};
 use bay_tree::row::Row;
@@ -84,8 +83,6 @@ pub struct BoundRows {
     pub tree: Tree,
     pub switches: Vec<BoundSwitch>,
     pub meters: Vec<BoundMeter>,
-    /// The interlocking values written so far: none.
-    pub told: ToldValues,
 }
 
 // Binds the switches of a bay to the rows that their nodes name, and to the places of their
@@ -128,11 +125,9 @@ pub fn bound_rows(
     let tree = Tree::build(alloc, rows)?;
     let switches = bound_switches(alloc, &tree, switches, nodes.switches.as_slice(), writes)?;
     let meters = bind_meters(alloc, &tree, meters, nodes.meters.as_slice())?;
-    let told = nothing_told(alloc, switches.as_slice())?;
     Ok(BoundRows {
         tree,
         switches,
         meters,
-        told,
     })
 }

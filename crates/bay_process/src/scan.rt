@@ -1,5 +1,6 @@
 // What a scan reads, and what it writes (IEC 61850-7-4, CILO: EnaOpn and EnaCls).
-ghost use Rattle.std.specs.Prelude.{◌≡◌, ◌<◌, ◌^◌, ℕ, [], length, slice_get, Some, None};
+ghost use Rattle.std.specs.Prelude.{◌≡◌, ◌+◌, ◌<◌, ℕ, List, [], length, slice_get, Some, None};
+ghost use Rattle.bay_nodes.specs.declared.switch.Switch.{Switch};
 ghost use Rattle.bay_tree.specs.declared.leaf.LeafType.TheVariants as leaf_type;
 ghost use Rattle.bay_tree.specs.declared.leaf.Leaf.TheVariants as leaves;
 ghost use Rattle.il_image.specs.Images.{IsValue};
@@ -8,18 +9,19 @@ ghost use Rattle.bay_base.specs.declared.types.ElementaryType.TheVariants as ele
 ghost use Rattle.il_scan.specs.Places.{is_true};
 ghost use Rattle.bay_process.specs.Values.{output_at, with_enabled, with_output};
 ghost use Rattle.bay_process.specs.Values as spec_values;
-ghost use Rattle.bay_process.specs.Layout.{layout_of, status_in, switch_in, AreStatusRows, AreSwitchRows, AreLeafTyped, AreMetersLeafTyped};
+ghost use Rattle.bay_process.specs.Layout.{layout_of, status_in, switch_in, switches_of, AreStatusRows, AreSwitchRows, AreLeafTyped, AreMetersLeafTyped};
 ghost use Rattle.bay_process.specs.Sources.{type_of_source, type_of_switch_point};
-ghost use Rattle.bay_process.specs.Told.{AreEnabling, AreInterlocked, AreTold, AreValued, IsInterlocked, IsTold, Stands};
+ghost use Rattle.bay_process.specs.Told.{AreEnabling, AreInterlocked, AreKept, AreValued, IsInterlocked, IsTold};
 ghost use Rattle.bay_process.specs.Scans.{bound_value, leaf_at, outputs_put};
 ghost use Rattle.bay_process.specs.Scans as spec;
 
 use crate::meter::BoundMeter;
+use crate::releases::Releases;
 use crate::rows::{
     StatusRows, SwitchRows, count_at, is_quality, is_truth, position_at, put_status,
 };
 use crate::switch::{BoundSwitch, Enabled};
-use crate::values::{ToldValues, Truths};
+use crate::values::Truths;
 use bay_config::bay::{MeterField, Source, SwitchPoint};
 use bay_tree::leaf::{Dbpos, Leaf, Quality};
 use bay_tree::tree::Tree;
@@ -192,67 +194,49 @@ fn write_output(tree: &mut Tree, rows: &SwitchRows, enabled: Enabled, now: u64)
     set_enabled(tree, rows.ena_cls, enabled.may_close, now);
 }
 
-// Writes a new interlocking value over the value `stood`, which the row holds with a good quality.
-fn change_enabled(tree: &mut Tree, rows: StatusRows, stood: bool, value: bool, now: u64)
-    requires rows { AreStatusRows (layout_of tree.old) leaf_type.Truth rows }
-    requires stands { Stands tree.old (status_in (layout_of tree.old) rows) stood }
-    ensures rows { tree.new ≡ with_enabled (status_in (layout_of tree.old) rows) value now
-        tree.old }
-    ensures layout { layout_of tree.new ≡ layout_of tree.old }
-{
-    if value == stood {
-        return;
-    }
-    put_status(tree, rows, Leaf::Truth(value), Quality::Good, now)
-}
-
-// Writes new interlocking values of the switch at an index. Does not read again what the last scan
-// wrote.
+// Writes new interlocking values of the switch at an index, unless the last scan wrote them.
+#[inline(always)]
 fn tell(
     tree: &mut Tree,
-    told: &mut ToldValues,
+    kept: &mut Releases,
     place: usize,
     rows: &SwitchRows,
     enabled: Enabled,
     now: u64,
 )
     requires rows { IsInterlocked (layout_of tree.old) place rows.now }
-    requires told { AreTold tree.old told.old }
-    requires within { place < length told.old }
-    requires few { length told.old < 2 ^ 64 }
+    requires kept { (ss : List Switch) × AreKept tree.old ss place kept.old × (place < length ss) }
     ensures rows { tree.new ≡ with_output (switch_in (layout_of tree.old) rows.now) enabled.may_open
         enabled.may_close now tree.old }
     ensures layout { layout_of tree.new ≡ layout_of tree.old }
-    ensures told { AreTold tree.new told.new }
-    ensures sized { length told.new ≡ length told.old }
+    ensures kept { (ss : List Switch) → AreKept tree.old ss place kept.old → place < length ss
+        → AreKept tree.new ss (place + 1) kept.new }
 {
-    let stood = told.get(place);
-    told.set(place, enabled);
-    match stood {
-        Some(stood) => {
-            change_enabled(tree, rows.ena_opn, stood.may_open, enabled.may_open, now);
-            change_enabled(tree, rows.ena_cls, stood.may_close, enabled.may_close, now);
-        }
-        None => write_output(tree, rows, enabled, now),
+    let stood = kept.get(place);
+    if kept.is_written
+        && enabled.may_open == stood.may_open
+        && enabled.may_close == stood.may_close
+    {
+        return;
     }
+    write_output(tree, rows, enabled, now);
+    kept.set(place, enabled);
 }
 
 /// Writes the values of their points to the interlocking values of all switches.
 pub fn write_outputs(
     tree: &mut Tree,
-    told: &mut ToldValues,
+    kept: &mut Releases,
     switches: &[BoundSwitch],
     outputs: &Outputs<'_>,
     now: u64,
 )
     requires interlocked { AreInterlocked (layout_of tree.old) switches.now }
-    requires told { AreTold tree.old told.old }
-    requires sized { length told.old ≡ length switches.now }
+    requires kept { AreKept tree.old (switches_of switches.now) 0 kept.old }
     ensures rows { tree.new ≡ outputs_put (layout_of tree.old) switches.now outputs.now now
         tree.old }
     ensures layout { layout_of tree.new ≡ layout_of tree.old }
-    ensures told { AreTold tree.new told.new }
-    ensures sized { length told.new ≡ length switches.now }
+    ensures kept { AreKept tree.new (switches_of switches.now) 0 kept.new }
 {
     for place in 0..switches.len() {
         let bound = &switches[place];
@@ -260,6 +244,7 @@ pub fn write_outputs(
             may_open: output(outputs, bound.outputs.ena_opn),
             may_close: output(outputs, bound.outputs.ena_cls),
         };
-        tell(tree, told, place, &bound.rows, enabled, now);
+        tell(tree, kept, place, &bound.rows, enabled, now);
     }
+    kept.is_written = true;
 }

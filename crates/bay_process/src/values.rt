@@ -1,9 +1,6 @@
 // Values that are never more or fewer than there were at first.
-ghost use Rattle.std.specs.Prelude.{◌≡◌, ◌<◌, false, length, map, position, slice_get, slice_set, Some};
-ghost use Rattle.bay_process.specs.Values as spec;
-ghost use Rattle.bay_process.specs.Told.{told_at};
+ghost use Rattle.std.specs.Prelude.{◌≡◌, ◌<◌, false, length, map, position, slice_get, slice_set};
 
-use crate::switch::Enabled;
 use std::marker::Model;
 
 /// The values of the inputs.
@@ -64,46 +61,5 @@ impl Truths {
         for place in 0..self.values.len() {
             self.values[place] = false;
         }
-    }
-}
-
-/// The interlocking values of the switches as the last scan wrote them; `None` before the first
-/// scan.
-#[derive(Drop)]
-pub struct ToldValues {
-    values: Vec<Option<Enabled>>,
-}
-
-impl Model for ToldValues {
-    ghost use Rattle.std.specs.Prelude.{List, Option};
-    ghost use Rattle.bay_process.specs.declared.switch.Enabled.{Enabled};
-
-    ghost Value = { List (Option Enabled) };
-
-    ghost view = { λ v. v.values.items };
-}
-
-impl ToldValues {
-    /// Holds these values. Does not allocate.
-    pub fn new(values: Vec<Option<Enabled>>) -> Self
-        ensures { result ≡ values.items }
-    {
-        ToldValues { values }
-    }
-
-    /// Returns what was written for the switch at an index, if anything was.
-    pub fn get(&self, place: usize) -> Option<Enabled>
-        requires { place < length self.now }
-        ensures { result ≡ told_at self.now place }
-    {
-        self.values[place]
-    }
-
-    /// Records what was written for the switch at an index.
-    pub fn set(&mut self, place: usize, enabled: Enabled)
-        requires { place < length self.old }
-        ensures { self.new ≡ slice_set self.old place (Some enabled) }
-    {
-        self.values[place] = Some(enabled);
     }
 }

@@ -18,40 +18,6 @@ use Rattle.bay_report.specs.LogLines.{IsTold, LogsSome, PrintsLogs}
 use Rattle.bay_report.specs.Report.{IsLast, Printed, Prints}
 use Rattle.bay_services.specs.declared.answer.Command.{Command}
 
-within : (ss : List Switch) (j : ℕ) → j < length ss → (x : Switch) × (slice_get ss j ≡ Some x)
-within [] j h = absurd (omega arith)
-within (x ∷ ss) zero h = (x, refl)
-within (x ∷ ss) (suc j) h = within ss j (omega arith)
-
--- a place that is not told of has no switch
-pub no-switch : (s : State) (k : ℕ) → None ≡ enabled_of s k
-    → [] ≡ switch_part s k (slice_get s.switches k)
-no-switch s k e = by_test (nat_lt k (length s.switches)) refl
-  where
-    by_test : (b : Bool) → nat_lt k (length s.switches) ≡ b
-        → [] ≡ switch_part s k (slice_get s.switches k)
-    by_test true is =
-        let some : enabled_of s k ≡ Some (may_open s k, may_close s k) =
-        ap (λ b. cond b (Some (may_open s k, may_close s k)) None) is in
-        absurd cc
-    by_test false is =
-        let past : length s.switches ≤ k = grind (arith, nat_tests) in
-        sym (ap (switch_part s k) (slice_get_past s.switches k past))
-
--- one switch more is told
-pub switches-turn : (s : State) (k : ℕ) (switches : List Switch) → k < length switches
-    → switches_text s k (drop k switches)
-    ≡ switch_part s k (slice_get switches k) ++ switches_text s (k + 1) (drop (k + 1) switches)
-switches-turn s k switches lt =
-    let w = within switches k lt in
-    let here : get_or switches k w.0 ≡ w.0 = get_or_from_slice_get switches k w.0 w.0 w.1 in
-    let next : drop k switches ≡ w.0 ∷ drop (k + 1) switches =
-    rw (add-one, drop-cons switches k w.0) (ap (λ x. x ∷ drop (suc k) switches) here) in
-    let part : switch_part s k (slice_get switches k) ≡ switch_part s k (Some w.0) =
-    ap (switch_part s k) w.1 in
-    ap (λ ss. switches_text s k ss) next
-    ∙ ap (λ p. p ++ switches_text s (k + 1) (drop (k + 1) switches)) (sym part)
-
 pub sends-turn : (now : ℕ) (sends : List Sent) (k : ℕ) (sent : Sent) → sent ≡ get_or sends k sent
     → k < length sends → sends_text now (drop k sends)
     ≡ send_text now sent ++ sends_text now (drop (k + 1) sends)

@@ -8,32 +8,12 @@ use Rattle.bay_nodes.specs.declared.switch.Switch.{Switch}
 use Rattle.bay_services.specs.declared.answer.Command.{Command}
 use Rattle.bay_device.specs.Code.{step_code_of}
 use Rattle.bay_device.specs.Device.{State}
-use Rattle.bay_device.specs.LookUps.{may_open, may_close}
+use Rattle.bay_device.specs.LookUps.{switches_text}
 use Rattle.bay_device.specs.declared.event.Sent.{Sent}
 use Rattle.bay_device.specs.declared.event.Step.{Step}
 use Rattle.bay_device.specs.declared.event.Why.{Why}
 use Rattle.bay_device.specs.declared.event.Why.TheVariants.{Ended, Fault, Memory}
 use Rattle.bay_device.specs.declared.fault.StepFault.{StepFault}
-
--- TRUE is 1
-abbrev pub digit_of : Bool → List ℕ
-digit_of b = if b then codes "1" else codes "0"
-
--- a switch's id, and whether it may be opened and closed
-abbrev pub switch_text : List ℕ → Bool → Bool → List ℕ
-switch_text id opens closes =
-    codes " " ++ id ++ codes "=" ++ (digit_of opens ++ digit_of closes)
-
--- the part of a scan's line on the switch at a place, if there is one
-abbrev pub switch_part : State → ℕ → Option Switch → List ℕ
-switch_part s k None = []
-switch_part s k (Some switch) = switch_text switch.id (may_open s k) (may_close s k)
-
--- the parts on switches, from place k on
-abbrev pub switches_text : State → ℕ → List Switch → List ℕ
-switches_text s k [] = []
-switches_text s k (switch ∷ switches) =
-    switch_part s k (Some switch) ++ switches_text s (k + 1) switches
 
 -- the line of a scan: the moment, the number of instructions that were executed, and each switch
 abbrev pub scan_text : ℕ → ℕ → State → List ℕ

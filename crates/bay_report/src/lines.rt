@@ -3,7 +3,7 @@ ghost use Rattle.std.specs.Prelude.{◌≡◌, ◌≤◌, ◌*◌, ◌∷◌, []
 ghost use Rattle.std.specs.Fmt.{decimal};
 ghost use Rattle.hex.specs.Hex.{encode_lower};
 ghost use Rattle.bay_io.specs.Sent.{Puts};
-ghost use Rattle.bay_report.specs.Lines.{digit_of, switch_text, switch_part, switches_text, scan_text, ran_text, send_text, sends_text, ended_text, order_text, command_line, command_text, commands_text, why_text, closing_text, closed_text, refusal_line, done_text, step_text, unreadable_text};
+ghost use Rattle.bay_report.specs.Lines.{scan_text, ran_text, send_text, sends_text, ended_text, order_text, command_line, command_text, commands_text, why_text, closing_text, closed_text, refusal_line, done_text, step_text, unreadable_text};
 
 use bay_device::device::Device;
 use bay_device::event::{Sent, Step, Why};
@@ -16,53 +16,6 @@ use bay_services::answer::Command;
 // The number of octets that are written as digits at a time.
 const CHUNK: usize = 256;
 
-// Returns the digit of a truth value.
-fn digit(truth: bool) -> u8
-    ensures { result ∷ [] ≡ digit_of truth }
-{
-    b'0' + u8::from(truth)
-}
-
-// Returns what says behind a switch's id whether it may be opened and closed.
-fn enabled(opens: bool, closes: bool) -> [u8; 3]
-    ensures { result ≡ codes "=" ++ (digit_of opens ++ digit_of closes) }
-{
-    [b'=', digit(opens), digit(closes)]
-}
-
-// Writes a switch's part of a scan's line: its id, and whether it may be opened and closed.
-fn put_switch<W: Sink>(writer: &mut WatchedWriter<W>, id: &str, opens: bool, closes: bool)
-    ensures { Puts W.contents W.does writer.old (switch_text id.now opens closes) writer.new }
-{
-    writer.put(b" ");
-    writer.put_short(id.as_bytes());
-    writer.put(enabled(opens, closes).as_slice());
-}
-
-// Writes the part of a scan's line for the switch at an index, if there is one.
-fn put_place<W: Sink>(writer: &mut WatchedWriter<W>, device: &Device, place: usize)
-    ensures { Puts W.contents W.does writer.old
-        (switch_part device.now place (slice_get device.now.switches place)) writer.new }
-{
-    let Some(id) = device.id(place) else {
-        return;
-    };
-    let Some((opens, closes)) = device.ena(place) else {
-        return;
-    };
-    put_switch(writer, id, opens, closes);
-}
-
-// Writes the parts of a scan's line for all switches.
-fn put_switches<W: Sink>(writer: &mut WatchedWriter<W>, device: &Device)
-    ensures { Puts W.contents W.does writer.old (switches_text device.now 0 device.now.switches)
-        writer.new }
-{
-    for place in 0..device.switch_count() {
-        put_place(writer, device, place);
-    }
-}
-
 // Writes the line of a scan.
 fn put_scan<W: Sink>(writer: &mut WatchedWriter<W>, device: &Device, moment: u64, steps: u32)
     ensures { Puts W.contents W.does writer.old (scan_text moment steps device.now) writer.new }
@@ -70,8 +23,7 @@ fn put_scan<W: Sink>(writer: &mut WatchedWriter<W>, device: &Device, moment: u64
     writer.put_number(moment);
     writer.put(b" scan steps=");
     writer.put_number(u64::from(steps));
-    put_switches(writer, device);
-    writer.put(b"\n");
+    writer.put(device.releases());
 }
 
 // Writes the line of a scan, if there was one.

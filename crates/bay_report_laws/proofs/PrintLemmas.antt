@@ -10,7 +10,7 @@ use Rattle.bay_nodes.specs.declared.switch.Switch.{Switch}
 use Rattle.bay_services.specs.declared.answer.Command.{Command}
 use Rattle.bay_device.specs.Code.{step_code_of}
 use Rattle.bay_device.specs.Device.{State}
-use Rattle.bay_device.specs.LookUps.{may_close, may_open}
+use Rattle.bay_device.specs.LookUps.{may_close, may_open, switches_text}
 use Rattle.bay_device.specs.declared.event.Sent.{Sent}
 use Rattle.bay_device.specs.declared.event.Step.{Step}
 use Rattle.bay_device.specs.declared.event.Why.{Why}
@@ -18,7 +18,8 @@ use Rattle.bay_device.specs.declared.event.Why.TheVariants.{Ended, Fault, Memory
 use Rattle.bay_device.specs.declared.fault.StepFault.{StepFault}
 use Rattle.bay_device.specs.declared.report.Report.{Report}
 use Rattle.bay_report.specs.Report.{report_text}
-use Rattle.bay_report.specs.Lines.{closed_text, closing_text, command_line, command_part, commands_text, digit_of, done_text, ended_text, order_text, ran_text, refusal_line, scan_text, send_text, sends_text, step_text, switches_text, why_text}
+use Rattle.bay_report.specs.Lines.{closed_text, closing_text, command_line, command_part, commands_text, done_text, ended_text, order_text, ran_text, refusal_line, scan_text, send_text, sends_text, step_text, why_text}
+use Rattle.bay_process.specs.Releases.{digit_of}
 use Rattle.bay_report_laws.specs.Printed.{PrintedSwitch}
 use Rattle.bay_report_laws.specs.ReadBack.{HaveIds, switches_told}
 use Rattle.bay_replay.proofs.KeptLemmas.{scan_told}

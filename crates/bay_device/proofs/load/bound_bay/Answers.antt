@@ -1,10 +1,8 @@
 use Rattle.std.proofs.Common.{◌≡◌, None, List, length, subst, ap, sym, ◌∙◌, arith}
-use Rattle.std.proofs.lemmas.List.{length-map}
 use Rattle.bay_config.specs.declared.bay.Bay.{Bay}
 use Rattle.bay_control.specs.Decisions as control
 use Rattle.bay_nodes.specs.declared.switch.Switch.{Switch}
 use Rattle.bay_process.proofs.NodeLemmas.{has-switches, have-meters, have-selected}
-use Rattle.bay_process.proofs.ToldLemmas.{none-told}
 use Rattle.bay_process.specs.Controls.{HaveSelected}
 use Rattle.bay_process.specs.Layout.{Layout, layout_of, meters_of, switches_of}
 use Rattle.bay_process.specs.declared.switch.BoundSwitch.{BoundSwitch}
@@ -15,6 +13,7 @@ use Rattle.bay_services.specs.Released.{AreTimed}
 use Rattle.bay_tree.specs.declared.row.Row.{Row}
 use Rattle.bay_services.proofs.ShownLemmas.{shows-first}
 use Rattle.bay_device.proofs.LoadLemmas.{bound-to}
+use Rattle.bay_device.proofs.ScanLemmas.{interlocked}
 use Rattle.bay_device.proofs.load.bound_bay.Goals as goal
 
 pub bound_rows-requires-clause-switches_there : goal.bound_rows-requires-clause-switches_there
@@ -48,6 +47,21 @@ shown_rows-requires c =
     subst (λ (t : List Row). HaveSelected t c.len.result) (sym tree)
     (subst (λ n. HaveSelected bay.rows n) (sym count)
     (have-selected bay nodes c.requires.sound named))
+
+pub kept_releases-requires : goal.kept_releases-requires
+kept_releases-requires c =
+    let bay : Bay = c.args.bay.value in
+    let named = rw c.deref.ensures at c.in_ok-nodes.ensures.switches_named in
+    let sized = rw c.deref.ensures at c.in_ok-nodes.ensures.switches_sized in
+    let taken =
+    rw (c.deref_mut-2.ensures.value, c.deref_mut.ensures.value) at
+    c.take_items-switches.ensures.value in
+    let layout : Layout = layout_of c.in_ok-bound.bound.tree in
+    let f =
+    bound-to bay c.in_ok-nodes.nodes.switches.items layout c.args.writes.now _
+    c.in_ok-bound.bound.switches.items named sized taken c.in_ok-bound.ensures.of_switches in
+    rw (c.in_ok-control_rows.ensures.layout, c.as_slice-2.ensures.value)
+    (interlocked layout c.args.writes.now c.in_ok-bound.bound.switches.items f.placed)
 
 pub invariant_of-result : goal.invariant_of-result
 invariant_of-result c =
@@ -136,8 +150,5 @@ returns c =
           c.as_slice.ensures;
       bound = rw (c.in_ok-control_rows.ensures.layout, c.new.ensures) f.placed;
       metered = rw (c.in_ok-control_rows.ensures.layout, c.new-3.ensures) did.of_meters;
-      told_stands =
-          rw did.told (none-told c.in_ok-bound.bound.switches.items c.shown_rows.new.tree);
-      told_sized = ap length did.told ∙ length-map c.in_ok-bound.bound.switches.items _
-          ∙ sym (ap length c.new.ensures);
+      released = rw c.new.ensures (rw c.as_slice-2.ensures.value at c.in_ok-releases.ensures);
     }

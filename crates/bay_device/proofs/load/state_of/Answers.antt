@@ -39,8 +39,7 @@ invariant_of-new c =
           c.in_ok-bound.bound.bay.switches) (c.as_slice-3.ensures.value ∙ sym c.new-2.ensures)
           did.bound;
       metered = did.metered;
-      told_stands = did.told_stands;
-      told_sized = did.told_sized;
+      released = did.released;
       tabled =
           rw (c.as_slice-4.ensures, c.as_slice-5.ensures, c.as_slice-6.ensures) at
           c.tables_of-tables.ensures;

@@ -1,77 +1,47 @@
-use Rattle.std.proofs.Common.{◌≡◌, List, ap, sym, ◌∙◌}
-use Rattle.bay_tree.specs.declared.row.Row.{Row}
-use Rattle.bay_process.specs.Values.{with_enabled, with_output}
-use Rattle.bay_process.specs.Layout.{Layout, layout_of, status_in, switch_in}
-use Rattle.bay_nodes.specs.Names.{StatusNames, opening_of, closing_of}
-use Rattle.bay_process.specs.Told.{IsTold}
-use Rattle.bay_process.proofs.ToldLemmas.{closing-stands, stands-valued, told-here, told-written}
+use Rattle.std.proofs.Common.{◌≡◌, ◌<◌, ◌^◌, inl, length, arith, rules, ap, sym, ◌∙◌}
+use Rattle.bay_nodes.specs.Names.{StatusNames, opening_of}
+use Rattle.bay_process.specs.Layout.{layout_of, status_in, switch_in}
+use Rattle.bay_process.specs.Told.{enabled_from}
+use Rattle.bay_process.specs.Values.{with_enabled}
+use Rattle.bay_process.proofs.KeptLemmas.{kept-written, output-same}
+use Rattle.bay_process.proofs.ReleaseLemmas.{places-sized}
 use Rattle.bay_process.proofs.scan.tell.Goals as goal
 
-pub change_enabled-requires-in-Some-clause-stands :
-    goal.change_enabled-requires-in-Some-clause-stands
-change_enabled-requires-in-Some-clause-stands c =
-    let k = c.args.place in
-    let rows = c.args.tree.now in
-    let named = c.requires.rows.named in
-    let first = c.change_enabled.ensures in
-    let stood : IsTold rows k c.in-Some.stood =
-    c.requires.told k c.in-Some.stood (sym c.get-stood.ensures ∙ c.in-Some.is) in
-    let closing : status_in (layout_of c.change_enabled.new.tree) c.args.rows.now.ena_cls
-    ≡ closing_of k =
-    ap (λ (l : Layout). status_in l c.args.rows.now.ena_cls) first.layout ∙ named.closing in
-    let opened =
-    first.rows
-    ∙ ap (λ (n : StatusNames). with_enabled n c.args.enabled.may_open c.args.now rows)
-    named.opening in
-    rw closing (rw opened
-    (closing-stands k c.args.enabled.may_open c.in-Some.stood.may_close c.args.now rows
-    stood.closing))
+pub get-stood-requires-clause-within : goal.get-stood-requires-clause-within
+get-stood-requires-clause-within c =
+    let r = c.requires.kept in
+    omega (arith, r.2, places-sized r.0 (enabled_from c.args.tree.now 0 r.0) _ _ r.1.shows)
 
-pub returns-in-Some-clause-told : goal.returns-in-Some-clause-told
-returns-in-Some-clause-told c =
-    let k = c.args.place in
-    let rows = c.args.tree.now in
-    let own = c.args.rows.now in
-    let now = c.args.now in
-    let enabled = c.args.enabled in
-    let named = c.requires.rows.named in
-    let mid = c.change_enabled.new.tree in
-    let new = c.change_enabled-in-Some.new.tree in
-    let first = c.change_enabled.ensures in
-    let second = c.change_enabled-in-Some.ensures in
-    let stood : IsTold rows k c.in-Some.stood =
-    c.requires.told k c.in-Some.stood (sym c.get-stood.ensures ∙ c.in-Some.is) in
-    let closing : status_in (layout_of mid) own.ena_cls ≡ closing_of k =
-    ap (λ (l : Layout). status_in l own.ena_cls) first.layout ∙ named.closing in
-    let opened =
-    first.rows ∙ ap (λ (n : StatusNames). with_enabled n enabled.may_open now rows)
-    named.opening in
-    let stands =
-    closing-stands k enabled.may_open c.in-Some.stood.may_close now rows stood.closing in
-    let told =
-    told-here k enabled now rows mid new
-    (stands-valued rows (opening_of k) c.in-Some.stood.may_open stood.opening) opened
-    (stands-valued mid (closing_of k) c.in-Some.stood.may_close (rw opened stands))
-    (second.rows ∙ ap (λ (n : StatusNames). with_enabled n enabled.may_close now mid) closing)
-    in
-    let written : new ≡ with_output (switch_in (layout_of rows) own) enabled.may_open
-    enabled.may_close now rows =
-    second.rows
-    ∙ ap (λ (l : Layout). with_enabled (status_in l own.ena_cls) enabled.may_close now mid)
-    first.layout
-    ∙ ap (λ (rs : List Row). with_enabled (status_in (layout_of rows) own.ena_cls)
-    enabled.may_close now rs) first.rows in
-    rw c.set.ensures
-    (told-written c.args.told.now k enabled (switch_in (layout_of rows) own) now rows new
-    c.requires.told c.requires.within c.requires.few named.opening named.closing written told)
+pub returns-then-enabled-stood-2-clause-rows : goal.returns-then-enabled-stood-2-clause-rows
+returns-then-enabled-stood-2-clause-rows c =
+    let r = c.requires.kept in
+    let got = c.get-stood.ensures r.0 (enabled_from c.args.tree.now 0 r.0) r.1.shows in
+    sym (output-same c.args.tree.now c.args.place c.get-stood.result c.args.enabled
+    (switch_in (layout_of c.args.tree.now) c.args.rows.now) c.args.now
+    c.requires.rows.named.opening c.requires.rows.named.closing
+    (r.1.written c.args.place c.get-stood.result got (inl c.if-kept.true))
+    c.if-enabled-stood.true c.if-enabled-stood-2.true)
 
-pub returns-in-None-clause-told : goal.returns-in-None-clause-told
-returns-in-None-clause-told c =
+pub set-requires-clause-within : goal.set-requires-clause-within
+set-requires-clause-within c =
+    let r = c.requires.kept in
+    omega (arith, r.2, places-sized r.0 (enabled_from c.args.tree.now 0 r.0) _ _ r.1.shows)
+
+pub returns-clause-kept : goal.returns-clause-kept
+returns-clause-kept c ss kept within =
     let rows = c.args.tree.now in
+    let k = c.args.place in
+    let e = c.args.enabled in
     let named = c.requires.rows.named in
-    rw c.set.ensures
-    (told-written c.args.told.now c.args.place c.args.enabled
-    (switch_in (layout_of rows) c.args.rows.now)
-    c.args.now rows c.write_output.new.tree c.requires.told c.requires.within c.requires.few
-    named.opening
-    named.closing c.write_output.ensures.rows (c.write_output.ensures.told c.args.place named))
+    let few : c.args.kept.now.places.len < 2 ^ 63 = search rules in
+    let so_many : length c.args.kept.now.places.items ≡ c.args.kept.now.places.len = search rules in
+    kept-written rows c.write_output.new.tree ss k c.args.kept.now c.set.new.self e c.args.now kept
+    within (omega (arith, few, so_many, places-sized ss (enabled_from c.args.tree.now 0 ss) _ _ kept.shows))
+    c.set.ensures.flag (c.write_output.ensures.told k named)
+    (c.write_output.ensures.rows
+    ∙ ap (λ (n : StatusNames). with_enabled
+    (status_in (layout_of rows) c.args.rows.now.ena_cls) e.may_close c.args.now
+    (with_enabled n e.may_open c.args.now rows)) named.opening
+    ∙ ap (λ (n : StatusNames). with_enabled n e.may_close c.args.now
+    (with_enabled (opening_of k) e.may_open c.args.now rows)) named.closing)
+    (c.set.ensures.shows ss (enabled_from c.args.tree.now 0 ss) kept.shows)

@@ -1,5 +1,8 @@
-use Rattle.std.proofs.Common.{length, refl}
-use Rattle.std.proofs.lemmas.Option.{slice_get_read}
+use Rattle.std.proofs.Common.{◌≡◌, inr, length, refl, arith}
+use Rattle.std.proofs.lemmas.List.{length-map}
+use Rattle.std.proofs.lemmas.Option.{slice_get_read, slice_get_within}
+use Rattle.bay_process.specs.Layout.{switches_of}
+use Rattle.bay_process.specs.declared.switch.BoundSwitch.{BoundSwitch}
 use Rattle.bay_process.proofs.scan.write_outputs.Goals as goal
 
 pub tell-requires-clause-rows : goal.tell-requires-clause-rows
@@ -10,3 +13,14 @@ tell-requires-clause-rows c =
     (c.requires.interlocked i c.index-switches-place.result
     (slice_get_read switches (length switches) i c.index-switches-place.result refl
     c.loop-place-test.true c.index-switches-place.is))
+
+pub returns-clause-kept : goal.returns-clause-kept
+returns-clause-kept c =
+    let i = c.loop-place.invariant.kept in
+    let bs = c.args.switches.now in
+    let many : length (switches_of bs) ≡ length bs = length-map bs (λ (b : BoundSwitch). b.switch) in
+    record {
+      shows = i.shows;
+      written = λ k e here by. i.written k e here
+          (inr (omega (arith, slice_get_within _ k e here, i.shows.sized, many)));
+    }

@@ -6,7 +6,8 @@ use Rattle.bay_process.specs.Layout.{meters_of}
 use Rattle.bay_process.specs.Names.{field_names}
 use Rattle.bay_process.specs.declared.meter.BoundMeter.{BoundMeter}
 use Rattle.bay_process.proofs.ListLemmas.{got-some}
-use Rattle.bay_process.proofs.ToldLemmas.{told-kept, keeps-measure, field-away}
+use Rattle.bay_process.proofs.KeptLemmas.{kept-stays}
+use Rattle.bay_process.proofs.ToldLemmas.{keeps-measure, field-away}
 use Rattle.bay_services.specs.Bay.{Bay}
 use Rattle.bay_device.specs.Device.{State, measure_taken, with_bay}
 use Rattle.bay_device.specs.Outcomes.{Outcome, measure_outcome}
@@ -34,10 +35,9 @@ invariant_of-self c =
     record {
       bound = rw (did.layout, did.switches) d.bound;
       metered = rw did.layout d.metered;
-      told_stands = rw written (told-kept d.bay.tree _ d.told d.told_stands
+      released = rw (written, did.switches) (kept-stays d.bay.tree _ _ d.releases d.released
           (keeps-measure (field_names c.args.field (meter_names c.args.meter)) c.args.value
           c.args.now d.bay.tree (field-away c.args.meter c.args.field)));
-      told_sized = rw did.switches d.told_sized;
       tabled = rw did.switches d.tabled;
       typed = d.typed;
       spans_sized = rw did.switches d.spans_sized;

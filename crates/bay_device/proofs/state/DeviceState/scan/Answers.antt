@@ -33,8 +33,7 @@ invariant_of-self c =
     record {
       bound = rw (wrote.layout, wrote.switches) d.bound;
       metered = rw wrote.layout d.metered;
-      told_stands = wrote.told;
-      told_sized = rw wrote.switches wrote.sized;
+      released = rw wrote.switches wrote.kept;
       tabled = rw wrote.switches d.tabled;
       typed = d.typed ∙ sym (ap (λ (i : Image). map type_of_point (read_only i.points)) did.image);
       spans_sized = rw wrote.switches d.spans_sized;

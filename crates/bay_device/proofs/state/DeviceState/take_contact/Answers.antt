@@ -1,7 +1,8 @@
 use Rattle.std.proofs.Common.{◌≡◌, Bool, true, false, cond, Option, None, ap, sym, ◌∙◌}
 use Rattle.bay_control.specs.Decisions.{is_done}
 use Rattle.bay_process.specs.Layout.{switches_of}
-use Rattle.bay_process.proofs.ToldLemmas.{told-kept, keeps-contact}
+use Rattle.bay_process.proofs.KeptLemmas.{kept-stays}
+use Rattle.bay_process.proofs.ToldLemmas.{keeps-contact}
 use Rattle.bay_services.specs.Bay.{Bay}
 use Rattle.bay_device.specs.Device.{reached_report}
 use Rattle.bay_device.specs.declared.event.Sent.{Sent}
@@ -19,11 +20,10 @@ invariant_of-self-then-contact c =
     record {
       bound = rw (layout, switches) d.bound;
       metered = rw layout d.metered;
-      told_stands =
-          rw rows (told-kept d.bay.tree _ d.told d.told_stands
+      released =
+          rw (rows, switches) (kept-stays d.bay.tree _ _ d.releases d.released
           (keeps-contact (switches_of d.bay.switches) c.args.switch s.0 c.args.position c.args.now
           d.bay.tree));
-      told_sized = rw switches d.told_sized;
       tabled = rw switches d.tabled;
       typed = d.typed;
       spans_sized = rw switches d.spans_sized;
@@ -45,11 +45,10 @@ invariant_of-self-else-contact c =
     record {
       bound = rw (layout, switches) d.bound;
       metered = rw layout d.metered;
-      told_stands =
-          rw rows (told-kept d.bay.tree _ d.told d.told_stands
+      released =
+          rw (rows, switches) (kept-stays d.bay.tree _ _ d.releases d.released
           (keeps-contact (switches_of d.bay.switches) c.args.switch s.0 c.args.position c.args.now
           d.bay.tree));
-      told_sized = rw switches d.told_sized;
       tabled = rw switches d.tabled;
       typed = d.typed;
       spans_sized = rw switches d.spans_sized;

@@ -3,7 +3,8 @@ use Rattle.std.proofs.lemmas.Option.{slice_get-get_or}
 use Rattle.bay_nodes.specs.Names.{meter_names}
 use Rattle.bay_process.specs.Names.{field_names}
 use Rattle.bay_process.specs.declared.meter.BoundMeter.{BoundMeter}
-use Rattle.bay_process.proofs.ToldLemmas.{told-kept, keeps-doubt, field-away}
+use Rattle.bay_process.proofs.KeptLemmas.{kept-stays}
+use Rattle.bay_process.proofs.ToldLemmas.{keeps-doubt, field-away}
 use Rattle.bay_services.specs.Bay.{Bay}
 use Rattle.bay_device.specs.Device.{State, doubt_taken, with_bay}
 use Rattle.bay_device.specs.StateView.{state_view}
@@ -18,10 +19,9 @@ invariant_of-self c =
     record {
       bound = rw (did.layout, did.switches) d.bound;
       metered = rw did.layout d.metered;
-      told_stands = rw written (told-kept d.bay.tree _ d.told d.told_stands
+      released = rw (written, did.switches) (kept-stays d.bay.tree _ _ d.releases d.released
           (keeps-doubt (field_names c.args.field (meter_names c.args.meter)) c.args.now
           d.bay.tree (field-away c.args.meter c.args.field)));
-      told_sized = rw did.switches d.told_sized;
       tabled = rw did.switches d.tabled;
       typed = d.typed;
       spans_sized = rw did.switches d.spans_sized;

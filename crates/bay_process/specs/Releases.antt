@@ -1,0 +1,40 @@
+-- The text of the releases of the switches, and where its digits stand.
+use Rattle.std.specs.Prelude.{◌≡◌, ℕ, ◌+◌, Bool, List, [], ◌∷◌, ◌++◌, codes, length, if◌then◌else◌}
+use Rattle.bay_nodes.specs.declared.switch.Switch.{Switch}
+use Rattle.bay_process.specs.declared.switch.Enabled.{Enabled}
+
+-- TRUE is 1
+abbrev pub digit : Bool → ℕ
+digit b = if b then 49 else 48
+
+-- TRUE is 1
+abbrev pub digit_of : Bool → List ℕ
+digit_of b = if b then codes "1" else codes "0"
+
+-- a switch's id, and whether it may be opened and closed
+abbrev pub switch_text : List ℕ → Bool → Bool → List ℕ
+switch_text id opens closes =
+    codes " " ++ id ++ codes "=" ++ (digit_of opens ++ digit_of closes)
+
+-- the text on switches with these releases
+abbrev pub released_text : List Switch → List Enabled → List ℕ
+released_text [] told = []
+released_text (s ∷ ss) [] = []
+released_text (s ∷ ss) (e ∷ told) =
+    switch_text s.id e.may_open e.may_close ++ released_text ss told
+
+-- what stands before the digits of a switch
+abbrev pub lead : Switch → List ℕ
+lead s = codes " " ++ s.id ++ codes "="
+
+-- the places of the first digits, where the text begins at n
+abbrev pub digits_from : ℕ → List Switch → List ℕ
+digits_from n [] = []
+digits_from n (s ∷ ss) = (n + length (lead s)) ∷ digits_from (n + length (lead s) + 2) ss
+
+-- The text tells these releases of these switches, and its digits are at these places.
+pub record Shows (switches : List Switch) (told : List Enabled) (text : List ℕ)
+    (places : List ℕ) : Type 0 where
+  pub sized : length told ≡ length switches
+  pub text_is : text ≡ released_text switches told ++ codes "\n"
+  pub places_are : places ≡ digits_from 0 switches
