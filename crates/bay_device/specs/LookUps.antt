@@ -1,8 +1,9 @@
 -- What the look-ups of a device answer.
-use Rattle.std.specs.Prelude.{ℕ, ◌+◌, Bool, true, nat_lt, List, [], ◌∷◌, ◌++◌, length, position, Option, None, Some, if◌then◌else◌}
+use Rattle.std.specs.Prelude.{ℕ, ◌+◌, Bool, true, nat_lt, List, [], ◌∷◌, ◌++◌, length, position, Option, None, Some, option_map, if◌then◌else◌}
 use Rattle.bay_tree.specs.Rows.{leaf_of}
 use Rattle.bay_tree.specs.declared.leaf.Leaf.{Leaf}
 use Rattle.bay_base.specs.Names.{same_name}
+use Rattle.bay_control.specs.declared.selection.Execution.{Execution}
 use Rattle.bay_device.specs.Device.{State}
 use Rattle.bay_nodes.specs.declared.switch.Switch.{Switch}
 use Rattle.bay_process.specs.Releases.{switch_text}
@@ -54,3 +55,7 @@ abbrev pub position_of : State → ℕ → Option Leaf
 position_of s k =
     if nat_lt k (length s.switches) then leaf_of (position_names (control_of k)).value s.rows
     else None
+
+-- the switch that is operating
+abbrev pub operating_in : State → Option ℕ
+operating_in s = option_map (λ (execution : Execution). execution.switch) s.controls.execution

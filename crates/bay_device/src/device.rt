@@ -13,7 +13,7 @@ ghost use Rattle.bay_device.specs.Device as spec_device;
 ghost use Rattle.bay_device.specs.Device.{bay_of};
 ghost use Rattle.bay_device.specs.Entries.{Leading};
 ghost use Rattle.bay_device.specs.Fresh.{FreshAt};
-ghost use Rattle.bay_device.specs.LookUps.{switch_place, input_place, meter_place, enabled_of, position_of, switches_text};
+ghost use Rattle.bay_device.specs.LookUps.{switch_place, input_place, meter_place, enabled_of, operating_in, position_of, switches_text};
 ghost use Rattle.bay_device.specs.Meaning.{HaltsAt, MeansAt, Runs};
 ghost use Rattle.bay_device.specs.Operates.{AllOperate, AreOperates};
 ghost use Rattle.bay_device.specs.Outcomes.{associations, connection_at, event_outcome, outcome, recv_after, without_connection};
@@ -451,6 +451,16 @@ impl Device {
     {
         let mut controls = self.state.bay.controls.duplicate();
         controls.advance(&self.state.bay.control_table, now)
+    }
+
+    /// Returns the index of the switch that is operating, if one is.
+    pub fn operating(&self) -> Option<usize>
+        ensures { result ≡ operating_in self.now }
+    {
+        match &self.state.bay.controls.execution {
+            Some(execution) => Some(execution.switch),
+            None => None,
+        }
     }
 
     /// Returns whether the association with this number is open.
