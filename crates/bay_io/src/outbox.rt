@@ -97,15 +97,6 @@ impl Outbox {
         keep_short(&mut self.pending, digits.as_bytes())
     }
 
-    /// Adds a text that is usually short, like the id of a switch, if it fits. Returns whether it
-    /// fitted. Faster than `keep` for up to four octets.
-    pub fn keep_short(&mut self, text: &[u8]) -> bool
-        ensures fits { result ≡ has_room self.old text.now }
-        ensures after { self.new ≡ (if result then self.old ++ text.now else self.old) }
-    {
-        keep_short(&mut self.pending, text)
-    }
-
     /// Returns the octets that were added.
     pub fn as_slice(&self) -> &[u8]
         ensures octets { result.now ≡ self.now }

@@ -179,16 +179,6 @@ impl<W: Sink> WatchedWriter<W> {
         }
     }
 
-    /// Adds a text that is usually short, like the id of a switch. Faster than `put` for up to four
-    /// octets.
-    pub fn put_short(&mut self, text: &[u8])
-        ensures { Puts W.contents W.does self.old text.now self.new }
-    {
-        if !self.outbox.keep_short(text) {
-            self.put_after_flush(text);
-        }
-    }
-
     /// Adds a number in decimal digits.
     #[inline(always)]
     pub fn put_number(&mut self, number: u64)
