@@ -29,7 +29,6 @@ NO_LAW = {
     'bay_report tell_unread': OWN_WORDS + 'the words of the line, and what is printed',
     'bay_serve serve_turn': 'it speaks of refusals alone; what a turn does has its laws in '
                             'bay_serve_laws',
-    'bay_trace read_trace_line': OWN_WORDS + 'the forms of a line, one beside the other',
     'bay_words task_of': OWN_WORDS + 'a job for each command line',
     'il_compile compile': '`follows` is the law of `image` and `tabled`: the code does what the '
                           'program means by its structure; il_laws adds the standard\'s tables',

@@ -1,5 +1,7 @@
 pub mod DigitLemmas
 pub mod PlacingLemmas
+pub mod PutLemmas
+pub mod RecordLemmas
 pub mod TextLemmas
 pub mod VerbLemmas
 pub mod WordLemmas

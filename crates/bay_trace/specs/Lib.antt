@@ -4,9 +4,11 @@
 --
 -- `Digits`: bytes in hexadecimal digits. `Placing`: the event of a device that a line tells of: a
 -- name becomes a place, an unknown name a place at which there is nothing; and the bytes of a line,
--- with how many there is room for. `TraceView` maps the code's values to plain data.
+-- with how many there is room for. `Recording`: the line that tells of an event, and what it is
+-- read as. `TraceView` maps the code's values to plain data.
 
 pub mod Digits
 pub mod Placing
+pub mod Recording
 pub mod Trace
 pub mod TraceView

@@ -1,0 +1,76 @@
+-- The line of a trace that tells of an event which a device was given, as a record of a session has
+-- it.
+use Rattle.std.specs.Prelude.{◌≡◌, ℕ, ◌+◌, ◌<◌, ◌^◌, nat_le, Bool, true, List, [], ◌∷◌, ◌++◌, codes, drop, length, Some}
+use Rattle.std.specs.Borrow.{Bor}
+use Rattle.std.specs.Fmt.{decimal}
+use Rattle.std.specs.List.{position_or_len}
+use Rattle.hex.specs.Hex.{IsBytes, encode_lower}
+use Rattle.bay_device.specs.Device.{State}
+use Rattle.bay_device.specs.declared.event.Event.{Event}
+use Rattle.bay_device.specs.declared.event.Event.TheVariants.{Open, Recv, Close, Contact, Input, Measure, BadMeasure, Lost, Scan}
+use Rattle.bay_trace.specs.Placing.{anywhere, placed_event}
+use Rattle.bay_trace.specs.Trace.{NamedData, at_moment, is_space, trace_line_of}
+
+-- what stands behind the first space of a line
+abbrev pub behind_moment : List ℕ → List ℕ
+behind_moment line = drop (position_or_len is_space line + 1) line
+
+-- What a line tells at a moment, without its end: of an association by its number, with the octets
+-- of its client as hexadecimal digits; of a switch, an input or a meter in the words of the line
+-- that told of it.
+abbrev pub event_line : ℕ → List ℕ → Event → List ℕ
+event_line now said (Open a) = decimal now ++ codes " open " ++ decimal a
+event_line now said (Recv a octets) =
+    decimal now ++ codes " recv " ++ decimal a ++ codes " " ++ encode_lower octets.now
+event_line now said (Close a) = decimal now ++ codes " close " ++ decimal a
+event_line now said (Contact k position) = decimal now ++ codes " " ++ behind_moment said
+event_line now said (Input k value) = decimal now ++ codes " " ++ behind_moment said
+event_line now said (Measure k field value) = decimal now ++ codes " " ++ behind_moment said
+event_line now said (BadMeasure k field) = decimal now ++ codes " " ++ behind_moment said
+event_line now said Lost = decimal now ++ codes " lost"
+event_line now said Scan = decimal now ++ codes " scan"
+
+-- ---- what it is read as
+
+-- a line tells a device of this event, at any moment
+pub record Tells (s : State) (said : List ℕ) (event : Event) : Type 0 where
+  pub moment : ℕ
+  pub named : NamedData
+  pub read : trace_line_of said ≡ Some (at_moment moment named)
+  pub placed : placed_event s named ≡ event
+
+-- an event that can be recorded: an association has a number, and octets have come; and of a
+-- switch, an input or a meter this line tells
+abbrev pub IsRecordable : State → List ℕ → Event → Type 0
+IsRecordable s said (Open a) = a < 2 ^ 16
+IsRecordable s said (Recv a octets) =
+    (a < 2 ^ 16) × IsBytes octets.now × (0 < length octets.now)
+IsRecordable s said (Close a) = a < 2 ^ 16
+IsRecordable s said (Contact k position) = Tells s said (Contact k position)
+IsRecordable s said (Input k value) = Tells s said (Input k value)
+IsRecordable s said (Measure k field value) = Tells s said (Measure k field value)
+IsRecordable s said (BadMeasure k field) = Tells s said (BadMeasure k field)
+IsRecordable s said Lost = Unit {0}
+IsRecordable s said Scan = Unit {0}
+
+-- a line is read as what tells this device of this event, at this moment
+pub record IsReadAs (s : State) (line : List ℕ) (now : ℕ) (event : Event) : Type 0 where
+  pub named : NamedData
+  pub read : trace_line_of line ≡ Some (at_moment now named)
+  pub placed : placed_event s named ≡ anywhere event
+
+-- ---- room
+
+-- 73,728 octets have room for a text too
+abbrev pub fits_in : List ℕ → List ℕ → Bool
+fits_in lines text = nat_le (length lines + length text) 73728
+
+-- a text was put behind lines, where there was room for all of it
+pub record PutsWhole (old text new : List ℕ) (answer : Bool) : Type 0 where
+  pub fits : answer ≡ fits_in old text
+  pub after : answer ≡ true → new ≡ old ++ text
+
+-- parts of a text, one after the other
+abbrev pub text_of : List (Bor (List ℕ)) → List ℕ
+text_of [] = []
+text_of (part ∷ parts) = part.now ++ text_of parts
