@@ -93,6 +93,10 @@ pub trait FileSystem {
     ) -> Result<bool, FileFault>
         ensures { writes self.old name.now number octets.now result self.new };
 
+    /// Creates an empty file with a name that nothing has, to be written piece by piece. Nothing is
+    /// known of the files after it.
+    fn create(&mut self, name: &str) -> Result<File, FileFault>;
+
     /// Returns whether two names are known to be of one file.
     fn is_same(&self, alloc: Global, name: &str, other: &str) -> bool
         ensures { same self.now name.now other.now result };
@@ -263,7 +267,7 @@ impl<R: Files> SystemFiles<'_, R> {
     }
 }
 
-impl<R: Files> FileSystem for SystemFiles<'_, R> {
+impl<R: Files<File = File>> FileSystem for SystemFiles<'_, R> {
     fn read(&self, alloc: Global, name: &str) -> Result<Vec<u8>, ReadFault> {
         match fs::open(self.rt, name) {
             Ok(file) => read_all(alloc, &mut WatchedReader::new(file), FILE_LIMIT),
@@ -301,6 +305,10 @@ impl<R: Files> FileSystem for SystemFiles<'_, R> {
                 Err(file_fault(&error))
             }
         }
+    }
+
+    fn create(&mut self, name: &str) -> Result<File, FileFault> {
+        File::create_new(self.rt, name).map_err(|error| file_fault(&error))
     }
 
     fn is_same(&self, alloc: Global, name: &str, other: &str) -> bool {

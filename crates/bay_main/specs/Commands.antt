@@ -58,6 +58,20 @@ abbrev pub Unwritten : {W : Type 0} → (W → Option (List ℕ)) → (W → Wri
 Unwritten contents asks out old new answer =
     Logs contents asks old (unwritten_line out) new × (is_err answer ≡ true)
 
+-- a file for a record can't be made new, which is logged, or there is no memory, which is told
+abbrev pub Unrecorded : {W : Type 0} → (W → Option (List ℕ)) → (W → WriteCall → W → Type 0)
+    → List ℕ → Writing W → Writing W → Result ℕ WriteFault → Type 0
+Unrecorded contents asks name old new answer =
+    Unwritten contents asks name old new answer
+    ⊎ Prints contents asks (IsLast (codes "fault memory\n") 3) old new answer
+
+-- so it is of a file that was named
+abbrev pub NoRecord : {W : Type 0} → (W → Option (List ℕ)) → (W → WriteCall → W → Type 0)
+    → Option (List ℕ) → Writing W → Writing W → Result ℕ WriteFault → Type 0
+NoRecord contents asks None old new answer = ⊥
+NoRecord contents asks (Some name) old new answer =
+    Unrecorded contents asks name old new answer
+
 -- how a file was written to which a program is compiled: whole; not at all; or there was no memory,
 -- which is told
 abbrev pub EndsWritten : {W : Type 0} → (W → Option (List ℕ)) → (W → WriteCall → W → Type 0)
@@ -189,7 +203,8 @@ module _ {F L H R W : Type 0} (reads : FileReads F) (guards : FileGuards F) (wri
     (remaining : R → Option (List ℕ)) (contents : W → Option (List ℕ))
     (asks : W → WriteCall → W → Type 0) where
   -- A task is done: what is printed and answered, and what becomes of files and ports. Only a
-  -- replay reads what the reader has.
+  -- replay reads what the reader has. What is served is recorded in a new file, if one is named;
+  -- where that can't be made, nothing is served.
   abbrev pub DoesTask : Task (List ℕ) → Around F H R W → Around F H R W → Result ℕ WriteFault
       → Type 0
   DoesTask (Check bay program) old new answer =
@@ -207,8 +222,10 @@ module _ {F L H R W : Type 0} (reads : FileReads F) (guards : FileGuards F) (wri
   DoesTask Replay old new answer =
       PrintsLogs contents asks (IsReplay (remaining old.reader.inner) new.reader.has_failed)
       old.writer new.writer answer × (new.files ≡ old.files) × (new.host ≡ old.host)
-  DoesTask (Serve bay program port turns trace process tells limit key) old new answer =
-      ServesFiles step acts contents asks reads guards old.files
+  DoesTask (Serve bay program port turns trace process tells limit key file most) old new answer =
+      (NoRecord contents asks file old.writer new.writer answer × (new.host ≡ old.host)
+      × (new.reader ≡ old.reader))
+      ⊎ (ServesFiles step acts contents asks reads guards new.files
       (record {
         bay = bay;
         form = form_of program;
@@ -223,7 +240,7 @@ module _ {F L H R W : Type 0} (reads : FileReads F) (guards : FileGuards F) (wri
         tells_releases = tells;
         limit_ms = limit;
       }) old.host new.host old.writer new.writer answer
-      × (new.files ≡ old.files) × (new.reader ≡ old.reader)
+      × (file ≡ None → new.files ≡ old.files) × (new.reader ≡ old.reader))
 
   -- The words ask for a task, and it is done, with the log if they ask for it.
   pub record Obeyed (words : List (List ℕ)) (old new : Around F H R W) (ended : Ended)

@@ -1,7 +1,7 @@
 // What a command does, over files by their names, a reader and a writer.
-ghost use Rattle.std.specs.Prelude.{◌≡◌, map, Result, Ok};
+ghost use Rattle.std.specs.Prelude.{◌≡◌, map, IfErr, None, OnOk, Result, Ok, option_map};
 ghost use Rattle.bay_serve.specs.Calls.{Called};
-ghost use Rattle.bay_main.specs.Commands.{Checks, Compiles, CompilesDevice, CompilesOctets, DoesTask, Obeys, Unwritten, WritesImage, logging, name_of, unprinted_line};
+ghost use Rattle.bay_main.specs.Commands.{Checks, Compiles, CompilesDevice, CompilesOctets, DoesTask, NoRecord, Obeys, Unwritten, WritesImage, logging, name_of, unprinted_line};
 ghost use Rattle.bay_main.specs.Commands as spec;
 ghost use Rattle.bay_report.specs.LogLines.{LogsSome};
 ghost use Rattle.bay_words.specs.JobView.{program_view, task_view};
@@ -20,11 +20,16 @@ use bay_report::load::{Form, load_octets};
 use bay_report::log::{log_unwritten, tell_refusal, tell_unread};
 use bay_report::output::{NO_MEMORY, Status, write_report, write_text};
 use bay_serve::link::Link;
+use bay_serve::record::Record;
 use bay_serving::host::Host;
 use bay_serving_files::serve::{NamedFiles, Numbers, serve};
 use bay_words::task::{Asked, ProgramFile, Task};
 use bay_words::words::{WordsFault, task_of};
 use std::alloc::{AllocError, Global};
+
+// The maximum number of octets of a record, if nothing else is asked for: with the bay file and the
+// program it is a scenario that can be replayed.
+const MOST: u32 = 16_000_000;
 
 // Checks a bay file and a program or an image, by their names.
 fn check<F: FileSystem, W: Sink>(
@@ -148,6 +153,35 @@ fn form_of<'a>(program: ProgramFile<&'a str>) -> (Form, &'a str)
     }
 }
 
+// Creates the record of a session, if one is named, of at most 16,000,000 octets if nothing else is
+// asked for; or tells that it can't be made, and returns how the command ends then.
+fn make_record<F: FileSystem, W: Sink>(
+    alloc: Global,
+    name: Option<&str>,
+    most: Option<u32>,
+    files: &mut F,
+    writer: &mut WatchedWriter<W>,
+) -> Result<Option<Record>, Result<u8, WriteFault>>
+    ensures quiet { OnOk result (writer.new ≡ writer.old) }
+    ensures none { OnOk result
+        (option_map (λ n. n.now) name.entry ≡ None → files.new ≡ files.old) }
+    ensures told { IfErr result (λ answer. NoRecord W.contents W.does
+        (option_map (λ n. n.now) name.entry) writer.old writer.new answer) }
+{
+    let Some(name) = name else {
+        return Ok(None);
+    };
+    let file = match files.create(name) {
+        Ok(file) => file,
+        Err(FileFault::OutOfMemory) => return Err(write_text(writer, NO_MEMORY, Status::Fault)),
+        Err(FileFault::Failed) => return Err(fail_unwritten(writer, name)),
+    };
+    match Record::new(alloc, file, most.unwrap_or(MOST)) {
+        Ok(record_file) => Ok(Some(record_file)),
+        Err(AllocError) => Err(write_text(writer, NO_MEMORY, Status::Fault)),
+    }
+}
+
 // Does a task.
 fn do_task<F: FileSystem, L: Link + Drop, H: Host<L>, R: OctetSource, W: Sink>(
     alloc: Global,
@@ -179,7 +213,14 @@ fn do_task<F: FileSystem, L: Link + Drop, H: Host<L>, R: OctetSource, W: Sink>(
             tells_releases,
             limit_ms,
             key,
+            record_file,
+            record_most,
         } => {
+            let made = make_record(alloc, record_file, record_most, files, writer);
+            let record_file = match made {
+                Ok(record_file) => record_file,
+                Err(answer) => return answer,
+            };
             let (form, program) = form_of(program);
             let named = NamedFiles {
                 bay,
@@ -195,7 +236,7 @@ fn do_task<F: FileSystem, L: Link + Drop, H: Host<L>, R: OctetSource, W: Sink>(
                 tells_releases,
                 limit_ms,
             };
-            serve(alloc, named, files, host, numbers, writer)
+            serve(alloc, named, record_file, files, host, numbers, writer)
         }
         Task::Compile { bay, logic, out } => compile(alloc, bay, logic, out, files, writer),
         Task::Audit {

@@ -21,6 +21,7 @@ use bay_report::output::{NO_MEMORY, Status, write_text};
 use bay_serve::link::Link;
 use bay_serving::host::{Host, SystemHost};
 use std::alloc::{AllocError, Global};
+use std::fs::File;
 use std::io::{ErrorKind, Write};
 use std::net::{Net, TcpListener, TcpStream};
 use std::os::fd::AsRawFd;
@@ -124,7 +125,7 @@ fn obey_with<
 // Does what the words ask for, over the files, the sockets and the input of the program.
 fn obey_words<
     'a,
-    R: Runtime<A = Global> + Net<Listener = TcpListener, Stream = TcpStream>,
+    R: Runtime<A = Global, File = File> + Net<Listener = TcpListener, Stream = TcpStream>,
     O: Write + AsRawFd + Drop,
     E: Write + AsRawFd + Drop,
 >(rt: &'a R, out: O, err: E, words: &[&str]) -> Result<ExitCode, AllocError>
@@ -148,7 +149,7 @@ fn obey_words<
 
 // Does what the program's words ask for, and concludes.
 fn obey_program<
-    R: Runtime<A = Global> + Net<Listener = TcpListener, Stream = TcpStream>,
+    R: Runtime<A = Global, File = File> + Net<Listener = TcpListener, Stream = TcpStream>,
     O: Write + AsRawFd + Drop,
     E: Write + AsRawFd + Drop,
 >(rt: &R, out: O, err: E) -> Result<ExitCode, Unheard> {
@@ -205,7 +206,7 @@ fn conclude<R: Runtime<A = Global>>(rt: &R, ended: &Ended) -> ExitCode
 /// with its status. `clap`'s messages about wrong words go to standard error with the status 2, and
 /// `fault 122` for a failed write with the status 3.
 pub fn run<
-    R: Runtime<A = Global> + Net<Listener = TcpListener, Stream = TcpStream>,
+    R: Runtime<A = Global, File = File> + Net<Listener = TcpListener, Stream = TcpStream>,
     O: Write + AsRawFd + Drop,
     E: Write + AsRawFd + Drop,
 >(rt: &R, out: O, err: E) -> ExitCode {

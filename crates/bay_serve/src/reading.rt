@@ -60,6 +60,7 @@ fn take_in(server: &mut Server, notes: &mut Notes, now: u64, place: usize, octet
             association,
             octets,
         },
+        b"",
     ) else {
         return;
     };

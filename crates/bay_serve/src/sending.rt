@@ -65,7 +65,7 @@ pub fn step_quietly(server: &mut Server, notes: &mut Notes, now: u64, event: Eve
         ≡ after_event now event.entry (turning server.old notes.old) }
     ensures commands { notes.new.commands ≡ notes.old.commands }
 {
-    if let Ok(step) = server.step(now, event) {
+    if let Ok(step) = server.step(now, event, b"") {
         put_ended(server, notes, &step.ended);
     }
 }

@@ -6,6 +6,7 @@ ghost use Rattle.bay_device.specs.Steps.{IsOutcome, IsWithoutOctets, Steps};
 ghost use Rattle.bay_serve.specs.Turns.{has_room, is_up_in, put_queue, queue_at};
 ghost use Rattle.bay_serve.specs.Turns as spec;
 
+use crate::record::{Record, RecordEnd};
 use bay_device::device::Device;
 use bay_device::event::{ASSOCIATIONS, Event, Step};
 use bay_device::fault::StepFault;
@@ -24,10 +25,12 @@ type Queue = BoundedBuffer<ROOM>;
 struct Parts {
     device: Device,
     queues: Vec<Queue>,
+    record: Option<Record>,
 }
 
 /// A device, and for each association at most 262,144 octets still to be sent to it. Their room is
-/// allocated up front. Everything is in one box, so that a server is dropped in one call.
+/// allocated up front. What the device is given may be recorded; contracts say nothing of that.
+/// Everything is in one box, so that a server is dropped in one call.
 #[derive(Drop)]
 pub struct Server {
     parts: Box<Parts>,
@@ -75,7 +78,12 @@ impl Server {
             Ok(queues) => queues,
             Err(AllocError) => return Err(AllocFailed { value: device }),
         };
-        match Box::new(alloc, Parts { device, queues }) {
+        let parts = Parts {
+            device,
+            queues,
+            record: None,
+        };
+        match Box::new(alloc, parts) {
             Ok(parts) => Ok(Server { parts }),
             Err(AllocFailed { value: parts }) => Err(AllocFailed {
                 value: parts.device,
@@ -107,14 +115,37 @@ impl Server {
         Some(usize::from(association - 1))
     }
 
-    /// Does one event on the device.
-    pub(crate) fn step(&mut self, now: u64, event: Event<'_>) -> Result<Step, StepFault>
+    /// Records from now on what the device is given.
+    pub fn start_record(&mut self, record: Record)
+        ensures { self.new ≡ self.old }
+    {
+        self.parts.record = Some(record);
+    }
+
+    /// Writes what was recorded and not written yet. Returns why the record has ended, once.
+    pub fn write_record(&mut self) -> Option<RecordEnd>
+        ensures { self.new ≡ self.old }
+    {
+        self.parts.record.as_mut()?.write()
+    }
+
+    /// Does one event on the device, of which this line told, if it is one of the process. Records
+    /// it before.
+    pub(crate) fn step(
+        &mut self,
+        now: u64,
+        event: Event<'_>,
+        said: &[u8],
+    ) -> Result<Step, StepFault>
         ensures steps { Steps now event.entry self.old.device result self.new.device }
         ensures sure { IsWithoutOctets event.entry
             → IsOutcome (outcome None now event.entry self.old.device) result self.new.device }
         ensures single { IsSingle result }
         ensures queues { self.new.queues ≡ self.old.queues }
     {
+        if let Some(record) = &mut self.parts.record {
+            record.put(now, event, said);
+        }
         self.parts.device.step(now, event)
     }
 

@@ -17,13 +17,13 @@ use crate::told::Turn;
 use bay_device::device::Device;
 use bay_device::event::{Event, LAST_MOMENT};
 
-// Does an event of the process at the turn's time.
-fn tell(server: &mut Server, notes: &mut Notes, now: u64, event: ProcessEvent)
+// Does an event of the process at the turn's time, of which this line told.
+fn tell(server: &mut Server, notes: &mut Notes, now: u64, event: ProcessEvent, said: &[u8])
     ensures after { turning server.new notes.new
         ≡ told_of now event (turning server.old notes.old) }
     ensures commands { notes.new.commands ≡ notes.old.commands }
 {
-    match server.step(now, event.event()) {
+    match server.step(now, event.event(), said) {
         Ok(step) => put_ended(server, notes, &step.ended),
         Err(fault) => notes.refuse(fault.code()),
     }
@@ -36,6 +36,7 @@ fn tell_line<L: Link>(
     link: &mut L,
     now: u64,
     event: Option<ProcessEvent>,
+    said: &[u8],
 )
     ensures talks { Talks (Called L.does L.failures) link.old
         (line_calls now event (turning server.old notes.old)) link.new }
@@ -44,7 +45,7 @@ fn tell_line<L: Link>(
     ensures commands { notes.new.commands ≡ notes.old.commands }
 {
     if let Some(event) = event {
-        tell(server, notes, now, event);
+        tell(server, notes, now, event, said);
         settle(server, notes, link, now);
     }
 }
@@ -66,7 +67,8 @@ fn scan<L: Link>(server: &mut Server, notes: &mut Notes, link: &mut L, now: u64)
 /// closes one whose client sends no more, and one whose read fails, with 131. Does the event of the
 /// process that it is given, if it is given one. Runs the program once. Writes what is still to be
 /// sent to each association, as far as the link takes it. Closes an association with 131 if a write
-/// fails, and with 130 if a reply does not fit into what is still to be sent to it.
+/// fails, and with 130 if a reply does not fit into what is still to be sent to it. A record tells
+/// of the event of the process in the words of this line.
 ///
 /// A line that reports nothing of the process is refused first, then a time that is too late.
 /// Nothing is done then.
@@ -75,6 +77,7 @@ pub fn serve_event<L: Link>(
     link: &mut L,
     clock: u64,
     given: Given,
+    said: &[u8],
 ) -> Result<Turn, ServeFault>
     // There is a script with which the calls on the link, the server after them and what is told
     // are the turn's.
@@ -97,9 +100,9 @@ pub fn serve_event<L: Link>(
     let over = server.device().over_at(now);
     let mut notes = Notes::new();
     let opened = accept_one(server, &mut notes, link, now);
-    tell_line(server, &mut notes, link, now, given.first());
+    tell_line(server, &mut notes, link, now, given.first(), said);
     read_each(server, &mut notes, link, now);
-    tell_line(server, &mut notes, link, now, given.event);
+    tell_line(server, &mut notes, link, now, given.event, said);
     scan(server, &mut notes, link, now);
     offer_each(server, &mut notes, link, now);
     Ok(notes.into_turn(opened, over))
@@ -135,5 +138,6 @@ pub fn serve_turn<L: Link>(
     ensures link_kept { OnErr result (link.new ≡ link.old) }
 {
     let given = read_given(server.device(), line);
-    serve_event(server, link, clock, given)
+    let said = line.map_or(b"".as_slice(), |text| text.as_bytes());
+    serve_event(server, link, clock, given, said)
 }

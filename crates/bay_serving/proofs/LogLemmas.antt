@@ -6,7 +6,10 @@ use Rattle.std.proofs.lemmas.List.{drop_all}
 use Rattle.bay_io.specs.Calls.{WriteCall}
 use Rattle.bay_io.specs.Sent.{Logs}
 use Rattle.bay_io.specs.Watched.{Writing}
+use Rattle.bay_device.specs.Device.{State}
+use Rattle.bay_serving.specs.ChangeLines.{switch_log, switches_log}
 use Rattle.bay_serving.specs.Logging.{LogsAll}
+use Rattle.bay_serving.specs.declared.change_lines.SeenSwitch.{SeenSwitch}
 
 module _ {W : Type 0} (contents : W → Option (List ℕ)) (asks : W → WriteCall → W → Type 0) where
   pub logs-one : (old new : Writing W) (line : List ℕ) → Logs contents asks old line new
@@ -79,3 +82,32 @@ module _ {W : Type 0} (contents : W → Option (List ℕ)) (asks : W → WriteCa
     up-to-end old mid k before end =
         before.goes mid
         (subst (λ ls. LogsAll contents asks mid ls mid) (sym (ap (map f) (drop_all k xs end))) refl)
+
+  -- what is seen of the switches before one was logged
+  module _ (now : ℕ) (s : State) (before : List SeenSwitch) where
+    pub record LogsSwitches (old : Writing W) (k : ℕ) (mid : Writing W) : Type 0 where
+      pub goes : (new : Writing W)
+          → LogsAll contents asks mid (switches_log now s k (drop k before)) new
+          → LogsAll contents asks old (switches_log now s 0 before) new
+
+    pub switches-start : (old : Writing W) → LogsSwitches old 0 old
+    switches-start old = record { goes = λ new rest. rest }
+
+    pub switches-next : (old mid next : Writing W) (k : ℕ) (d : SeenSwitch) → LogsSwitches old k mid
+        → k < length before
+        → LogsAll contents asks mid (switch_log now s k (get_or before k d)) next
+        → LogsSwitches old (k + 1) next
+    switches-next old mid next k d upto lt logged =
+        let split : drop k before ≡ get_or before k d ∷ drop (k + 1) before =
+        rw (add-one, drop-cons before k d) refl in
+        record {
+          goes = λ new rest. upto.goes new
+              (subst (λ ls. LogsAll contents asks mid ls new)
+              (sym (ap (switches_log now s k) split)) (logs-then mid next new _ _ logged rest));
+        }
+
+    pub switches-end : (old mid : Writing W) (k : ℕ) → LogsSwitches old k mid → length before ≤ k
+        → LogsAll contents asks old (switches_log now s 0 before) mid
+    switches-end old mid k upto end =
+        upto.goes mid (subst (λ ls. LogsAll contents asks mid ls mid)
+        (sym (ap (switches_log now s k) (drop_all k before end))) refl)

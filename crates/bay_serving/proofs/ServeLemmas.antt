@@ -14,8 +14,10 @@ use Rattle.bay_report.specs.TextLines.{CutsLine, lines_of}
 use Rattle.bay_serving.specs.ServeReport.{AfterTurn, Chosen, Hearing, Hears, MayPause, Serving, ServesTurns, TellsNews, TellsTurn, TellsUnserved, TurnFails, TurnGoes, choice_of, chosen, moment_of, told_lines}
 use Rattle.bay_port.specs.declared.news.News.{News}
 use Rattle.bay_serving.specs.Serving.{TriesTurn}
+use Rattle.bay_serving.specs.ChangeLines.{bay_seen}
 use Rattle.bay_serving.specs.LogLines.{shift_log, used_up_log}
 use Rattle.bay_serving.specs.Logging.{LogsAll}
+use Rattle.bay_serving.specs.RecordLine.{record_log}
 use Rattle.bay_serving.specs.TurnLines.{is_quiet, turn_text}
 use Rattle.bay_serving.specs.declared.serving.Tried.{Tried}
 use Rattle.bay_serving.specs.declared.serving.Tried.TheVariants as tried
@@ -26,6 +28,8 @@ use Rattle.bay_serve.specs.Turns.{Held, moment_at}
 use Rattle.bay_serve.specs.declared.told.Turn.{Turn}
 use Rattle.bay_serve.specs.declared.process.Reported.{Reported}
 use Rattle.bay_serve.specs.declared.fault.ServeFault.{ServeFault}
+use Rattle.bay_serve.specs.declared.record.RecordEnd.{RecordEnd}
+use Rattle.bay_serving.specs.declared.change_lines.SeenBay.{SeenBay}
 use Rattle.bay_serving.specs.declared.clock.Clocks.{Clocks}
 use Rattle.bay_serving.specs.declared.clock.Shift.{Shift}
 use Rattle.bay_serving.specs.declared.process.Next.{Next}
@@ -109,8 +113,9 @@ module _ {L B H W : Type 0} (below : B → L) (does : L → Call → L → Type 
       (clock-before clock-after : ClockData) (host-before host-after : H)
       (process-before process-chosen process-after : Option (Hearing L))
       (lines-before lines-after : List (ℕ × List ℕ)) (clocks : Clocks) (clock now : ℕ) (next : Next)
-      (shift : Option Shift) (device : State)
-      (old begun between new : Writing W) (turn : Turn) (s : State) (r answer : Result ℕ WriteFault)
+      (shift : Option Shift) (device : State) (before : SeenBay)
+      (old begun recorded between new : Writing W) (end : Option RecordEnd) (turn : Turn) (s : State)
+      (r answer : Result ℕ WriteFault)
       → clock-after ≡ after_reading clocks clock-before → clock ≡ clock-after.moment
       → now ≡ moment_at clock held-before
       → shift ≡ shift_of clock-before.side clock-after.moment clocks.system
@@ -125,7 +130,9 @@ module _ {L B H W : Type 0} (below : B → L) (does : L → Call → L → Type 
       → Serves (Called (λ o call n. does (below o) call (below n)) (λ b. failures (below b)))
       link-before link-after (moment_at clock held-before) (reported_in next.given) held-before
       held-after turn
-      → TellsTurn contents asks now next.shown turn s begun between r
+      → LogsAll contents asks begun (record_log now end) recorded
+      → before ≡ bay_seen held-before.device
+      → TellsTurn contents asks now next before turn s recorded between r
       → AfterTurn r
       ((process-after ≡ process-chosen) × (new ≡ between) × (answer ≡ r))
       (Hears (Called does failures) contents asks now turn s process-chosen process-after between
@@ -149,9 +156,9 @@ module _ {L B H W : Type 0} (below : B → L) (does : L → Call → L → Type 
       }) new answer
   turn-goes link-before link-after held-before held-after clock-before clock-after host-before
       host-after process-before process-chosen process-after lines-before lines-after clocks
-      clock now next shift device old begun between new turn s r answer read is-clock now-is
-      shift-is by-device is-next is-process is-lines is-s told logged at-clock at-clock-serves tells
-      hears =
+      clock now next shift device before old begun recorded between new end turn s r answer read
+      is-clock now-is shift-is by-device is-next is-process is-lines is-s told logged at-clock
+      at-clock-serves ended is-before tells hears =
       let k : ℕ = moment_read clocks clock-before in
       let same : clock ≡ k = is-clock ∙ ap (λ (x : ClockData). x.moment) read in
       let is-now : now ≡ moment_at k held-before =
@@ -195,14 +202,20 @@ module _ {L B H W : Type 0} (below : B → L) (does : L → Call → L → Type 
             subst (λ (n : Next). Serves (Called does failures) (below link-before)
             (below link-after) (moment_at (moment_read clocks clock-before) held-before)
             (reported_in n.given) held-before held-after turn) next-is serves-turn;
+        end = end;
+        recorded = recorded;
+        ended = subst (λ m. LogsAll contents asks begun (record_log m end) recorded) is-now ended;
         between = between;
         outcome = r;
         printed =
-            subst (λ m. TellsTurn contents asks m here.next.shown turn held-after.device begun
-            between r) is-now
-            (subst (λ d. TellsTurn contents asks now here.next.shown turn d begun between r) is-s
-            (subst (λ (n : Next). TellsTurn contents asks now n.shown turn s begun between r)
-            next-is tells));
+            subst (λ m. TellsTurn contents asks m here.next (bay_seen held-before.device) turn
+            held-after.device recorded between r) is-now
+            (subst (λ d. TellsTurn contents asks now here.next (bay_seen held-before.device) turn
+            d recorded between r) is-s
+            (subst (λ (n : Next). TellsTurn contents asks now n (bay_seen held-before.device)
+            turn s recorded between r) next-is
+            (subst (λ (b : SeenBay). TellsTurn contents asks now next b turn s recorded between r)
+            is-before tells)));
         hears =
             subst (λ m. AfterTurn r
             ((process-after ≡ here.process) × (new ≡ between) × (answer ≡ r))
@@ -275,10 +288,11 @@ module _ {L H W : Type 0} (step : L → Call → L → Type 0) (acts : H → Hos
       }
 
   -- which fault it is makes no difference
-  tells-cut : (now : ℕ) (shown : List ℕ) (turn : Turn) (s : State) (old new : Writing W)
-      (one other : WriteFault) → TellsTurn contents asks now shown turn s old new (Err one)
-      → TellsTurn contents asks now shown turn s old new (Err other)
-  tells-cut now shown turn s old new one other tells = record {
+  tells-cut : (now : ℕ) (next : Next) (before : SeenBay) (turn : Turn) (s : State)
+      (old new : Writing W) (one other : WriteFault)
+      → TellsTurn contents asks now next before turn s old new (Err one)
+      → TellsTurn contents asks now next before turn s old new (Err other)
+  tells-cut now next before turn s old new one other tells = record {
     mid = tells.mid;
     logged = tells.logged;
     printed = by-quiet (is_quiet turn) tells.printed;
@@ -325,8 +339,8 @@ module _ {L H W : Type 0} (step : L → Call → L → Type 0) (acts : H → Hos
       choice = choice_of goes.clocks before
 
       by-outcome : (r : Result ℕ WriteFault)
-          → TellsTurn contents asks now choice.next.shown goes.turn after.held.device goes.begun
-          goes.between r
+          → TellsTurn contents asks now choice.next (bay_seen before.held.device) goes.turn
+          after.held.device goes.recorded goes.between r
           → AfterTurn r
           ((after.process ≡ choice.process) × (new ≡ goes.between)
           × (◌≡◌ {A = Result ℕ WriteFault} (Err one) r))
@@ -342,6 +356,9 @@ module _ {L H W : Type 0} (step : L → Call → L → Type 0) (acts : H → Hos
         turn = goes.turn;
         right = goes.right;
         serves = goes.serves;
+        end = goes.end;
+        recorded = goes.recorded;
+        ended = goes.ended;
         between = goes.between;
         outcome = Ok status;
         printed = printed;
@@ -358,11 +375,14 @@ module _ {L H W : Type 0} (step : L → Call → L → Type 0) (acts : H → Hos
         turn = goes.turn;
         right = goes.right;
         serves = goes.serves;
+        end = goes.end;
+        recorded = goes.recorded;
+        ended = goes.ended;
         between = goes.between;
         outcome = Err other;
         printed =
-            tells-cut now choice.next.shown goes.turn after.held.device goes.begun goes.between
-            fault other printed;
+            tells-cut now choice.next (bay_seen before.held.device) goes.turn after.held.device
+            goes.recorded goes.between fault other printed;
         hears = (hears.0, hears.1, refl);
       }
 

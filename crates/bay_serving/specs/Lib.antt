@@ -8,7 +8,7 @@
 -- `Host`: what serving asks of the system: ports and links, the times of two clocks, a pause.
 -- `Clock`: the server's clock, which goes as the steady one does. `TurnLines`:
 -- what is printed for a turn, and for one that is not done. `LogLines`: what is logged of ports, of
--- a turn, of the process and of the end, line by line.
+-- associations, of the process and of the end, line by line; `ChangeLines`: of a turn.
 -- `Logging`: lines that are logged one after the other. `Serving`: what one try of a turn comes to.
 
 -- What public clauses cite of the crates below.
@@ -24,10 +24,12 @@ pub use Rattle.bay_serve.specs.Calls
 pub use Rattle.bay_serve.specs.Served
 pub use Rattle.bay_serve.specs.Turns
 -- Its own definitions.
+pub mod ChangeLines
 pub mod Clock
 pub mod Host
 pub mod LogLines
 pub mod Logging
+pub mod RecordLine
 pub mod ServeReport
 pub mod Serving
 pub mod TurnLines

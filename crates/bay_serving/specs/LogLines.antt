@@ -1,11 +1,11 @@
 -- What is logged of a server, line by line.
 use Rattle.std.specs.Prelude.{Bool, false, true, ℕ, ℤ, ◌==◌, List, [], ◌∷◌, ◌++◌, codes, map, slice_get, slice_index, Option, None, Some, option_map, unwrap_or, Result, Ok, Err, unsigned_abs, if◌then◌else◌}
 use Rattle.std.specs.Int.{is_negative}
-use Rattle.std.specs.List.{flat_map}
 use Rattle.std.specs.Fmt.{decimal}
 use Rattle.std.specs.Net.Addr.{ipv4_octets}
 use Rattle.std.specs.Net.Socket.{v4_ip, v4_port}
 use Rattle.std.specs.declared.net.socket_addr.SocketAddrV4.{SocketAddrV4}
+use Rattle.bay_io.specs.Moments.{utc_text}
 use Rattle.bay_control.specs.declared.cause.AddCause.{AddCause}
 use Rattle.bay_control.specs.declared.cause.AddCause.TheVariants.{NotSupported, SelectFailed, PositionReached, BlockedByMode, BlockedByProcess, BlockedByInterlocking, CommandAlreadyInExecution, OneOfNControl, TimeLimitOver, ObjectNotSelected}
 use Rattle.bay_device.specs.Device.{State}
@@ -26,7 +26,6 @@ use Rattle.bay_serve.specs.declared.fault.ServeFault.{ServeFault}
 use Rattle.bay_serve.specs.declared.fault.ServeFault.TheVariants.{BadLine, MomentTooLarge}
 use Rattle.bay_serve.specs.declared.told.Closing.{Closing}
 use Rattle.bay_serve.specs.declared.told.Closing.TheVariants as closing
-use Rattle.bay_serve.specs.declared.told.Turn.{Turn}
 use Rattle.bay_serving.specs.declared.clock.Shift.{Shift}
 use Rattle.bay_serving.specs.declared.clock.Side.{Side}
 use Rattle.bay_serving.specs.declared.clock.Side.TheVariants.{Near, Ahead, Behind}
@@ -55,9 +54,9 @@ unbound_log port fault =
 -- the ports that are listened on: that of the clients, and that of the process, if there is one
 abbrev pub ports_log : ℕ → ℕ → Option ℕ → List ℕ
 ports_log now port None =
-    joined (decimal now ∷ codes " clients on 127.0.0.1:" ∷ decimal port ∷ codes "\n" ∷ [])
+    joined (utc_text now ∷ codes " clients on 127.0.0.1:" ∷ decimal port ∷ codes "\n" ∷ [])
 ports_log now port (Some process) =
-    joined (decimal now ∷ codes " clients on 127.0.0.1:" ∷ decimal port
+    joined (utc_text now ∷ codes " clients on 127.0.0.1:" ∷ decimal port
     ∷ codes ", process on 127.0.0.1:" ∷ decimal process ∷ codes "\n" ∷ [])
 
 -- ---- the clock
@@ -65,12 +64,12 @@ ports_log now port (Some process) =
 -- where the system's time has come to, as the server's clock sees it
 abbrev pub side_line : ℕ → ℕ → Side → List ℕ
 side_line now distance Near =
-    joined (decimal now ∷ codes " the system's clock agrees again\n" ∷ [])
+    joined (utc_text now ∷ codes " the system's clock agrees again\n" ∷ [])
 side_line now distance Ahead =
-    joined (decimal now ∷ codes " the system's clock is " ∷ decimal distance
+    joined (utc_text now ∷ codes " the system's clock is " ∷ decimal distance
     ∷ codes " ms ahead\n" ∷ [])
 side_line now distance Behind =
-    joined (decimal now ∷ codes " the system's clock is " ∷ decimal distance
+    joined (utc_text now ∷ codes " the system's clock is " ∷ decimal distance
     ∷ codes " ms behind\n" ∷ [])
 
 abbrev pub shift_log : ℕ → Option Shift → List (List ℕ)
@@ -98,7 +97,7 @@ abbrev pub closing_words : Closing → List ℕ
 closing_words closing.Ended = codes "its client ended it"
 closing_words (closing.Fault code) = fault_words code
 closing_words closing.QueueFull = codes "a reply does not fit its queue"
-closing_words closing.LinkFailed = codes "its connection failed, or sent nothing"
+closing_words closing.LinkFailed = codes "its connection failed, or it sent nothing for 10 seconds"
 
 -- one of the four octets of an address
 abbrev pub octet_text : SocketAddrV4 → ℕ → List ℕ
@@ -107,7 +106,7 @@ octet_text from k = decimal (slice_index (ipv4_octets (v4_ip from)) k)
 -- one was opened from an address
 abbrev pub opened_line : ℕ → ℕ × SocketAddrV4 → List ℕ
 opened_line now opened =
-    joined (decimal now ∷ codes " association " ∷ decimal opened.0 ∷ codes " open from "
+    joined (utc_text now ∷ codes " association " ∷ decimal opened.0 ∷ codes " open from "
     ∷ octet_text opened.1 0 ∷ codes "." ∷ octet_text opened.1 1 ∷ codes "." ∷ octet_text opened.1 2
     ∷ codes "." ∷ octet_text opened.1 3 ∷ codes ":" ∷ decimal (v4_port opened.1) ∷ codes "\n" ∷ [])
 
@@ -118,13 +117,13 @@ opened_log now (Some opened) = opened_line now opened ∷ []
 -- one was closed
 abbrev pub closed_line : ℕ → ℕ × Closing → List ℕ
 closed_line now closed =
-    joined (decimal now ∷ codes " association " ∷ decimal closed.0 ∷ codes " closed "
+    joined (utc_text now ∷ codes " association " ∷ decimal closed.0 ∷ codes " closed "
     ∷ decimal (code_of closed.1) ∷ codes ": " ∷ closing_words closed.1 ∷ codes "\n" ∷ [])
 
 -- one was closed for want of memory
 abbrev pub memory_line : ℕ → ℕ → List ℕ
 memory_line now a =
-    joined (decimal now ∷ codes " association " ∷ decimal a ∷ codes " closed memory\n" ∷ [])
+    joined (utc_text now ∷ codes " association " ∷ decimal a ∷ codes " closed memory\n" ∷ [])
 
 -- ---- controls
 
@@ -164,7 +163,7 @@ is_close operations.Close = true
 -- the position that is asked for
 abbrev pub position_words : Operation → List ℕ
 position_words operation =
-    if is_close operation then codes " on orCat=" else codes " off orCat="
+    if is_close operation then codes " close orCat=" else codes " open orCat="
 
 abbrev pub sign_text : ℤ → List ℕ
 sign_text number = if is_negative number then codes "-" else []
@@ -176,7 +175,7 @@ id_of s k = unwrap_or (option_map (λ (switch : Switch). switch.id) (slice_get s
 -- what was written to one, with its orIdent as it is shown, and what was decided
 abbrev pub written_line : ℕ → List ℕ → List ℕ → Decision → Asked → List ℕ
 written_line now id ident decision asked =
-    joined (decimal now ∷ codes " association " ∷ decimal decision.association
+    joined (utc_text now ∷ codes " association " ∷ decimal decision.association
     ∷ service_words decision.part ∷ id ∷ position_words asked.operation ∷ sign_text asked.origin.cat
     ∷ decimal (unsigned_abs asked.origin.cat) ∷ codes " orIdent="
     ∷ ident ∷ codes " ctlNum=" ∷ decimal asked.ctl_num
@@ -185,7 +184,7 @@ written_line now id ident decision asked =
 -- a select by a read
 abbrev pub selected_line : ℕ → List ℕ → Decision → List ℕ
 selected_line now id decision =
-    joined (decimal now ∷ codes " association " ∷ decimal decision.association
+    joined (utc_text now ∷ codes " association " ∷ decimal decision.association
     ∷ service_words decision.part ∷ id ∷ verdict_words decision.answer ∷ [])
 
 abbrev pub line_of : ℕ → List ℕ → Decision → Option Asked → List ℕ
@@ -206,19 +205,11 @@ asked_log now s (Some decisions) = map (decision_line now s) decisions
 -- the device refused what a line told
 abbrev pub refused_line : ℕ → ℕ → List ℕ → List ℕ
 refused_line now code shown =
-    joined (decimal now ∷ codes " refused " ∷ decimal code ∷ codes ": " ∷ shown ∷ codes "\n" ∷ [])
+    joined (utc_text now ∷ codes " refused " ∷ decimal code ∷ codes ": " ∷ shown ∷ codes "\n" ∷ [])
 
 abbrev pub refused_log : ℕ → Option ℕ → List ℕ → List (List ℕ)
 refused_log now None shown = []
 refused_log now (Some code) shown = refused_line now code shown ∷ []
-
--- A turn whose line is shown so: an association was opened, the line was refused, controls were
--- asked for, associations were closed.
-abbrev pub turn_log : ℕ → State → List ℕ → Turn → List (List ℕ)
-turn_log now s shown turn =
-    opened_log now turn.opened ++ refused_log now turn.refused shown
-    ++ flat_map (asked_log now s) turn.decisions
-    ++ map (closed_line now) turn.closed ++ map (memory_line now) turn.memory
 
 -- a turn was not done, with a line of the trace, by its number and as it is shown
 abbrev pub unserved_log : ServeFault → ℕ → List ℕ → List ℕ
@@ -228,19 +219,19 @@ unserved_log MomentTooLarge k shown = codes "bayctl: fault 114: the clock is pas
 
 -- all turns were served
 abbrev pub used_up_log : ℕ → List ℕ
-used_up_log now = joined (decimal now ∷ codes " all turns are served\n" ∷ [])
+used_up_log now = joined (utc_text now ∷ codes " all turns are served\n" ∷ [])
 
 -- ---- the process
 
 -- its connection was closed, by the number of the reason and in words
 abbrev pub parted_line : ℕ → ℕ → List ℕ → List ℕ
 parted_line now code words =
-    joined (decimal now ∷ codes " process closed " ∷ decimal code ∷ codes ": " ∷ words
+    joined (utc_text now ∷ codes " process closed " ∷ decimal code ∷ codes ": " ∷ words
     ∷ codes "\n" ∷ [])
 
 abbrev pub silent_line : ℕ → ℕ → List ℕ
 silent_line now limit =
-    joined (decimal now ∷ codes " process closed 134: no line for " ∷ decimal limit
+    joined (utc_text now ∷ codes " process closed 134: no line for " ∷ decimal limit
     ∷ codes " ms\n" ∷ [])
 
 abbrev pub parting_line : ℕ → Parting → List ℕ
@@ -249,7 +240,7 @@ parting_line now (parting.BadLine line) = parted_line now 120 line
 parting_line now parting.QueueFull =
     parted_line now 130 (codes "what it is told does not fit its queue")
 parting_line now parting.LinkFailed =
-    parted_line now 131 (codes "its connection failed, or sent nothing")
+    parted_line now 131 (codes "its connection failed, or it sent nothing for 10 seconds")
 parting_line now parting.Foreign =
     parted_line now 132 (codes "it is not the process of this bay, or has another key")
 parting_line now parting.Untimely =
@@ -257,5 +248,5 @@ parting_line now parting.Untimely =
 parting_line now (parting.Silent limit) = silent_line now limit
 
 abbrev pub news_log : ℕ → News → List ℕ
-news_log now Opened = joined (decimal now ∷ codes " process open\n" ∷ [])
+news_log now Opened = joined (utc_text now ∷ codes " process open\n" ∷ [])
 news_log now (Closed why) = parting_line now why

@@ -11,7 +11,9 @@ use Rattle.bay_serving.specs.Host.{HostCall, Tells, Pauses}
 use Rattle.bay_report.specs.Report.{IsLast, Prints}
 use Rattle.bay_serving.specs.TurnLines.{is_quiet, news_text, turn_text, unserved_text}
 use Rattle.bay_serving.specs.Logging.{LogsAll}
-use Rattle.bay_serving.specs.LogLines.{news_log, shift_log, turn_log, unserved_log, used_up_log}
+use Rattle.bay_serving.specs.ChangeLines.{bay_seen, turn_log}
+use Rattle.bay_serving.specs.LogLines.{news_log, shift_log, unserved_log, used_up_log}
+use Rattle.bay_serving.specs.RecordLine.{record_log}
 use Rattle.bay_port.specs.Attending.{Attends, attendance}
 use Rattle.bay_lines.specs.Shown.{shown_text}
 use Rattle.bay_port.specs.Ports.{PortData, shown_line, taken_line, taken_loss}
@@ -21,7 +23,9 @@ use Rattle.bay_serve.specs.Calls.{Call}
 use Rattle.bay_serve.specs.Served.{Given, Serves, given_line, reported, reported_in, turn_refusal}
 use Rattle.bay_serve.specs.Turns.{Held, moment_at}
 use Rattle.bay_serve.specs.declared.fault.ServeFault.{ServeFault}
+use Rattle.bay_serve.specs.declared.record.RecordEnd.{RecordEnd}
 use Rattle.bay_serve.specs.declared.told.Turn.{Turn}
+use Rattle.bay_serving.specs.declared.change_lines.SeenBay.{SeenBay}
 use Rattle.bay_serving.specs.declared.clock.Clocks.{Clocks}
 use Rattle.bay_serving.specs.declared.process.Next.{Next}
 
@@ -51,10 +55,10 @@ PrintsTurn contents asks now turn s old new answer =
 -- before that it is logged
 pub record TellsTurn {W : Type 0} (contents : W → Option (List ℕ))
     (asks : W → WriteCall → W → Type 0)
-    (now : ℕ) (shown : List ℕ) (turn : Turn) (s : State) (old new : Writing W)
+    (now : ℕ) (next : Next) (before : SeenBay) (turn : Turn) (s : State) (old new : Writing W)
     (answer : Result ℕ WriteFault) : Type 0 where
   pub mid : Writing W
-  pub logged : LogsAll contents asks old (turn_log now s shown turn) mid
+  pub logged : LogsAll contents asks old (turn_log now next before s turn) mid
   pub printed : PrintsTurn contents asks now turn s mid new answer
 
 -- why a turn is not done is logged, printed and flushed
@@ -217,8 +221,9 @@ module _ {L H W : Type 0} (step : L → Call → L → Type 0) (acts : H → Hos
     pub printed : TellsUnserved contents asks fault (choice_of clocks before).next.number
         (choice_of clocks before).next.shown begun new answer
 
-  -- The clock was read, what the turn is given was chosen, the turn was done, what it tells was
-  -- printed, and then the process was attended to; or it could not be printed.
+  -- The clock was read, what the turn is given was chosen, the turn was done, where a record has
+  -- ended that was logged, what the turn tells was printed, and then the process was attended to; or
+  -- it could not be printed.
   pub record TurnGoes (before : Serving L H) (old : Writing W) (after : Serving L H)
       (new : Writing W) (answer : Result ℕ WriteFault) : Type 0 where
     pub clocks : Clocks
@@ -231,11 +236,13 @@ module _ {L H W : Type 0} (step : L → Call → L → Type 0) (acts : H → Hos
         before.held ≡ None
     pub serves : Serves step before.link after.link (moment_of clocks before)
         (reported_in (choice_of clocks before).next.given) before.held after.held turn
+    pub end : Option RecordEnd
+    pub recorded : Writing W
+    pub ended : LogsAll contents asks begun (record_log (moment_of clocks before) end) recorded
     pub between : Writing W
     pub outcome : Result ℕ WriteFault
-    pub printed : TellsTurn contents asks (moment_of clocks before)
-        (choice_of clocks before).next.shown
-        turn after.held.device begun between outcome
+    pub printed : TellsTurn contents asks (moment_of clocks before) (choice_of clocks before).next
+        (bay_seen before.held.device) turn after.held.device recorded between outcome
     pub hears : AfterTurn outcome
         ((after.process ≡ (choice_of clocks before).process) × (new ≡ between) × (answer ≡ outcome))
         (Hears step contents asks (moment_of clocks before) turn after.held.device

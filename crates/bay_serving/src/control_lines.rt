@@ -64,8 +64,8 @@ fn position_words(operation: Operation) -> &'static [u8]
     ensures { result.now ≡ spec.position_words operation }
 {
     match operation {
-        Operation::Open => b" off orCat=",
-        Operation::Close => b" on orCat=",
+        Operation::Open => b" open orCat=",
+        Operation::Close => b" close orCat=",
     }
 }
 
@@ -76,8 +76,8 @@ fn sign(number: i8) -> &'static [u8]
     if number < 0 { b"-" } else { b"" }
 }
 
-// Returns the id of the switch at an index.
-fn id(device: &Device, switch: usize) -> &[u8]
+/// Returns the id of the switch at an index.
+pub fn id(device: &Device, switch: usize) -> &[u8]
     ensures { result.now ≡ id_of device.now switch }
 {
     match device.id(switch) {
@@ -99,7 +99,7 @@ fn log_written<'a, W: Sink>(
         (written_line moment id.now ident.now decision.now asked.now) writer.new }
 {
     writer.log(&[
-        LinePart::Number(moment),
+        LinePart::Moment(moment),
         LinePart::Text(b" association "),
         LinePart::Number(u64::from(decision.association)),
         LinePart::Text(service_words(decision.part)),
@@ -121,7 +121,7 @@ fn log_selected<W: Sink>(writer: &mut WatchedWriter<W>, moment: u64, id: &[u8], 
         writer.new }
 {
     writer.log(&[
-        LinePart::Number(moment),
+        LinePart::Moment(moment),
         LinePart::Text(b" association "),
         LinePart::Number(u64::from(decision.association)),
         LinePart::Text(service_words(decision.part)),

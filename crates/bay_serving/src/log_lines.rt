@@ -2,13 +2,16 @@
 ghost use Rattle.std.specs.Prelude.{◌≡◌, Some, map};
 ghost use Rattle.bay_io.specs.Sent.{Logs};
 ghost use Rattle.bay_serving.specs.Logging.{LogsAll};
-ghost use Rattle.bay_serving.specs.LogLines.{closed_line, memory_line, news_log, opened_line, opened_log, parted_line, parting_line, ports_log, reason_of, refused_line, refused_log, shift_log, silent_line, turn_log, unbound_log, unserved_log, used_up_log};
+ghost use Rattle.bay_serving.specs.LogLines.{closed_line, memory_line, news_log, opened_line, opened_log, parted_line, parting_line, ports_log, reason_of, refused_line, refused_log, shift_log, silent_line, unbound_log, unserved_log, used_up_log};
+ghost use Rattle.bay_serving.specs.ChangeLines.{turn_log};
 ghost use Rattle.bay_serving.specs.LogLines as spec;
 ghost use Rattle.bay_serve.specs.declared.fault.ServeFault.TheVariants.{BadLine};
 
+use crate::change_lines::{SeenBay, log_ends, log_lost, log_switches};
 use crate::clock::{Shift, Side};
 use crate::control_lines::log_controls;
 use crate::host::BindFault;
+use crate::process::Next;
 use bay_device::device::Device;
 use bay_io::calls::{LinePart, Sink};
 use bay_io::writer::WatchedWriter;
@@ -36,7 +39,7 @@ fn log_both_ports<W: Sink>(writer: &mut WatchedWriter<W>, moment: u64, port: u16
     ensures { Logs W.contents W.does writer.old (ports_log moment port (Some process)) writer.new }
 {
     writer.log(&[
-        LinePart::Number(moment),
+        LinePart::Moment(moment),
         LinePart::Text(b" clients on 127.0.0.1:"),
         LinePart::Number(u64::from(port)),
         LinePart::Text(b", process on 127.0.0.1:"),
@@ -57,7 +60,7 @@ pub fn log_ports<W: Sink>(
     match process {
         Some(process) => log_both_ports(writer, moment, port, process),
         None => writer.log(&[
-            LinePart::Number(moment),
+            LinePart::Moment(moment),
             LinePart::Text(b" clients on 127.0.0.1:"),
             LinePart::Number(u64::from(port)),
             LinePart::Text(b"\n"),
@@ -72,7 +75,7 @@ pub fn log_shift<W: Sink>(writer: &mut WatchedWriter<W>, moment: u64, shift: Opt
     let Some(Shift { side, distance }) = shift else {
         return;
     };
-    let moment = LinePart::Number(moment);
+    let moment = LinePart::Moment(moment);
     let is = LinePart::Text(b" the system's clock is ");
     let distance = LinePart::Number(distance);
     match side {
@@ -112,7 +115,7 @@ fn closing_words(closing: Closing) -> &'static [u8]
         Closing::Ended => b"its client ended it",
         Closing::Fault(code) => fault_words(code),
         Closing::QueueFull => b"a reply does not fit its queue",
-        Closing::LinkFailed => b"its connection failed, or sent nothing",
+        Closing::LinkFailed => b"its connection failed, or it sent nothing for 10 seconds",
     }
 }
 
@@ -123,7 +126,7 @@ fn log_open<W: Sink>(writer: &mut WatchedWriter<W>, moment: u64, opened: (u16, S
     let (association, from) = opened;
     let octets = from.ip().octets();
     writer.log(&[
-        LinePart::Number(moment),
+        LinePart::Moment(moment),
         LinePart::Text(b" association "),
         LinePart::Number(u64::from(association)),
         LinePart::Text(b" open from "),
@@ -159,7 +162,7 @@ fn log_refusal<W: Sink>(writer: &mut WatchedWriter<W>, moment: u64, code: u8, sh
     ensures { Logs W.contents W.does writer.old (refused_line moment code shown.now) writer.new }
 {
     writer.log(&[
-        LinePart::Number(moment),
+        LinePart::Moment(moment),
         LinePart::Text(b" refused "),
         LinePart::Number(u64::from(code)),
         LinePart::Text(b": "),
@@ -190,7 +193,7 @@ fn log_closed<W: Sink>(writer: &mut WatchedWriter<W>, moment: u64, closed: (u16,
 {
     let (association, closing) = closed;
     writer.log(&[
-        LinePart::Number(moment),
+        LinePart::Moment(moment),
         LinePart::Text(b" association "),
         LinePart::Number(u64::from(association)),
         LinePart::Text(b" closed "),
@@ -216,7 +219,7 @@ fn log_memory<W: Sink>(writer: &mut WatchedWriter<W>, moment: u64, association: 
     ensures { Logs W.contents W.does writer.old (memory_line moment association) writer.new }
 {
     writer.log(&[
-        LinePart::Number(moment),
+        LinePart::Moment(moment),
         LinePart::Text(b" association "),
         LinePart::Number(u64::from(association)),
         LinePart::Text(b" closed memory\n"),
@@ -233,22 +236,27 @@ fn log_memories<W: Sink>(writer: &mut WatchedWriter<W>, moment: u64, memory: &[u
     }
 }
 
-/// Logs what a turn reports, whose line is shown so.
+/// Logs what a turn reports and what has changed in it, given what the turn was given, how it
+/// began, and the device after it.
 pub fn log_turn<W: Sink>(
     writer: &mut WatchedWriter<W>,
     device: &Device,
     moment: u64,
-    shown: &Shown,
+    next: &Next,
+    before: &SeenBay,
     turn: &Turn,
 )
-    ensures { LogsAll W.contents W.does writer.old (turn_log moment device.now shown.now turn.now)
-        writer.new }
+    ensures { LogsAll W.contents W.does writer.old
+        (turn_log moment next.now before.now device.now turn.now) writer.new }
 {
     log_opened(writer, moment, turn.opened);
-    log_refused(writer, moment, turn.refused, shown);
+    log_lost(writer, moment, next.given);
+    log_refused(writer, moment, turn.refused, &next.shown);
     log_controls(writer, device, moment, &turn.decisions);
     log_closings(writer, moment, turn.closed.as_slice());
     log_memories(writer, moment, turn.memory.as_slice());
+    log_ends(writer, device, moment, before, turn);
+    log_switches(writer, device, moment, &before.switches);
 }
 
 // Logs which line of the trace is not valid.
@@ -286,7 +294,7 @@ pub fn log_used_up<W: Sink>(writer: &mut WatchedWriter<W>, moment: u64)
     ensures { Logs W.contents W.does writer.old (used_up_log moment) writer.new }
 {
     writer.log(&[
-        LinePart::Number(moment),
+        LinePart::Moment(moment),
         LinePart::Text(b" all turns are served\n"),
     ]);
 }
@@ -296,7 +304,7 @@ fn log_parted<W: Sink>(writer: &mut WatchedWriter<W>, moment: u64, code: u8, wor
     ensures { Logs W.contents W.does writer.old (parted_line moment code words.now) writer.new }
 {
     writer.log(&[
-        LinePart::Number(moment),
+        LinePart::Moment(moment),
         LinePart::Text(b" process closed "),
         LinePart::Number(u64::from(code)),
         LinePart::Text(b": "),
@@ -310,7 +318,7 @@ fn log_silence<W: Sink>(writer: &mut WatchedWriter<W>, moment: u64, limit_ms: u3
     ensures { Logs W.contents W.does writer.old (silent_line moment limit_ms) writer.new }
 {
     writer.log(&[
-        LinePart::Number(moment),
+        LinePart::Moment(moment),
         LinePart::Text(b" process closed 134: no line for "),
         LinePart::Number(u64::from(limit_ms)),
         LinePart::Text(b" ms\n"),
@@ -337,7 +345,7 @@ fn log_parting<W: Sink>(writer: &mut WatchedWriter<W>, moment: u64, why: &Partin
                 writer,
                 moment,
                 131,
-                b"its connection failed, or sent nothing",
+                b"its connection failed, or it sent nothing for 10 seconds",
             )
         }
         Parting::Foreign => log_parted(
@@ -363,7 +371,7 @@ pub fn log_news<W: Sink>(writer: &mut WatchedWriter<W>, moment: u64, news: &News
     ensures { Logs W.contents W.does writer.old (news_log moment news.now) writer.new }
 {
     match news {
-        News::Opened => writer.log(&[LinePart::Number(moment), LinePart::Text(b" process open\n")]),
+        News::Opened => writer.log(&[LinePart::Moment(moment), LinePart::Text(b" process open\n")]),
         News::Closed(why) => log_parting(writer, moment, why),
     }
 }

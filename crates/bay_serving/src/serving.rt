@@ -7,10 +7,12 @@ ghost use Rattle.bay_serving.specs.Serving.{TriesTurn, with_host};
 ghost use Rattle.bay_serve.specs.Calls.{Called};
 
 use crate::busy::BusyLink;
+use crate::change_lines::see_bay;
 use crate::clock::ServeClock;
 use crate::host::Host;
 use crate::log_lines::{log_shift, log_used_up};
 use crate::process::{Process, attend_process, choose, was_busy};
+use crate::record_line::log_record;
 use crate::trace_lines::TraceLines;
 use crate::turns::{tell_turn, tell_unserved};
 use bay_io::calls::Sink;
@@ -19,6 +21,7 @@ use bay_io::writer::WatchedWriter;
 use bay_report::output::Status;
 use bay_serve::link::Link;
 use bay_serve::process::{Given, Reported};
+use bay_serve::record::Record;
 use bay_serve::server::Server;
 use bay_serve::turn::serve_event;
 
@@ -55,8 +58,8 @@ impl<L> Served<L> {
     }
 }
 
-// Reads the clock, chooses what a turn is given, and tries the turn. Logs and prints what it
-// reports, and then attends to the process.
+// Reads the clock, chooses what a turn is given, and tries the turn. Writes what was recorded of it,
+// logs and prints what it reports, and then attends to the process.
 fn try_turn<L: Link, H: Host<L>, W: Sink>(
     served: &mut Served<L>,
     host: &mut H,
@@ -72,10 +75,19 @@ fn try_turn<L: Link, H: Host<L>, W: Sink>(
     let moment = clock.max(served.server.device().moment());
     log_shift(writer, moment, reading.shift);
     let next = choose(lines, &mut served.process, served.server.device(), moment);
-    match serve_event(&mut served.server, &mut served.link, clock, next.given) {
+    let before = see_bay(served.server.device());
+    let said = next.shown.as_slice();
+    match serve_event(
+        &mut served.server,
+        &mut served.link,
+        clock,
+        next.given,
+        said,
+    ) {
         Ok(turn) => {
+            log_record(writer, moment, served.server.write_record());
             let device = served.server.device();
-            tell_turn(writer, device, moment, &next.shown, &turn)?;
+            tell_turn(writer, device, moment, &next, &before, &turn)?;
             attend_process(&mut served.process, device, moment, &turn, writer)?;
             let was_idle = served.is_idle(next.given);
             Ok(Tried::Done { was_idle })
@@ -120,12 +132,14 @@ fn serve_lines<L: Link, H: Host<L>, W: Sink>(
 }
 
 /// Serves the given number of turns over a link by a clock, each with the next line of a trace, or
-/// after the last one with what the process reports, if there is one.
+/// after the last one with what the process reports, if there is one. What the device is given goes
+/// into a record, if there is one.
 pub fn serve_turns<L: Link + Drop, H: Host<L>, W: Sink>(
-    server: Server,
+    mut server: Server,
     clock: ServeClock,
     link: L,
     process: Option<Process<L>>,
+    record_file: Option<Record>,
     host: &mut H,
     trace: &[u8],
     turns: u32,
@@ -141,6 +155,9 @@ pub fn serve_turns<L: Link + Drop, H: Host<L>, W: Sink>(
           lines = told_lines 1 (lines_of trace.now);
         }) writer.old host.new writer.new result }
 {
+    if let Some(record_file) = record_file {
+        server.start_record(record_file);
+    }
     let mut served = Served {
         server,
         clock,

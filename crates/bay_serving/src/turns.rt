@@ -11,7 +11,9 @@ ghost use Rattle.bay_port.specs.declared.news.News.TheVariants.{Closed, Opened};
 ghost use Rattle.bay_serving.specs.TurnLines.{closings_text, memories_text, news_text, turn_text, unserved_text};
 ghost use Rattle.bay_serving.specs.TurnLines as spec;
 
+use crate::change_lines::SeenBay;
 use crate::log_lines::{log_news, log_turn, log_unserved};
+use crate::process::Next;
 use bay_device::device::Device;
 use bay_device::event::Why;
 use bay_io::calls::Sink;
@@ -114,18 +116,20 @@ fn print_turn<W: Sink>(
     }
 }
 
-/// Logs what a turn reports, whose line is shown so, and prints it.
+/// Logs what a turn reports and what has changed in it, given what the turn was given and how it
+/// began, and prints what it reports.
 pub fn tell_turn<W: Sink>(
     writer: &mut WatchedWriter<W>,
     device: &Device,
     moment: u64,
-    shown: &Shown,
+    next: &Next,
+    before: &SeenBay,
     turn: &Turn,
 ) -> Result<u8, WriteFault>
-    ensures { TellsTurn W.contents W.does moment shown.now turn.now device.now writer.old writer.new
-        result }
+    ensures { TellsTurn W.contents W.does moment next.now before.now turn.now device.now writer.old
+        writer.new result }
 {
-    log_turn(writer, device, moment, shown, turn);
+    log_turn(writer, device, moment, next, before, turn);
     print_turn(writer, device, moment, turn)
 }
 

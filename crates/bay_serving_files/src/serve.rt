@@ -22,6 +22,7 @@ use bay_report::load::{Form, load_program};
 use bay_report::log::{tell_memory, tell_refusal, tell_text, tell_unread};
 use bay_report::output::{Status, write_report, write_text};
 use bay_serve::link::Link;
+use bay_serve::record::Record;
 use bay_serve::server::Server;
 use bay_serving::clock::ServeClock;
 use bay_serving::host::{BindFault, Host};
@@ -286,6 +287,7 @@ fn bind_ports<'a, L: Link + Drop, H: Host<L>>(
 // Starts the server's clock, logs the ports, and serves the given number of turns.
 fn serve_bound<L: Link + Drop, H: Host<L>, W: Sink>(
     bound: Bound<L>,
+    record_file: Option<Record>,
     trace: &[u8],
     host: &mut H,
     numbers: Numbers,
@@ -309,6 +311,7 @@ fn serve_bound<L: Link + Drop, H: Host<L>, W: Sink>(
         clock,
         link,
         process,
+        record_file,
         host,
         trace,
         numbers.turns,
@@ -320,6 +323,7 @@ fn serve_bound<L: Link + Drop, H: Host<L>, W: Sink>(
 fn serve_loaded<L: Link + Drop, H: Host<L>, W: Sink>(
     alloc: Global,
     loaded: Loaded,
+    record_file: Option<Record>,
     host: &mut H,
     numbers: Numbers,
     writer: &mut WatchedWriter<W>,
@@ -335,7 +339,7 @@ fn serve_loaded<L: Link + Drop, H: Host<L>, W: Sink>(
     write_report(writer, device.report())?;
     let duties = duties_by(numbers.limit_ms, key_octets(&key));
     match bind_ports(alloc, device, host, numbers, duties) {
-        Ok(bound) => serve_bound(bound, trace.as_slice(), host, numbers, writer),
+        Ok(bound) => serve_bound(bound, record_file, trace.as_slice(), host, numbers, writer),
         Err(why) => tell_unserved(writer, why),
     }
 }
@@ -343,7 +347,7 @@ fn serve_loaded<L: Link + Drop, H: Host<L>, W: Sink>(
 /// Serves files by their names. Reads the bay, then the program or the image, then the trace and
 /// the key; loads them and writes the line of the load; binds the port for clients, and then that
 /// of the process, if there is one; and serves the given number of turns. Logs the ports, or why no
-/// turn is served.
+/// turn is served. What the device is given goes into a record, if there is one.
 ///
 /// All turns are one run of the device, from load on. Behind each command that a turn tells, and so
 /// behind each line that is printed, or told the process, and reads as one, stand the octets of a
@@ -355,6 +359,7 @@ fn serve_loaded<L: Link + Drop, H: Host<L>, W: Sink>(
 pub fn serve<F: FileSystem, L: Link + Drop, H: Host<L>, W: Sink>(
     alloc: Global,
     named: NamedFiles<'_>,
+    record_file: Option<Record>,
     files: &F,
     host: &mut H,
     numbers: Numbers,
@@ -364,7 +369,7 @@ pub fn serve<F: FileSystem, L: Link + Drop, H: Host<L>, W: Sink>(
         files.now (names_of named.entry) numbers host.old host.new writer.old writer.new result }
 {
     match load_files(alloc, named, files) {
-        Ok(loaded) => serve_loaded(alloc, loaded, host, numbers, writer),
+        Ok(loaded) => serve_loaded(alloc, loaded, record_file, host, numbers, writer),
         Err(why) => tell_unserved(writer, why),
     }
 }

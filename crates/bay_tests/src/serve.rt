@@ -4,6 +4,7 @@ use crate::memory_link::MemoryLink;
 use crate::session::{self, CONNECT, REQUEST, octets_of};
 use bay_io::calls::{LinePart, Sink};
 use bay_io::input::ReadFault;
+use bay_io::moments::utc_text;
 use bay_io::reader::WatchedReader;
 use bay_io::writer::WatchedWriter;
 use bay_main::clock::Clocks;
@@ -12,6 +13,7 @@ use bay_main::files::{FileFault, FileSystem, Guarded};
 use bay_main::host::{BindFault, Host};
 use std::alloc::Global;
 use std::cell::RefCell;
+use std::fs::File;
 use std::io;
 use std::io::{ErrorKind, Write};
 use std::process::Abort;
@@ -67,6 +69,11 @@ impl FileSystem for Texts<'_> {
         Err(FileFault::Failed)
     }
 
+    // There is no file for a record.
+    fn create(&mut self, _name: &str) -> Result<File, FileFault> {
+        Err(FileFault::Failed)
+    }
+
     fn is_same(&self, _alloc: Global, name: &str, other: &str) -> bool {
         name == other
     }
@@ -85,6 +92,7 @@ impl Recorder<'_> {
         match part {
             LinePart::Text(octets) => Ok(text.extend_from_slice(octets)?),
             LinePart::Number(number) => write!(text, "{number}"),
+            LinePart::Moment(moment) => Ok(text.extend_from_slice(utc_text(moment).as_slice())?),
         }
     }
 }
@@ -220,22 +228,24 @@ const ROWS: [Row; 21] = [
         trace: "\n9 contact X 1\r\n\n9 contact Q 1\n",
         status: 0,
         wanted: "instructions=2 depth=1 budget=2
-| 1000 clients on 127.0.0.1:7
-| 2000 association 1 open from 127.0.0.1:40000
-| 2000 refused 113: 9 contact X 1
-| 2000 association 1 closed 0: its client ended it
+| 1970-01-01T00:00:01.000Z clients on 127.0.0.1:7
+| 1970-01-01T00:00:02.000Z association 1 open from 127.0.0.1:40000
+| 1970-01-01T00:00:02.000Z refused 113: 9 contact X 1
+| 1970-01-01T00:00:02.000Z association 1 closed 0: its client ended it
 2000 refused 113
 2000 closed 1 0
-| 5000 all turns are served
+| 1970-01-01T00:00:03.000Z position Q open
+| 1970-01-01T00:00:05.000Z all turns are served
 ",
         ..ENDING
     },
     Row {
         trace: "9 contact Q 1\n\n9 scan\n",
         wanted: "instructions=2 depth=1 budget=2
-| 1000 clients on 127.0.0.1:7
-| 2000 association 1 open from 127.0.0.1:40000
-| 2000 association 1 closed 0: its client ended it
+| 1970-01-01T00:00:01.000Z clients on 127.0.0.1:7
+| 1970-01-01T00:00:02.000Z association 1 open from 127.0.0.1:40000
+| 1970-01-01T00:00:02.000Z association 1 closed 0: its client ended it
+| 1970-01-01T00:00:02.000Z position Q open
 2000 closed 1 0
 | bayctl: fault 120 line 3: 9 scan
 fault 120 line 3
@@ -245,9 +255,10 @@ fault 120 line 3
     Row {
         trace: "9 contact Q 1\n\n9 open 1\n",
         wanted: "instructions=2 depth=1 budget=2
-| 1000 clients on 127.0.0.1:7
-| 2000 association 1 open from 127.0.0.1:40000
-| 2000 association 1 closed 0: its client ended it
+| 1970-01-01T00:00:01.000Z clients on 127.0.0.1:7
+| 1970-01-01T00:00:02.000Z association 1 open from 127.0.0.1:40000
+| 1970-01-01T00:00:02.000Z association 1 closed 0: its client ended it
+| 1970-01-01T00:00:02.000Z position Q open
 2000 closed 1 0
 | bayctl: fault 120 line 3: 9 open 1
 fault 120 line 3
@@ -257,7 +268,7 @@ fault 120 line 3
     Row {
         now: 4_294_967_294_000,
         wanted: "instructions=2 depth=1 budget=2
-| 4294967295000 clients on 127.0.0.1:7
+| 2106-02-07T06:28:15.000Z clients on 127.0.0.1:7
 | bayctl: fault 114: the clock is past the last moment
 fault 114
 ",
@@ -269,10 +280,10 @@ fault 114
         jump: 3_600_000,
         status: 0,
         wanted: "instructions=2 depth=1 budget=2
-| 1000 clients on 127.0.0.1:7
-| 3010 the system's clock is 3599990 ms ahead
-| 6020 the system's clock agrees again
-| 7010 all turns are served
+| 1970-01-01T00:00:01.000Z clients on 127.0.0.1:7
+| 1970-01-01T00:00:03.010Z the system's clock is 3599990 ms ahead
+| 1970-01-01T00:00:06.020Z the system's clock agrees again
+| 1970-01-01T00:00:07.010Z all turns are served
 ",
         ..ENDING
     },
@@ -362,19 +373,21 @@ fault 120 line 2
         asked: &[REQUEST, CONNECT, SELECT, CLOSE, OPEN, CANCEL],
         status: 0,
         wanted: "instructions=6 depth=1 budget=6
-| 1000 clients on 127.0.0.1:7
-| 2000 association 1 open from 127.0.0.1:40000
-| 2000 association 1 select QA1: done
-| 2000 association 1 operate QA1 on orCat=2 orIdent=OPERATOR ctlNum=7: refused 10: the interlocking does not release the operation
-| 2000 association 1 operate QB1 off orCat=-3 orIdent= ctlNum=0: refused 10: the interlocking does not release the operation
-| 2000 association 1 cancel QA1 on orCat=2 orIdent=A\\x01 ctlNum=255: refused 18: the association has not selected the switch for this
-| 3000 association 2 open from 127.0.0.1:40000
-| 3000 association 2 select QA1: done
-| 3000 association 2 operate QA1 on orCat=2 orIdent=OPERATOR ctlNum=7: refused 10: the interlocking does not release the operation
-| 3000 association 2 operate QB1 off orCat=-3 orIdent= ctlNum=0: done
-| 3000 association 2 cancel QA1 on orCat=2 orIdent=A\\x01 ctlNum=255: refused 18: the association has not selected the switch for this
+| 1970-01-01T00:00:01.000Z clients on 127.0.0.1:7
+| 1970-01-01T00:00:02.000Z association 1 open from 127.0.0.1:40000
+| 1970-01-01T00:00:02.000Z association 1 select QA1: done
+| 1970-01-01T00:00:02.000Z association 1 operate QA1 close orCat=2 orIdent=OPERATOR ctlNum=7: refused 10: the interlocking does not release the operation
+| 1970-01-01T00:00:02.000Z association 1 operate QB1 open orCat=-3 orIdent= ctlNum=0: refused 10: the interlocking does not release the operation
+| 1970-01-01T00:00:02.000Z association 1 cancel QA1 close orCat=2 orIdent=A\\x01 ctlNum=255: refused 18: the association has not selected the switch for this
+| 1970-01-01T00:00:02.000Z position QA1 open
+| 1970-01-01T00:00:02.000Z release QB1 open=1 close=1
+| 1970-01-01T00:00:03.000Z association 2 open from 127.0.0.1:40000
+| 1970-01-01T00:00:03.000Z association 2 select QA1: done
+| 1970-01-01T00:00:03.000Z association 2 operate QA1 close orCat=2 orIdent=OPERATOR ctlNum=7: refused 10: the interlocking does not release the operation
+| 1970-01-01T00:00:03.000Z association 2 operate QB1 open orCat=-3 orIdent= ctlNum=0: done
+| 1970-01-01T00:00:03.000Z association 2 cancel QA1 close orCat=2 orIdent=A\\x01 ctlNum=255: refused 18: the association has not selected the switch for this
 3000 command QB1 off
-| 3000 all turns are served
+| 1970-01-01T00:00:03.000Z all turns are served
 ",
         ..ENDING
     },
@@ -384,14 +397,17 @@ fault 120 line 2
         per_read: 19,
         told: "4000 refused 113\n",
         wanted: "instructions=2 depth=1 budget=2
-| 1000 clients on 127.0.0.1:7, process on 127.0.0.1:9
-| 2000 process open
+| 1970-01-01T00:00:01.000Z clients on 127.0.0.1:7, process on 127.0.0.1:9
+| 1970-01-01T00:00:02.000Z process open
 2000 process open
-| 4000 refused 113: 0 contact X 2
+| 1970-01-01T00:00:03.000Z position Q open
+| 1970-01-01T00:00:04.000Z refused 113: 0 contact X 2
 4000 refused 113
-| 4000 process closed 0: it ended its connection
+| 1970-01-01T00:00:04.000Z process closed 0: it ended its connection
 4000 process closed 0
-| 9000 all turns are served
+| 1970-01-01T00:00:05.000Z process lost
+| 1970-01-01T00:00:05.000Z position Q bad
+| 1970-01-01T00:00:09.000Z all turns are served
 ",
         ..HEARD
     },
@@ -400,14 +416,16 @@ fault 120 line 2
         said: "0 contact X 1\n",
         fails_at: 3,
         wanted: "instructions=2 depth=1 budget=2
-| 1000 clients on 127.0.0.1:7, process on 127.0.0.1:9
-| 2000 process open
+| 1970-01-01T00:00:01.000Z clients on 127.0.0.1:7, process on 127.0.0.1:9
+| 1970-01-01T00:00:02.000Z process open
 2000 process open
-| 3000 refused 113: 0 contact X 1
+| 1970-01-01T00:00:03.000Z refused 113: 0 contact X 1
 3000 refused 113
-| 3000 process closed 131: its connection failed, or sent nothing
+| 1970-01-01T00:00:03.000Z process closed 131: its connection failed, or it sent nothing for 10 seconds
 3000 process closed 131
-| 9000 all turns are served
+| 1970-01-01T00:00:04.000Z process lost
+| 1970-01-01T00:00:04.000Z position Q bad
+| 1970-01-01T00:00:09.000Z all turns are served
 ",
         ..HEARD
     },
@@ -416,12 +434,15 @@ fault 120 line 2
         said: "0 contact Q 1\n\n0 scan\x1b\n",
         per_read: 14,
         wanted: "instructions=2 depth=1 budget=2
-| 1000 clients on 127.0.0.1:7, process on 127.0.0.1:9
-| 2000 process open
+| 1970-01-01T00:00:01.000Z clients on 127.0.0.1:7, process on 127.0.0.1:9
+| 1970-01-01T00:00:02.000Z process open
 2000 process open
-| 4000 process closed 120: 0 scan\\x1b
+| 1970-01-01T00:00:03.000Z position Q open
+| 1970-01-01T00:00:04.000Z process closed 120: 0 scan\\x1b
 4000 process closed 120
-| 9000 all turns are served
+| 1970-01-01T00:00:05.000Z process lost
+| 1970-01-01T00:00:05.000Z position Q bad
+| 1970-01-01T00:00:09.000Z all turns are served
 ",
         ..HEARD
     },
@@ -430,12 +451,15 @@ fault 120 line 2
         said: "0 contact Q 1\n\n0 contact Q 4\n",
         per_read: 14,
         wanted: "instructions=2 depth=1 budget=2
-| 1000 clients on 127.0.0.1:7, process on 127.0.0.1:9
-| 2000 process open
+| 1970-01-01T00:00:01.000Z clients on 127.0.0.1:7, process on 127.0.0.1:9
+| 1970-01-01T00:00:02.000Z process open
 2000 process open
-| 4000 process closed 120: 0 contact Q 4
+| 1970-01-01T00:00:03.000Z position Q open
+| 1970-01-01T00:00:04.000Z process closed 120: 0 contact Q 4
 4000 process closed 120
-| 9000 all turns are served
+| 1970-01-01T00:00:05.000Z process lost
+| 1970-01-01T00:00:05.000Z position Q bad
+| 1970-01-01T00:00:09.000Z all turns are served
 ",
         ..HEARD
     },
@@ -444,16 +468,22 @@ fault 120 line 2
         processes: 2,
         said: "0 contact Q 1\n",
         wanted: "instructions=2 depth=1 budget=2
-| 1000 clients on 127.0.0.1:7, process on 127.0.0.1:9
-| 2000 process open
+| 1970-01-01T00:00:01.000Z clients on 127.0.0.1:7, process on 127.0.0.1:9
+| 1970-01-01T00:00:02.000Z process open
 2000 process open
-| 3000 process closed 0: it ended its connection
+| 1970-01-01T00:00:03.000Z position Q open
+| 1970-01-01T00:00:03.000Z process closed 0: it ended its connection
 3000 process closed 0
-| 4000 process open
+| 1970-01-01T00:00:04.000Z process lost
+| 1970-01-01T00:00:04.000Z position Q bad
+| 1970-01-01T00:00:04.000Z process open
 4000 process open
-| 5000 process closed 0: it ended its connection
+| 1970-01-01T00:00:05.000Z position Q open
+| 1970-01-01T00:00:05.000Z process closed 0: it ended its connection
 5000 process closed 0
-| 9000 all turns are served
+| 1970-01-01T00:00:06.000Z process lost
+| 1970-01-01T00:00:06.000Z position Q bad
+| 1970-01-01T00:00:09.000Z all turns are served
 ",
         ..HEARD
     },

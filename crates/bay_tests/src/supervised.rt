@@ -16,12 +16,15 @@ const ROWS: [Row; 10] = [
         said: "2000 bay - B 1\n3000 contact Q 1\n4000 alive\n",
         told: "2000 process 1500 B 1\n5000 alive\n",
         wanted: "instructions=2 depth=1 budget=2
-| 1000 clients on 127.0.0.1:7, process on 127.0.0.1:9
-| 2000 process open
+| 1970-01-01T00:00:01.000Z clients on 127.0.0.1:7, process on 127.0.0.1:9
+| 1970-01-01T00:00:02.000Z process lost
+| 1970-01-01T00:00:02.000Z position Q bad
+| 1970-01-01T00:00:02.000Z process open
 2000 process open
-| 5000 process closed 0: it ended its connection
+| 1970-01-01T00:00:04.000Z position Q open
+| 1970-01-01T00:00:05.000Z process closed 0: it ended its connection
 5000 process closed 0
-| 5000 all turns are served
+| 1970-01-01T00:00:05.000Z all turns are served
 ",
         ..SUPERVISED
     },
@@ -29,36 +32,45 @@ const ROWS: [Row; 10] = [
     Row {
         said: "2000 bay - C 1\n",
         wanted: "instructions=2 depth=1 budget=2
-| 1000 clients on 127.0.0.1:7, process on 127.0.0.1:9
-| 2000 process open
+| 1970-01-01T00:00:01.000Z clients on 127.0.0.1:7, process on 127.0.0.1:9
+| 1970-01-01T00:00:02.000Z process lost
+| 1970-01-01T00:00:02.000Z position Q bad
+| 1970-01-01T00:00:02.000Z process open
 2000 process open
-| 3000 process closed 132: it is not the process of this bay, or has another key
+| 1970-01-01T00:00:03.000Z process closed 132: it is not the process of this bay, or has another key
 3000 process closed 132
-| 5000 all turns are served
+| 1970-01-01T00:00:04.000Z process lost
+| 1970-01-01T00:00:05.000Z all turns are served
 ",
         ..SUPERVISED
     },
     Row {
         said: "2000 bay - B 2\n",
         wanted: "instructions=2 depth=1 budget=2
-| 1000 clients on 127.0.0.1:7, process on 127.0.0.1:9
-| 2000 process open
+| 1970-01-01T00:00:01.000Z clients on 127.0.0.1:7, process on 127.0.0.1:9
+| 1970-01-01T00:00:02.000Z process lost
+| 1970-01-01T00:00:02.000Z position Q bad
+| 1970-01-01T00:00:02.000Z process open
 2000 process open
-| 3000 process closed 132: it is not the process of this bay, or has another key
+| 1970-01-01T00:00:03.000Z process closed 132: it is not the process of this bay, or has another key
 3000 process closed 132
-| 5000 all turns are served
+| 1970-01-01T00:00:04.000Z process lost
+| 1970-01-01T00:00:05.000Z all turns are served
 ",
         ..SUPERVISED
     },
     Row {
         said: "2000 contact Q 1\n",
         wanted: "instructions=2 depth=1 budget=2
-| 1000 clients on 127.0.0.1:7, process on 127.0.0.1:9
-| 2000 process open
+| 1970-01-01T00:00:01.000Z clients on 127.0.0.1:7, process on 127.0.0.1:9
+| 1970-01-01T00:00:02.000Z process lost
+| 1970-01-01T00:00:02.000Z position Q bad
+| 1970-01-01T00:00:02.000Z process open
 2000 process open
-| 3000 process closed 132: it is not the process of this bay, or has another key
+| 1970-01-01T00:00:03.000Z process closed 132: it is not the process of this bay, or has another key
 3000 process closed 132
-| 5000 all turns are served
+| 1970-01-01T00:00:04.000Z process lost
+| 1970-01-01T00:00:05.000Z all turns are served
 ",
         ..SUPERVISED
     },
@@ -67,12 +79,15 @@ const ROWS: [Row; 10] = [
         said: "2000 bay - B 1\n",
         words: "serve --log --bay bay --logic logic --port 7 --turns 4 --process 9 --supervise 1500 --key key",
         wanted: "instructions=2 depth=1 budget=2
-| 1000 clients on 127.0.0.1:7, process on 127.0.0.1:9
-| 2000 process open
+| 1970-01-01T00:00:01.000Z clients on 127.0.0.1:7, process on 127.0.0.1:9
+| 1970-01-01T00:00:02.000Z process lost
+| 1970-01-01T00:00:02.000Z position Q bad
+| 1970-01-01T00:00:02.000Z process open
 2000 process open
-| 3000 process closed 132: it is not the process of this bay, or has another key
+| 1970-01-01T00:00:03.000Z process closed 132: it is not the process of this bay, or has another key
 3000 process closed 132
-| 5000 all turns are served
+| 1970-01-01T00:00:04.000Z process lost
+| 1970-01-01T00:00:05.000Z all turns are served
 ",
         ..SUPERVISED
     },
@@ -80,12 +95,15 @@ const ROWS: [Row; 10] = [
         said: "2000 bay 0123456789abcdefABCDEF0123456789 B 1\n",
         words: "serve --log --bay bay --logic logic --port 7 --turns 4 --process 9 --supervise 1500 --key key",
         wanted: "instructions=2 depth=1 budget=2
-| 1000 clients on 127.0.0.1:7, process on 127.0.0.1:9
-| 2000 process open
+| 1970-01-01T00:00:01.000Z clients on 127.0.0.1:7, process on 127.0.0.1:9
+| 1970-01-01T00:00:02.000Z process lost
+| 1970-01-01T00:00:02.000Z position Q bad
+| 1970-01-01T00:00:02.000Z process open
 2000 process open
-| 3000 process closed 0: it ended its connection
+| 1970-01-01T00:00:03.000Z process closed 0: it ended its connection
 3000 process closed 0
-| 5000 all turns are served
+| 1970-01-01T00:00:04.000Z process lost
+| 1970-01-01T00:00:05.000Z all turns are served
 ",
         ..SUPERVISED
     },
@@ -93,24 +111,30 @@ const ROWS: [Row; 10] = [
     Row {
         said: "2000 bay - B 1\n2000 contact Q 1\n",
         wanted: "instructions=2 depth=1 budget=2
-| 1000 clients on 127.0.0.1:7, process on 127.0.0.1:9
-| 2000 process open
+| 1970-01-01T00:00:01.000Z clients on 127.0.0.1:7, process on 127.0.0.1:9
+| 1970-01-01T00:00:02.000Z process lost
+| 1970-01-01T00:00:02.000Z position Q bad
+| 1970-01-01T00:00:02.000Z process open
 2000 process open
-| 4000 process closed 133: its time is too far from the server's
+| 1970-01-01T00:00:04.000Z process closed 133: its time is too far from the server's
 4000 process closed 133
-| 5000 all turns are served
+| 1970-01-01T00:00:05.000Z process lost
+| 1970-01-01T00:00:05.000Z all turns are served
 ",
         ..SUPERVISED
     },
     Row {
         said: "2000 bay - B 1\n9000 contact Q 1\n",
         wanted: "instructions=2 depth=1 budget=2
-| 1000 clients on 127.0.0.1:7, process on 127.0.0.1:9
-| 2000 process open
+| 1970-01-01T00:00:01.000Z clients on 127.0.0.1:7, process on 127.0.0.1:9
+| 1970-01-01T00:00:02.000Z process lost
+| 1970-01-01T00:00:02.000Z position Q bad
+| 1970-01-01T00:00:02.000Z process open
 2000 process open
-| 3000 process closed 133: its time is too far from the server's
+| 1970-01-01T00:00:03.000Z process closed 133: its time is too far from the server's
 3000 process closed 133
-| 5000 all turns are served
+| 1970-01-01T00:00:04.000Z process lost
+| 1970-01-01T00:00:05.000Z all turns are served
 ",
         ..SUPERVISED
     },
@@ -119,12 +143,15 @@ const ROWS: [Row; 10] = [
         said: "2000 bay - B 1\n",
         stays: true,
         wanted: "instructions=2 depth=1 budget=2
-| 1000 clients on 127.0.0.1:7, process on 127.0.0.1:9
-| 2000 process open
+| 1970-01-01T00:00:01.000Z clients on 127.0.0.1:7, process on 127.0.0.1:9
+| 1970-01-01T00:00:02.000Z process lost
+| 1970-01-01T00:00:02.000Z position Q bad
+| 1970-01-01T00:00:02.000Z process open
 2000 process open
-| 4000 process closed 134: no line for 1500 ms
+| 1970-01-01T00:00:04.000Z process closed 134: no line for 1500 ms
 4000 process closed 134
-| 5000 all turns are served
+| 1970-01-01T00:00:05.000Z process lost
+| 1970-01-01T00:00:05.000Z all turns are served
 ",
         ..SUPERVISED
     },
@@ -135,12 +162,14 @@ const ROWS: [Row; 10] = [
         words: "serve --log --bay bay --logic logic --port 7 --turns 4 --process 9 --supervise 2000",
         told: "2000 process 2000 B 1\n4000 alive\n",
         wanted: "instructions=2 depth=1 budget=2
-| 1000 clients on 127.0.0.1:7, process on 127.0.0.1:9
-| 2000 process open
+| 1970-01-01T00:00:01.000Z clients on 127.0.0.1:7, process on 127.0.0.1:9
+| 1970-01-01T00:00:02.000Z process lost
+| 1970-01-01T00:00:02.000Z position Q bad
+| 1970-01-01T00:00:02.000Z process open
 2000 process open
-| 5000 process closed 134: no line for 2000 ms
+| 1970-01-01T00:00:05.000Z process closed 134: no line for 2000 ms
 5000 process closed 134
-| 5000 all turns are served
+| 1970-01-01T00:00:05.000Z all turns are served
 ",
         ..SUPERVISED
     },

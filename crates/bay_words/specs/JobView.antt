@@ -17,9 +17,9 @@ program_view (Image name) = Image name.now
 abbrev pub task_view : Task (Bor (List ℕ)) → Task (List ℕ)
 task_view (Check bay program) = Check bay.now (program_view program)
 task_view Replay = Replay
-task_view (Serve bay program port turns trace process tells limit key) =
+task_view (Serve bay program port turns trace process tells limit key file most) =
     Serve bay.now (program_view program) port turns (option_map (λ name. name.now) trace) process
-    tells limit (option_map (λ name. name.now) key)
+    tells limit (option_map (λ name. name.now) key) (option_map (λ name. name.now) file) most
 task_view (Compile bay logic out) = Compile bay.now logic.now out.now
 task_view (Audit bay program rules) = Audit bay.now (program_view program) rules.now
 
@@ -42,5 +42,7 @@ job_view job = record {
   tell = option_map (λ name. name.now) job.tell;
   supervise = job.supervise;
   key = option_map (λ name. name.now) job.key;
+  record_file = option_map (λ name. name.now) job.record_file;
+  record_most = job.record_most;
   log = job.log;
 }

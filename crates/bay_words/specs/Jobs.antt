@@ -1,5 +1,5 @@
 -- The commands of the program, and what some words ask for.
-use Rattle.std.specs.Prelude.{ℕ, ◌==◌, Bool, ◌&&◌, true, false, not, List, ◌∷◌, codes, Option, None, Some, is_none, is_some, option_and_then, option_map, if◌then◌else◌, []}
+use Rattle.std.specs.Prelude.{ℕ, ◌==◌, Bool, ◌&&◌, ◌||◌, true, false, not, List, ◌∷◌, codes, Option, None, Some, is_none, is_some, option_and_then, option_map, if◌then◌else◌, []}
 use Rattle.std.specs.Option.{option_map_or}
 use Rattle.std.specs.Str.{bytes_eq}
 use Rattle.std.specs.Str.Parse.{digits_value, without_leading_plus}
@@ -44,16 +44,18 @@ check_app =
     log_rule
 
 -- `serve --bay F [--logic F] [--image F] --port N --turns N [--trace F] [--process P]
--- [--tell WHAT] [--supervise MS] [--key F] [--log]`, with ports from 1 to 65535, turns below
--- 2 ^ 32, and from 100 to 60000 milliseconds
+-- [--tell WHAT] [--supervise MS] [--key F] [--record F] [--record-most OCTETS] [--log]`, with ports
+-- from 1 to 65535, turns below 2 ^ 32, from 100 to 60000 milliseconds, and up to 2 ^ 24 octets
 abbrev pub serve_app : App
 serve_app =
     let named = with_program (with_rule (new_app (codes "serve")) (needed_rule (codes "bay"))) in
-    with_rule (with_rule (with_rule (with_rule (with_rule (with_rule (with_rule (with_rule named
+    with_rule (with_rule (with_rule (with_rule (with_rule (with_rule (with_rule (with_rule
+    (with_rule (with_rule named
     (number_rule (codes "port") 1 65535 true)) (number_rule (codes "turns") 0 4294967295 true))
     (text_rule (codes "trace"))) (number_rule (codes "process") 1 65535 false))
     (text_rule (codes "tell"))) (number_rule (codes "supervise") 100 60000 false))
-    (text_rule (codes "key"))) log_rule
+    (text_rule (codes "key"))) (text_rule (codes "record")))
+    (number_rule (codes "record-most") 1 16777216 false)) log_rule
 
 -- `replay [--log]`
 abbrev pub replay_app : App
@@ -115,6 +117,10 @@ turns_in rows = option_and_then (number_of 0 4294967295) (first_of (codes "turns
 abbrev pub limit_in : List Row → Option ℕ
 limit_in rows = option_and_then (number_of 100 60000) (first_of (codes "supervise") rows)
 
+-- the most octets of a record, where they were given
+abbrev pub most_in : List Row → Option ℕ
+most_in rows = option_and_then (number_of 1 16777216) (first_of (codes "record-most") rows)
+
 -- the one or the other, and not both
 abbrev pub either : Option Text → Option Text → Option (ProgramFile Text)
 either (Some logic) None = Some (Logic logic)
@@ -149,21 +155,25 @@ abbrev pub is_supervisable : Option ℕ → Option Text → Option ℕ → Optio
 is_supervisable process trace None key = is_none key
 is_supervisable process trace (Some limit) key = is_some process && is_none trace
 
+-- a size is that of a record
+abbrev pub is_recordable : Option Text → Option ℕ → Bool
+is_recordable file most = is_some file || is_none most
+
 abbrev pub serve_task : Text → ProgramFile Text → ℕ → ℕ → Option Text → Option ℕ → Option ℕ
-    → Option Text → Bool → Option (Task Text)
-serve_task bay program port turns trace process limit key tells =
-    if is_apart port process && is_supervisable process trace limit key
-    then Some (Serve bay program port turns trace process tells limit key)
+    → Option Text → Option Text → Option ℕ → Bool → Option (Task Text)
+serve_task bay program port turns trace process limit key file most tells =
+    if is_apart port process && is_supervisable process trace limit key && is_recordable file most
+    then Some (Serve bay program port turns trace process tells limit key file most)
     else None
 
 -- what `serve` asks for: the same, both numbers, a trace and a process, if they were named, what
--- the process is told, and how it is supervised
+-- the process is told, how it is supervised, and how what is served is recorded
 abbrev pub serve_in : List Row → Option (Task Text)
 serve_in rows =
     option_and_then (λ bay. option_and_then (λ program. option_and_then (λ port. option_and_then
     (λ turns. option_and_then
     (serve_task bay program port turns (first_of (codes "trace") rows) (process_in rows)
-    (limit_in rows) (first_of (codes "key") rows))
+    (limit_in rows) (first_of (codes "key") rows) (first_of (codes "record") rows) (most_in rows))
     (tells_of (process_in rows) (first_of (codes "tell") rows))) (turns_in rows)) (port_in rows))
     (program_in rows)) (first_of (codes "bay") rows)
 
@@ -233,12 +243,14 @@ pub record JobData : Type 0 where
   pub tell : Option Text
   pub supervise : Option ℕ
   pub key : Option Text
+  pub record_file : Option Text
+  pub record_most : Option ℕ
   pub log : Bool
 
 abbrev pub verb_of : Task Text → Verb
 verb_of (Check bay program) = verb.Check
 verb_of Replay = verb.Replay
-verb_of (Serve bay program port turns trace process tells limit key) = verb.Serve
+verb_of (Serve bay program port turns trace process tells limit key file most) = verb.Serve
 verb_of (Compile bay logic out) = verb.Compile
 verb_of (Audit bay program rules) = verb.Audit
 
@@ -258,6 +270,8 @@ with_options rows verb = record {
   tell = first_of (codes "tell") rows;
   supervise = limit_in rows;
   key = first_of (codes "key") rows;
+  record_file = first_of (codes "record") rows;
+  record_most = most_in rows;
   log = logs rows;
 }
 

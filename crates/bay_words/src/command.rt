@@ -11,7 +11,7 @@ use std::alloc::{AllocError, Global};
 
 // The version of the program, of its formats and of its fault numbers. CHANGELOG.md lists the
 // changes of each version.
-const VERSION: &str = "1.4.2";
+const VERSION: &str = "1.5.0";
 
 // What stands below the options of a command with a program.
 const WANTED: &str = "Exactly one of --logic and --image is wanted.";
@@ -137,6 +137,18 @@ const ENTRIES: [Entry; 5] = [
                 value: Value::Text("F"),
                 required: false,
                 help: "Key file, whose key the process has to know",
+            },
+            Choice {
+                id: "record",
+                value: Value::Text("F"),
+                required: false,
+                help: "New file for a trace of the session, for a replay",
+            },
+            Choice {
+                id: "record-most",
+                value: Value::Number("OCTETS", 1, 16_777_216),
+                required: false,
+                help: "Most octets of this trace, or 16000000",
             },
             LOG,
         ],

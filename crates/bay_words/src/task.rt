@@ -29,7 +29,9 @@ pub enum Task<T> {
     /// trace of the process line by line, if there is one, and then listens to the process itself
     /// on a port of its own, if it has one, which may be told of releases. The process may be
     /// supervised: then it may be silent for at most `limit_ms`, from 100 to 60,000, it has to know
-    /// the key in a file, if that is given, and there is no trace before it.
+    /// the key in a file, if that is given, and there is no trace before it. What the device is
+    /// given is recorded in a new file, if one is named, in at most so many octets, from 1 to
+    /// 16,777,216, if that is given.
     Serve {
         bay: T,
         program: ProgramFile<T>,
@@ -40,6 +42,8 @@ pub enum Task<T> {
         tells_releases: bool,
         limit_ms: Option<u32>,
         key: Option<T>,
+        record_file: Option<T>,
+        record_most: Option<u32>,
     },
     /// Answers a text of rules for a bay with a program.
     Audit {

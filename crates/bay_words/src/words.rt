@@ -56,6 +56,10 @@ pub struct Job<'a> {
     pub supervise: Option<u32>,
     /// The file with the key that a supervised process has to know.
     pub key: Option<&'a str>,
+    /// The new file in which the session is recorded.
+    pub record_file: Option<&'a str>,
+    /// The most octets of that file.
+    pub record_most: Option<u32>,
     /// Whether the log is written.
     pub log: bool,
 }
@@ -86,23 +90,40 @@ fn port_in(found: &ArgMatches<'_>, id: &str) -> Option<u16>
     if port == 0 { None } else { Some(port) }
 }
 
-// Returns the number of turns that was given, from 0 to 4,294,967,295.
+// Returns the number that was given with an option, from the least to the greatest.
+fn number_in(found: &ArgMatches<'_>, id: &str, least: u32, greatest: u32) -> Option<u32>
+    ensures { result ≡ option_and_then (number_of least greatest)
+        (first_of id.now (rows_of (found_of found.now))) }
+{
+    let number = value_of(found, id)?.parse::<u32>().ok()?;
+    if number < least {
+        return None;
+    }
+    if number > greatest {
+        return None;
+    }
+    Some(number)
+}
+
+// Returns the number of turns that was given.
 fn turns_in(found: &ArgMatches<'_>) -> Option<u32>
     ensures { result ≡ spec.turns_in (rows_of (found_of found.now)) }
 {
-    value_of(found, "turns")?.parse::<u32>().ok()
+    number_in(found, "turns", 0, 4_294_967_295)
 }
 
-// Returns the limit of a supervised process, from 100 to 60,000 milliseconds.
+// Returns the limit of a supervised process, in milliseconds.
 fn limit_in(found: &ArgMatches<'_>) -> Option<u32>
     ensures { result ≡ spec.limit_in (rows_of (found_of found.now)) }
 {
-    let limit = value_of(found, "supervise")?.parse::<u32>().ok()?;
-    if limit < 100 || limit > 60_000 {
-        None
-    } else {
-        Some(limit)
-    }
+    number_in(found, "supervise", 100, 60_000)
+}
+
+// Returns the most octets of a record.
+fn most_in(found: &ArgMatches<'_>) -> Option<u32>
+    ensures { result ≡ spec.most_in (rows_of (found_of found.now)) }
+{
+    number_in(found, "record-most", 1, 16_777_216)
 }
 
 // Returns the program or the image that was named, if exactly one of the two was.
@@ -193,7 +214,12 @@ fn serve_from<'a>(found: &ArgMatches<'a>) -> Option<Task<&'a str>>
     let tells_releases = tells_of(process, value_of(found, "tell"))?;
     let limit_ms = limit_in(found);
     let key = value_of(found, "key");
-    if !is_apart(port, process) || !is_supervisable(process, trace, limit_ms, key) {
+    let record_file = value_of(found, "record");
+    let record_most = most_in(found);
+    if !is_apart(port, process)
+        || !is_supervisable(process, trace, limit_ms, key)
+        || record_file.is_none() && record_most.is_some()
+    {
         return None;
     }
     Some(Task::Serve {
@@ -206,6 +232,8 @@ fn serve_from<'a>(found: &ArgMatches<'a>) -> Option<Task<&'a str>>
         tells_releases,
         limit_ms,
         key,
+        record_file,
+        record_most,
     })
 }
 
@@ -298,6 +326,8 @@ fn with_options<'a>(found: &ArgMatches<'a>, verb: Verb) -> Job<'a>
         tell: value_of(found, "tell"),
         supervise: limit_in(found),
         key: value_of(found, "key"),
+        record_file: value_of(found, "record"),
+        record_most: most_in(found),
         log: logs(found),
     }
 }
@@ -315,7 +345,7 @@ fn job_from<'a>(matches: &ArgMatches<'a>) -> Option<Job<'a>>
 fn usage_of(name: &str) -> &'static str {
     match name {
         "serve" => {
-            "bayctl serve --bay <F> <--logic <F>|--image <F>> --port <N> --turns <N> [--trace <F>] [--process <P>] [--tell <WHAT>] [--supervise <MS>] [--key <F>] [--log]"
+            "bayctl serve --bay <F> <--logic <F>|--image <F>> --port <N> --turns <N> [--trace <F>] [--process <P>] [--tell <WHAT>] [--supervise <MS>] [--key <F>] [--record <F>] [--record-most <OCTETS>] [--log]"
         }
         "audit" => "bayctl audit --bay <F> <--logic <F>|--image <F>> --rules <F> [--log]",
         _ => "bayctl check --bay <F> <--logic <F>|--image <F>> [--log]",
@@ -339,14 +369,16 @@ fn wrong_options(found: &ArgMatches<'_>) -> &'static str {
         "the following required arguments were not provided:\n  --supervise <MS>"
     } else if limit.is_some() && value_of(found, "trace").is_some() {
         "the argument '--trace <F>' cannot be used with '--supervise <MS>'"
+    } else if most_in(found).is_some() && value_of(found, "record").is_none() {
+        "the following required arguments were not provided:\n  --record <F>"
     } else {
         "--process wants another port than --port"
     }
 }
 
 // Makes the refusal of a command with both or neither of a program and an image, with one port for
-// both the clients and the process, with something that a process can't be told, or with a
-// supervised process that is not there, a key without one, or a trace before one.
+// both the clients and the process, with something that a process can't be told, with a supervised
+// process that is not there, a key without one, or a trace before one, or with a size of no record.
 fn refused_options(alloc: Global, matches: &ArgMatches<'_>) -> WordsFault {
     let (wrong, usage) = match matches.subcommand() {
         Some((name, found)) => (wrong_options(found), usage_of(name)),
@@ -394,7 +426,8 @@ fn matches_of<'a>(alloc: Global, words: &'a [&'a str]) -> Result<ArgMatches<'a>,
 /// Returns what the words after the program's name ask for. A check takes a bay file and either a
 /// program or an image. A replay takes nothing. Serving takes what a check takes, a port and a
 /// number of turns, and optionally a trace and a process on another port, which may be told of
-/// releases. In place of a trace such a process may be supervised, with a key or without one.
+/// releases. In place of a trace such a process may be supervised, with a key or without one. What
+/// is served may be recorded, in at most so many octets.
 /// Compiling takes a bay file, a program and the file for the image. An audit takes what a check
 /// takes, and rules. Each may ask for the log. Words that ask for help are refused with the help.
 pub fn task_of<'a>(alloc: Global, words: &'a [&'a str]) -> Result<Asked<&'a str>, WordsFault>

@@ -1,4 +1,5 @@
-use Rattle.std.proofs.Common.{◌≡◌, ◌∙◌, ap, refl, rules, subst}
+use Rattle.std.proofs.Common.{◌≡◌, ◌∙◌, ap, refl, rules, subst, sym}
+use Rattle.bay_serving.specs.ChangeLines.{bay_seen}
 use Rattle.bay_serving.specs.Clock.{ClockData, moment_read, shift_of}
 use Rattle.bay_serving.specs.Serving.{with_host}
 use Rattle.bay_serving.proofs.ServeLemmas.{failed-cut, tried-cut, turn-fails, turn-goes}
@@ -16,11 +17,13 @@ returns-in_err-tell_turn-in-Ok g c =
     c.from_residual.ensures.0
     (turn-goes (λ busy. busy.link) g.L.Link.does g.L.Link.failures g.H.Host.does g.W.Sink.contents
     g.W.Sink.does
-    _ _ _ _ _ _ _ _ _ _ _ _ _ _ _ _ _ _ _ _ _ _ _ _ _ _ _
+    _ _ _ _ _ _ _ _ _ _ _ _ _ _ _ _ _ _ _ _ _ _ _ _ _ _ _ _ _ _
     c.read-reading.ensures.clock c.read-reading.ensures.moment now c.read-reading.ensures.shift
     c.device-2.ensures c.choose-next.ensures.next c.choose-next.ensures.process
     c.choose-next.ensures.lines c.device-device.ensures c.clocks.ensures c.log_shift.ensures
-    c.in-Ok.ensures.right c.in-Ok.ensures.ok
+    c.in-Ok.ensures.right
+    (rw (sym c.write_record.ensures) at c.in-Ok.ensures.ok) c.log_record.ensures
+    (c.see_bay-before.ensures ∙ ap bay_seen c.device-3.ensures)
     c.in_err-tell_turn-in-Ok.ensures (refl, refl, refl))
 
 pub returns-in_err-attend_process-in-Ok : goal.returns-in_err-attend_process-in-Ok
@@ -33,11 +36,13 @@ returns-in_err-attend_process-in-Ok g c =
     c.from_residual-in_err-attend_process-in-Ok.ensures.0
     (turn-goes (λ busy. busy.link) g.L.Link.does g.L.Link.failures g.H.Host.does g.W.Sink.contents
     g.W.Sink.does
-    _ _ _ _ _ _ _ _ _ _ _ _ _ _ _ _ _ _ _ _ _ _ _ _ _ _ _
+    _ _ _ _ _ _ _ _ _ _ _ _ _ _ _ _ _ _ _ _ _ _ _ _ _ _ _ _ _ _
     c.read-reading.ensures.clock c.read-reading.ensures.moment now c.read-reading.ensures.shift
     c.device-2.ensures c.choose-next.ensures.next c.choose-next.ensures.process
     c.choose-next.ensures.lines c.device-device.ensures c.clocks.ensures c.log_shift.ensures
-    c.in-Ok.ensures.right c.in-Ok.ensures.ok
+    c.in-Ok.ensures.right
+    (rw (sym c.write_record.ensures) at c.in-Ok.ensures.ok) c.log_record.ensures
+    (c.see_bay-before.ensures ∙ ap bay_seen c.device-3.ensures)
     c.in_ok-tell_turn-in-Ok.ensures c.in_err-attend_process-in-Ok.ensures)
 
 pub returns-in_ok-attend_process-in-Ok : goal.returns-in_ok-attend_process-in-Ok
@@ -53,12 +58,13 @@ returns-in_ok-attend_process-in-Ok g c =
       )
           (turn-goes (λ busy. busy.link) g.L.Link.does g.L.Link.failures g.H.Host.does
           g.W.Sink.contents g.W.Sink.does
-          _ _ _ _ _ _ _ _ _ _ _ _ _ _ _ _ _ _ _ _ _ _ _ _ _ _ _
+          _ _ _ _ _ _ _ _ _ _ _ _ _ _ _ _ _ _ _ _ _ _ _ _ _ _ _ _ _ _
           c.read-reading.ensures.clock c.read-reading.ensures.moment now
           c.read-reading.ensures.shift c.device-2.ensures c.choose-next.ensures.next
           c.choose-next.ensures.process c.choose-next.ensures.lines c.device-device.ensures
-          c.clocks.ensures c.log_shift.ensures c.in-Ok.ensures.right c.in-Ok.ensures.ok
-          c.in_ok-tell_turn-in-Ok.ensures c.in_ok-attend_process-in-Ok.ensures),
+          c.clocks.ensures c.log_shift.ensures c.in-Ok.ensures.right
+          (rw (sym c.write_record.ensures) at c.in-Ok.ensures.ok) c.log_record.ensures
+          (c.see_bay-before.ensures ∙ ap bay_seen c.device-3.ensures) c.in_ok-tell_turn-in-Ok.ensures c.in_ok-attend_process-in-Ok.ensures),
     )
 
 pub returns-in_err-status-in-Err : goal.returns-in_err-status-in-Err
