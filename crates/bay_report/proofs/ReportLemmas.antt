@@ -1,19 +1,16 @@
 -- Lemmas on what is printed.
 use Rattle.bay_io.specs.Calls.{WriteCall, some_call, write_failed}
-use Rattle.std.proofs.Common.{◌≡◌, ℕ, zero, suc, ◌+◌, ◌<◌, ◌≤◌, ◌==◌, Bool, true, false, List, [], ◌∷◌, ◌++◌, length, drop, get_or, cond, nat_lt, ◌||◌, Option, None, Some, Result, Ok, Err, is_err, IsErr, IfOk, slice_get, subst, refl, ap, sym, ◌∙◌, arith, add-one, append_assoc, MatchBool}
+use Rattle.std.proofs.Common.{◌≡◌, ℕ, suc, ◌+◌, ◌<◌, ◌==◌, Bool, true, false, List, [], ◌∷◌, ◌++◌, length, drop, get_or, ◌||◌, Option, None, Result, Ok, Err, is_err, IsErr, IfOk, subst, refl, ap, sym, ◌∙◌, arith, add-one, append_assoc, MatchBool}
 use Rattle.std.proofs.Math.Seq.{drop-cons}
 use Rattle.std.proofs.lemmas.Bool.Decides.{nat_tests}
-use Rattle.std.proofs.lemmas.Option.{get_or_from_slice_get, slice_get_past}
 use Rattle.bay_device.specs.Device.{State}
-use Rattle.bay_device.specs.LookUps.{enabled_of, may_close, may_open}
 use Rattle.bay_device.specs.declared.event.Sent.{Sent}
 use Rattle.bay_io.proofs.AskedLemmas.{Asked-then}
 use Rattle.bay_io.proofs.SentLemmas.{SendsPart-more, Sends-rest, Sends-rest_part}
 use Rattle.bay_io.specs.Sent.{Ends, Finishes, Puts, Sends, SendsPart}
 use Rattle.bay_io.specs.Watched.{Writing}
 use Rattle.bay_io.specs.declared.outbox.WriteFault.{WriteFault}
-use Rattle.bay_nodes.specs.declared.switch.Switch.{Switch}
-use Rattle.bay_report.specs.Lines.{command_text, commands_text, send_text, sends_text, switch_part, switches_text}
+use Rattle.bay_report.specs.Lines.{command_text, commands_text, send_text, sends_text}
 use Rattle.bay_report.specs.LogLines.{IsTold, LogsSome, PrintsLogs}
 use Rattle.bay_report.specs.Report.{IsLast, Printed, Prints}
 use Rattle.bay_services.specs.declared.answer.Command.{Command}
