@@ -50,5 +50,5 @@ dated year ms =
     let month = month_from 11 year.0 1 year.1 in date_text year.0 month.0 month.1 ms
 
 -- a moment in milliseconds since 1970, up to the year 2107
-abbrev pub utc_text : ℕ → List ℕ
+unfoldable pub utc_text : ℕ → List ℕ
 utc_text moment = dated (year_from 137 1970 (moment / 86400000)) (moment % 86400000)

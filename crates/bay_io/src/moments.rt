@@ -79,6 +79,7 @@ fn digit(number: u64, unit: u64) -> u8
 
 /// Returns a moment in milliseconds since 1970 as `YYYY-MM-DDThh:mm:ss.mmmZ` (ISO 8601, in UTC). A
 /// moment behind the year 2107 has no meaning there; a device takes none.
+#[tactic(auto, unfolding(crate::specs::Moments::utc_text))]
 pub fn utc_text(moment: u64) -> [u8; 24]
     ensures { result ≡ spec.utc_text moment }
 {
