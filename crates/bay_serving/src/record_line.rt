@@ -1,10 +1,23 @@
 // What is logged of the end of a record.
+ghost use Rattle.std.specs.Prelude.{◌≡◌};
 ghost use Rattle.bay_serving.specs.Logging.{LogsAll};
 ghost use Rattle.bay_serving.specs.RecordLine.{record_log};
+ghost use Rattle.bay_serving.specs.RecordLine as spec;
 
 use bay_io::calls::{LinePart, Sink};
 use bay_io::writer::WatchedWriter;
 use bay_serve::record::RecordEnd;
+
+// Returns why a record ends before its server does.
+fn end_words(end: RecordEnd) -> &'static [u8]
+    ensures { result.now ≡ spec.end_words end }
+{
+    match end {
+        RecordEnd::Full => b"it is full\n",
+        RecordEnd::Overlong => b"a line is too long for it\n",
+        RecordEnd::Failed => b"its file can't be written\n",
+    }
+}
 
 /// Logs why a record has ended, if it has.
 pub fn log_record<W: Sink>(writer: &mut WatchedWriter<W>, moment: u64, end: Option<RecordEnd>)
@@ -13,14 +26,9 @@ pub fn log_record<W: Sink>(writer: &mut WatchedWriter<W>, moment: u64, end: Opti
     let Some(end) = end else {
         return;
     };
-    let why: &[u8] = match end {
-        RecordEnd::Full => b"it is full\n",
-        RecordEnd::Overlong => b"a line is too long for it\n",
-        RecordEnd::Failed => b"its file can't be written\n",
-    };
     writer.log(&[
         LinePart::Moment(moment),
         LinePart::Text(b" the record has ended: "),
-        LinePart::Text(why),
+        LinePart::Text(end_words(end)),
     ]);
 }

@@ -10,7 +10,7 @@ use Rattle.bay_serving.proofs.change_lines.see_bay.Goals as goal
 pub loop-place-preserved : goal.loop-place-preserved
 loop-place-preserved c =
     let sized = c.loop-place.invariant.0 in
-    rw c.see_switch-2.ensures (
+    rw c.see_switch.ensures (
       simp length-set sized,
       fill_by_more (seen_at c.args.device.now) c.loop-place.switches c.loop-place.place
           (record { position = None; release = None }) (omega (arith, sized))

@@ -13,7 +13,12 @@ returns g c =
     logs-as g.W.Sink.contents g.W.Sink.does _ _ _
     (map (memory_line c.args.moment) c.args.turn.now.memory)
     (ap (map (memory_line c.args.moment)) c.as_slice-2.ensures) c.log_memories.ensures in
-    let sends = g.W.Sink.does in
-    let all = logs-then g.W.Sink.contents sends _ _ _ _ _ in
-    all (all (all (all (all (all (all c.log_opened.ensures c.log_lost.ensures) c.log_refused.ensures)
-    c.log_controls.ensures) closings) memories) c.log_ends.ensures) c.log_switches.ensures
+    logs-then g.W.Sink.contents g.W.Sink.does _ _ _ _ _
+    (logs-then g.W.Sink.contents g.W.Sink.does _ _ _ _ _
+    (logs-then g.W.Sink.contents g.W.Sink.does _ _ _ _ _
+    (logs-then g.W.Sink.contents g.W.Sink.does _ _ _ _ _
+    (logs-then g.W.Sink.contents g.W.Sink.does _ _ _ _ _
+    (logs-then g.W.Sink.contents g.W.Sink.does _ _ _ _ _
+    (logs-then g.W.Sink.contents g.W.Sink.does _ _ _ _ _ c.log_opened.ensures c.log_lost.ensures)
+    c.log_refused.ensures) c.log_controls.ensures) closings) memories) c.log_ends.ensures)
+    c.log_switches.ensures

@@ -1,4 +1,5 @@
-use Rattle.std.proofs.Common.{◌≡◌, ◌∙◌, ap, refl, rules, subst, sym}
+use Rattle.std.proofs.Common.{◌≡◌, ◌∙◌, max, ap, refl, subst, sym}
+use Rattle.bay_device.specs.Device.{State}
 use Rattle.bay_serving.specs.ChangeLines.{bay_seen}
 use Rattle.bay_serving.specs.Clock.{ClockData, moment_read, shift_of}
 use Rattle.bay_serving.specs.Serving.{with_host}
@@ -10,7 +11,9 @@ use Rattle.bay_serving.proofs.serving.try_turn.Goals as goal
 pub returns-in_err-tell_turn-in-Ok : goal.returns-in_err-tell_turn-in-Ok
 returns-in_err-tell_turn-in-Ok g c =
     let now : c.max-moment.result
-    ≡ moment_at c.read-reading.result.moment c.args.served.now.server = search rules in
+    ≡ moment_at c.read-reading.result.moment c.args.served.now.server =
+    c.max-moment.ensures ∙ ap (λ m. max c.read-reading.result.moment m)
+    (c.moment.ensures ∙ ap (λ (d : State). d.moment) c.device.ensures) in
     tried-cut (Called g.L.Link.does g.L.Link.failures) g.H.Host.does g.W.Sink.contents g.W.Sink.does
     (with_host c.args.served.now c.args.host.now c.args.lines.now) c.args.writer.now
     _ c.tell_turn.new.writer _ c.from_residual.result
@@ -29,7 +32,9 @@ returns-in_err-tell_turn-in-Ok g c =
 pub returns-in_err-attend_process-in-Ok : goal.returns-in_err-attend_process-in-Ok
 returns-in_err-attend_process-in-Ok g c =
     let now : c.max-moment.result
-    ≡ moment_at c.read-reading.result.moment c.args.served.now.server = search rules in
+    ≡ moment_at c.read-reading.result.moment c.args.served.now.server =
+    c.max-moment.ensures ∙ ap (λ m. max c.read-reading.result.moment m)
+    (c.moment.ensures ∙ ap (λ (d : State). d.moment) c.device.ensures) in
     tried-cut (Called g.L.Link.does g.L.Link.failures) g.H.Host.does g.W.Sink.contents g.W.Sink.does
     (with_host c.args.served.now c.args.host.now c.args.lines.now) c.args.writer.now
     _ c.attend_process.new.writer _ c.from_residual-in_err-attend_process-in-Ok.result
@@ -48,7 +53,9 @@ returns-in_err-attend_process-in-Ok g c =
 pub returns-in_ok-attend_process-in-Ok : goal.returns-in_ok-attend_process-in-Ok
 returns-in_ok-attend_process-in-Ok g c =
     let now : c.max-moment.result
-    ≡ moment_at c.read-reading.result.moment c.args.served.now.server = search rules in (
+    ≡ moment_at c.read-reading.result.moment c.args.served.now.server =
+    c.max-moment.ensures ∙ ap (λ m. max c.read-reading.result.moment m)
+    (c.moment.ensures ∙ ap (λ (d : State). d.moment) c.device.ensures) in (
       c.in_ok-attend_process-in-Ok.field-0,
       rw (
         c.is_idle-was_idle.ensures.link,
@@ -70,7 +77,9 @@ returns-in_ok-attend_process-in-Ok g c =
 pub returns-in_err-status-in-Err : goal.returns-in_err-status-in-Err
 returns-in_err-status-in-Err g c =
     let now : c.max-moment.result
-    ≡ moment_at c.read-reading.result.moment c.args.served.now.server = search rules in
+    ≡ moment_at c.read-reading.result.moment c.args.served.now.server =
+    c.max-moment.ensures ∙ ap (λ m. max c.read-reading.result.moment m)
+    (c.moment.ensures ∙ ap (λ (d : State). d.moment) c.device.ensures) in
     let read : c.read-reading.new.self.moment
     ≡ moment_read c.clocks.result c.args.served.now.clock =
     ap (λ (x : ClockData). x.moment) c.read-reading.ensures.clock in
@@ -89,7 +98,9 @@ returns-in_err-status-in-Err g c =
 pub returns-in_ok-status-in-Err : goal.returns-in_ok-status-in-Err
 returns-in_ok-status-in-Err g c =
     let now : c.max-moment.result
-    ≡ moment_at c.read-reading.result.moment c.args.served.now.server = search rules in
+    ≡ moment_at c.read-reading.result.moment c.args.served.now.server =
+    c.max-moment.ensures ∙ ap (λ m. max c.read-reading.result.moment m)
+    (c.moment.ensures ∙ ap (λ (d : State). d.moment) c.device.ensures) in
     let read : c.read-reading.new.self.moment
     ≡ moment_read c.clocks.result c.args.served.now.clock =
     ap (λ (x : ClockData). x.moment) c.read-reading.ensures.clock in
