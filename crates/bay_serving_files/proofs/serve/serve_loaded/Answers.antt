@@ -1,4 +1,4 @@
-use Rattle.std.proofs.Common.{Ok}
+use Rattle.std.proofs.Common.{Ok, Err, refl}
 use Rattle.bay_serve.specs.Calls.{Called}
 use Rattle.bay_serving_files.proofs.FileLemmas.{line-fails}
 use Rattle.bay_serving_files.proofs.serve.serve_loaded.Goals as goal
@@ -22,5 +22,20 @@ returns-in-Ok g c = record {
     host = c.bind_ports.new.host;
     binds = rw (c.duties_by-duties.ensures, c.key_octets.ensures) at c.in-Ok.ensures.binds;
     goes_on = rw c.as_slice.ensures.value at c.serve_bound.ensures;
+  };
+}
+
+pub returns-in-Err : goal.returns-in-Err
+returns-in-Err g c = record {
+  report = c.report.result;
+  is = c.report.ensures;
+  middle = c.write_report.new.writer;
+  told = Ok c.in_ok-write_report.field-0;
+  printed = c.in_ok-write_report.ensures;
+  goes_on = record {
+    bound = Err c.in-Err.why;
+    host = c.bind_ports.new.host;
+    binds = rw (c.duties_by-duties.ensures, c.key_octets.ensures) at c.in-Err.ensures.binds;
+    goes_on = (c.tell_unserved.ensures, refl);
   };
 }
