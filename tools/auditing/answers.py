@@ -8,22 +8,21 @@
     rule 9 QC1 close holds cases=12 by t1
     release QB1 open cases=3
     released QA1=1 QC1=1
-    hangs QA1=2 by t1
+    depends QA1=2 on t1
     blocked QA1=0|3
     release QB1 close many
     lost QB1 open blocked
-    lost QB1 close hangs by t1
+    lost QB1 close depends on t1
 
 A rule has an answer for each switch and operation that its line is about. One with a time that
 holds names the timer that bears it, where one does. In a case a switch has its positions as
 numbers, an input 0 or 1, a measure a number or a range; what it does not name is free.
 The cases of a release are those in which it is given in every state that the program can reach,
-those in which it depends on what stands behind `by`, and those in which it is not given. That are
-variables, timers, and measures with which the program calculates in a way that is not followed;
-nothing stands there if it calculates so with the values of the case. The word before a case may be
-left out where `by` tells the first two apart, and cases in which it is not given need not be
-told. The lines `lost` say the same of one case, that the process is lost: each position is bad and
-each input 0, and a measure has any value. A bayctl older than 1.2.0 prints none."""
+those in which it depends on what stands behind `on`, and those in which it is not given. That are
+variables, timers, and measures with which the program calculates in a way that is not followed; no
+name stands there if it calculates so with the values of the case. So it is with `by` of a rule that
+is open. The lines `lost` say the same of one case, that the process is lost: each position is bad
+and each input 0, and a measure has any value. A bayctl older than 1.2.0 prints none."""
 import re
 from dataclasses import dataclass, field
 
@@ -34,7 +33,7 @@ LEAST, MOST = -2 ** 31, 2 ** 31 - 1
 WAYS = ('open', 'close')
 VALUES = re.compile(r'(-?[0-9]{1,10})(?:\.\.(-?[0-9]{1,10}))?', re.ASCII)
 BROKEN, MANY, OPEN, HOLDS = 'broken', 'many', 'open', 'holds'
-RELEASED, HANGS, BLOCKED = 'released', 'hangs', 'blocked'
+RELEASED, DEPENDS, BLOCKED = 'released', 'depends', 'blocked'
 COMPUTED = 'what the program calculates'  # what a case depends on where no name is told
 WORST = [BROKEN, MANY, OPEN, HOLDS]  # of the answers of one line, the worst first
 
@@ -70,8 +69,8 @@ class Proof:
 
 @dataclass
 class Release:
-    """The cases in which a switch may be opened or closed, or which hang on what is kept, and as
-    far as they are told those in which it may not be; none are known where these are too many."""
+    """The cases in which a switch may be opened or closed, or in which that depends on what is
+    kept, and those in which it may not be; none are known where these are too many."""
     name: str
     way: int
     cases: list[Case] = field(default_factory=list)
@@ -80,18 +79,17 @@ class Release:
 
     def take(self, line: str, words: list[str], keys: set) -> None:
         """Takes the line of a case."""
-        state = words[0] if words and '=' not in words[0] and words[0] != 'by' else ''
-        case = case_of(line, words[1:] if state else words, keys)
-        is_right = {RELEASED: not case.kept, HANGS: bool(case.kept), BLOCKED: not case.kept}
-        if not is_right.get(state, not state):
+        state = words[0] if words else ''
+        if state not in (RELEASED, DEPENDS, BLOCKED):
             raise Bad(line)
+        case = case_of(line, words[1:], keys, 'on' if state == DEPENDS else '')
         (self.blocked if state == BLOCKED else self.cases).append(case)
 
 
 @dataclass(frozen=True)
 class Lost:
     """Whether a switch may be opened or closed while the process is lost: RELEASED, BLOCKED, or
-    HANGS with that on which it hangs."""
+    DEPENDS with that on which it depends."""
     name: str
     way: int
     state: str
@@ -154,7 +152,8 @@ def proof_of(line: str, words: list[str], keys: set) -> Proof:
     if verdict == HOLDS and len(rest) == 3 and rest[1] == 'by':
         return Proof(*asked, verdict, count_of(line, rest[0]), timer=rest[2])
     if verdict in (BROKEN, OPEN):
-        return Proof(*asked, verdict, case=case_of(line, rest, keys))
+        return Proof(*asked, verdict,
+                     case=case_of(line, rest, keys, 'by' if verdict == OPEN else ''))
     if rest or verdict == HOLDS:
         raise Bad(line)
     return Proof(*asked, verdict)
@@ -182,8 +181,8 @@ def lost_of(line: str, words: list[str], keys: set) -> Lost:
     if len(words) < 3:
         raise Bad(line)
     (name, way), (state, *rest) = way_of(line, words[:2], keys), words[2:]
-    if state == HANGS and rest[:1] == ['by']:
-        return Lost(name, way, state, tuple(rest[1:]) or (COMPUTED,))
+    if state == DEPENDS:
+        return Lost(name, way, state, kept_of(line, rest, 'on'))
     if state not in (RELEASED, BLOCKED) or rest:
         raise Bad(line)
     return Lost(name, way, state)
@@ -196,19 +195,27 @@ def count_of(line: str, word: str) -> int:
     return int(found[1])
 
 
-def case_of(line: str, words: list[str], keys: set) -> Case:
-    """A case: names with their values, and behind `by` what it depends on."""
-    at = words.index('by') if 'by' in words else len(words)
+def kept_of(line: str, words: list[str], sign: str) -> tuple[str, ...]:
+    """What an answer depends on: what stands behind a sign, if it stands there."""
+    if not words:
+        return (COMPUTED,)
+    if words[0] != sign or len(words) == 1:
+        raise Bad(line)
+    return tuple(words[1:])
+
+
+def case_of(line: str, words: list[str], keys: set, sign: str = '') -> Case:
+    """A case: names with their values, and behind a sign what it depends on, if it does."""
+    at = words.index(sign) if sign in words else len(words)
     values = {}
     for word in words[:at]:
-        name, sign, text = word.partition('=')
+        name, equals, text = word.partition('=')
         key = next((key for key in ((kind, raised(name)) for kind in (SWITCH, INPUT, MEASURE))
                     if key in keys and key not in values), None)
-        if not sign or key is None:
+        if not equals or key is None:
             raise Bad(line)
         values[key] = tuple(range_of(line, part) for part in text.split('|'))
-    kept = words[at + 1:] or [COMPUTED] * (at < len(words))
-    return Case(values, tuple(kept))
+    return Case(values, kept_of(line, words[at:], sign) if sign else ())
 
 
 def range_of(line: str, text: str) -> tuple[int, int]:

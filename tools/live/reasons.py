@@ -54,7 +54,7 @@ def unseen_told(unseen) -> str:
 
 
 def products_of(condition: Condition | Derived) -> list[tuple]:
-    """The products of a condition, each with the variables and timers on which it hangs."""
+    """The products of a condition, each with the variables and timers on which it depends."""
     if isinstance(condition, Condition):
         return [(product, ()) for product in condition.facts]
     return products_of(condition.condition) + [

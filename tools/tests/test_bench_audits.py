@@ -158,7 +158,7 @@ class Trial(unittest.TestCase):
         bad = {(SWITCH, 'QA1'): 3, (INPUT, 'I1'): 0, (MEASURE, 'M1_AA'): 5}
         for state, given, told, found in (
                 (bad, True, answers.RELEASED, []), (bad, False, answers.BLOCKED, []),
-                (bad, True, answers.HANGS, []), ({**bad, (INPUT, 'I1'): 1}, True, 'blocked', []),
+                (bad, True, answers.DEPENDS, []), ({**bad, (INPUT, 'I1'): 1}, True, 'blocked', []),
                 ({**bad, (SWITCH, 'QA1'): 2}, True, 'blocked', []),
                 (bad, True, answers.BLOCKED, ['another release while the process is lost']),
                 (bad, False, answers.RELEASED, ['another release while the process is lost'])):

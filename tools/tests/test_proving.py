@@ -32,16 +32,16 @@ rule 3 QC1 close broken QA1=0|2|3 VT_DEAD=1
 rule 4 QC1 close open VT_DEAD=1 by t1 LOCK
 rule 5 QC1 open many
 release QA1 open cases=1
-
+released
 release QA1 close cases=0
 release QC1 open cases=0
 release QC1 close cases=3
-QA1=1 VT_DEAD=1 M1_AA=0
-hangs QA1=1 M1_AA=-2147483648..-1|6..2147483647 by t1 LOCK
+released QA1=1 VT_DEAD=1 M1_AA=0
+depends QA1=1 M1_AA=-2147483648..-1|6..2147483647 on t1 LOCK
 blocked QA1=0|2|3
 lost QA1 open released
 lost QA1 close blocked
-lost QC1 open hangs by t1 LOCK
+lost QC1 open depends on t1 LOCK
 lost QC1 close released
 '''
 
@@ -77,8 +77,8 @@ class Answers(unittest.TestCase):
 
     def test_a_case_that_depends_on_a_calculation(self):
         """`LD M1_AA`, `MUL 3`, `GT 12`, of which no range is followed."""
-        text = LOADED + ('rule 1 QA1 close open M1_AA=3 by\nrelease QA1 close cases=2\n'
-                         'hangs M1_AA=3 by\nhangs M1_AA=4..11 by M1_AA\n')
+        text = LOADED + ('rule 1 QA1 close open M1_AA=3\nrelease QA1 close cases=2\n'
+                         'depends M1_AA=3\ndepends M1_AA=4..11 on M1_AA\n')
         found = read(text, KEYS)
         self.assertEqual(found.rules[0].case, Case({AA: ((3, 3),)}, (COMPUTED,)))
         self.assertEqual([case.kept for case in found.releases[0].cases], [(COMPUTED,), ('M1_AA',)])
@@ -93,8 +93,8 @@ class Answers(unittest.TestCase):
         found = read(ANSWER, KEYS)
         self.assertEqual([(it.name, it.way, it.state, it.kept) for it in found.lost], [
             ('QA1', 0, 'released', ()), ('QA1', 1, 'blocked', ()),
-            ('QC1', 0, 'hangs', ('t1', 'LOCK')), ('QC1', 1, 'released', ())])
-        one, = read(LOADED + 'lost QC1 open hangs by\n', KEYS).lost
+            ('QC1', 0, 'depends', ('t1', 'LOCK')), ('QC1', 1, 'released', ())])
+        one, = read(LOADED + 'lost QC1 open depends\n', KEYS).lost
         self.assertEqual(one.kept, (COMPUTED,))
         self.assertEqual(read(LOADED, KEYS).lost, [])
 
@@ -109,14 +109,16 @@ class Answers(unittest.TestCase):
                         '1 QA1 open broken QA1=', '1 QA1 open broken QA1=0..',
                         '1 QA1 open broken M1_AA=5..4', '1 QA1 open broken M1_AA=2147483648')),
                     LOADED + 'release QX open cases=0\n', LOADED + 'release QA1 shut cases=0\n',
-                    LOADED + 'release QA1 open cases=2\nQA1=0\n',
-                    LOADED + 'release QA1 open cases=1\nhangs QA1=0\n',
+                    LOADED + 'release QA1 open cases=2\nblocked QA1=0\n',
+                    LOADED + 'release QA1 open cases=1\nQA1=0\n',
+                    LOADED + 'release QA1 open cases=1\ndepends QA1=0 on\n',
+                    LOADED + 'release QA1 open cases=1\ndepends QA1=0 by t1\n',
                     LOADED + 'release QA1 open cases=1\nreleased QA1=0 by t1\n',
                     LOADED + 'release QA1 open cases=1\nreleased QA1=0 by\n',
                     LOADED + 'release QA1 open cases=1\nperhaps QA1=0\n',
                     LOADED + 'lost QX open released\n', LOADED + 'lost QA1 shut released\n',
                     LOADED + 'lost QA1 open\n', LOADED + 'lost QA1 open perhaps\n',
-                    LOADED + 'lost QA1 open hangs\n', LOADED + 'lost QA1 open hangs t1\n',
+                    LOADED + 'lost QA1 open depends on\n', LOADED + 'lost QA1 open depends t1\n',
                     LOADED + 'lost QA1 open blocked by t1\n',
                     LOADED + 'lost QA1 open released QA1=3\n',
                     LOADED + 'rule 1 QA1 open many\n\n'):
@@ -175,7 +177,7 @@ class Asking(Tools):
         rules = 'always QA1 open when VT_DEAD\nnever QC1 close when QA1 not open\n'
         printed = LOADED + ('rule 1 QA1 open holds cases=2\nrule 2 QC1 close broken QA1=0\n'
                             'lost QA1 open released\nlost QA1 close blocked\n'
-                            'lost QC1 open released\nlost QC1 close hangs by t1\n')
+                            'lost QC1 open released\nlost QC1 close depends on t1\n')
         found = self.call_tool('audit', *words, self.file('rules', rules), '--bayctl',
                                self.bayctl(printed, 4))
         self.assertEqual((found.status, found.out.splitlines()[:5]), (1, [
@@ -210,7 +212,7 @@ class Warned(Tools):
     def test_what_is_proved_of_releases(self):
         printed = LOADED + ''.join(f'release {name} {way} cases=0\n' for name, way in (
             ('QA1', 'open'), ('QA1', 'close'), ('QC1', 'open'))) + (
-            'release QC1 close cases=2\nQA1=1 VT_DEAD=1\nM1_AA=5 by t1\n')
+            'release QC1 close cases=2\nreleased QA1=1 VT_DEAD=1\ndepends M1_AA=5 on t1\n')
         found = asking.proved_of(Asking.bayctl(self, printed), 'bay', 'logic', FILE)
         self.assertEqual(found.never, {('QA1', 'opened'), ('QA1', 'closed'), ('QC1', 'opened')})
         self.assertEqual(found.points, {'QA1_POS', 'QA1_OPEN', 'QA1_CLOSED', 'VT_DEAD', 'M1_AA'})

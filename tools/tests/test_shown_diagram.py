@@ -60,7 +60,7 @@ class Reports(Tools):
         bay, rules = SINGLE, self.file('rules', 'never QB1 open when QA1 not open\n')
         printed = test_proving.LOADED + (
             'rule 1 QB1 open broken QA1=2\nrelease QB1 open cases=1\nreleased QC1=1\n'
-            'release QB1 close cases=1\nhangs QA1=1 by t1\n')
+            'release QB1 close cases=1\ndepends QA1=1 on t1\n')
         program = test_proving.Asking.bayctl(self, printed, 4)
         program.write_text(program.read_text().replace(
             'QA1=11 QC1=11', 'QA1=11 QB1=11 QB9=00 QC1=00 QC9=00').replace('* 40', '* 5000'))

@@ -174,17 +174,22 @@ timer-free names k words =
     named-free (codes "timer") k (slice_get names.timers k) refl
     (each-get IsWord names.timers k words.timers)
 
-kept-free : (names : Known) (kept : Kept) → AreWords names → IsFree (spec.kept_text names kept)
-kept-free names kept words =
-    free-append 10 (codes " by")
-    (flat_map (spec.slot_text names) kept.slots.items
-    ++ flat_map (spec.timer_text names) kept.timers.items)
-    refl
-    (free-append 10 (flat_map (spec.slot_text names) kept.slots.items)
-    (flat_map (spec.timer_text names) kept.timers.items)
+cond-free : (b : Bool) (rest : List ℕ) → IsFree rest → IsFree (cond b [] rest)
+cond-free true rest free = refl
+cond-free false rest free = free
+
+kept-free : (word : List ℕ) (names : Known) (kept : Kept) → IsFree word → AreWords names
+    → IsFree (spec.kept_text word names kept)
+kept-free word names kept plain words =
+    let slots : List ℕ = flat_map (spec.slot_text names) kept.slots.items in
+    let timers : List ℕ = flat_map (spec.timer_text names) kept.timers.items in
+    cond-free (length kept.slots.items == 0 && length kept.timers.items == 0)
+    (word ++ (slots ++ timers))
+    (free-append 10 word (slots ++ timers) plain
+    (free-append 10 slots timers
     (flat-all (spec.slot_text names) kept.slots.items (λ k. slot-free names k
     (slice_get names.points k) words (each-get (λ p. IsWord p.name) names.points k words.points)))
-    (flat-all (spec.timer_text names) kept.timers.items (λ k. timer-free names k words)))
+    (flat-all (spec.timer_text names) kept.timers.items (λ k. timer-free names k words))))
 
 -- ---- words
 
@@ -352,10 +357,12 @@ module _ (bay : Bay) (names : Known) (g : BoundProgram) (words : HasWords bay) (
       (ap (λ w. bytes_eq w (codes "holds"))
       (first-onto 98 (words_in (codes "roken" ++ spec.case_text bay case))))
   says-answer rule (answer.Open case kept) pairs among right =
-      says-other rule (codes "open" ++ (spec.case_text bay case ++ spec.kept_text names kept)) pairs
+      says-other rule
+      (codes "open" ++ (spec.case_text bay case ++ spec.kept_text (codes " by") names kept)) pairs
       (ap (λ w. bytes_eq w (codes "holds"))
       (first-onto 111
-      (words_in (codes "pen" ++ (spec.case_text bay case ++ spec.kept_text names kept)))))
+      (words_in
+      (codes "pen" ++ (spec.case_text bay case ++ spec.kept_text (codes " by") names kept)))))
   says-answer rule answer.TooMany pairs among right = says-other rule (codes "many") pairs refl
 
   held-free : (cases : ℕ) → IsFree (spec.held_text cases)
@@ -369,9 +376,10 @@ module _ (bay : Bay) (names : Known) (g : BoundProgram) (words : HasWords bay) (
   said-free (answer.Broken case) =
       free-append 10 (codes " broken") (spec.case_text bay case) refl (case-free bay case words)
   said-free (answer.Open case kept) =
-      free-append 10 (codes " open") (spec.case_text bay case ++ spec.kept_text names kept) refl
-      (free-append 10 (spec.case_text bay case) (spec.kept_text names kept) (case-free bay case words)
-      (kept-free names kept known))
+      let rest : List ℕ = spec.kept_text (codes " by") names kept in
+      free-append 10 (codes " open") (spec.case_text bay case ++ rest) refl
+      (free-append 10 (spec.case_text bay case) rest (case-free bay case words)
+      (kept-free (codes " by") names kept refl known))
   said-free answer.TooMany = refl
 
   way-free : (word id : List ℕ) (o : Operation) → IsFree word → IsWord id
@@ -455,13 +463,13 @@ module _ (bay : Bay) (names : Known) (g : BoundProgram) (words : HasWords bay) (
       (says-word pairs (codes "blocked" ++ spec.case_text bay case)
       (one-other 98 (words_in (codes "locked" ++ spec.case_text bay case)) refl))
   told-lines pairs case (told.Hangs kept) =
-      one-line (codes "hangs" ++ (spec.case_text bay case ++ spec.kept_text names kept))
-      (free-append 10 (codes "hangs") (spec.case_text bay case ++ spec.kept_text names kept) refl
-      (free-append 10 (spec.case_text bay case) (spec.kept_text names kept) (case-free bay case words)
-      (kept-free names kept known)))
-      (says-word pairs (codes "hangs" ++ (spec.case_text bay case ++ spec.kept_text names kept))
-      (one-other 104
-      (words_in (codes "angs" ++ (spec.case_text bay case ++ spec.kept_text names kept))) refl))
+      let rest : List ℕ = spec.case_text bay case ++ spec.kept_text (codes " on") names kept in
+      one-line (codes "depends" ++ rest)
+      (free-append 10 (codes "depends") rest refl
+      (free-append 10 (spec.case_text bay case) (spec.kept_text (codes " on") names kept)
+      (case-free bay case words) (kept-free (codes " on") names kept refl known)))
+      (says-word pairs (codes "depends" ++ rest)
+      (one-other 100 (words_in (codes "epends" ++ rest)) refl))
 
   flat-lines : {A : Type 0} (f : A → List ℕ) (pairs : List (Rule × Answer)) (xs : List A)
       → ((x : A) → AreLines (Says pairs) (f x)) → AreLines (Says pairs) (flat_map f xs)
@@ -519,7 +527,8 @@ module _ (bay : Bay) (names : Known) (g : BoundProgram) (words : HasWords bay) (
   lost-free told.Released = refl
   lost-free told.Refused = refl
   lost-free (told.Hangs kept) =
-      free-append 10 (codes " hangs") (spec.kept_text names kept) refl (kept-free names kept known)
+      free-append 10 (codes " depends") (spec.kept_text (codes " on") names kept) refl
+      (kept-free (codes " on") names kept refl known)
 
   lost-lines : (pairs : List (Rule × Answer)) (r : Release) (s : Option Switch)
       → Maybe (λ s. IsWord s.id) s → AreLines (Says pairs) (spec.switch_lost names r s)

@@ -121,9 +121,11 @@ slot_text names k = slot_of names k (slice_get names.points k)
 abbrev pub timer_text : Known → ℕ → List ℕ
 timer_text names k = named_text (codes "timer") k (slice_get names.timers k)
 
-abbrev pub kept_text : Known → Kept → List ℕ
-kept_text names kept =
-    codes " by" ++ (flat_map (slot_text names) kept.slots.items
+-- what an answer depends on, behind a word, where a name is known
+abbrev pub kept_text : List ℕ → Known → Kept → List ℕ
+kept_text word names kept =
+    if length kept.slots.items == 0 && length kept.timers.items == 0 then []
+    else word ++ (flat_map (slot_text names) kept.slots.items
     ++ flat_map (timer_text names) kept.timers.items)
 
 -- ---- answers
@@ -155,7 +157,7 @@ abbrev pub said_text : Bay → Known → Answer → List ℕ
 said_text bay names (answer.Holds cases) = held_text cases
 said_text bay names (answer.Broken case) = codes " broken" ++ case_text bay case
 said_text bay names (answer.Open case kept) =
-    codes " open" ++ (case_text bay case ++ kept_text names kept)
+    codes " open" ++ (case_text bay case ++ kept_text (codes " by") names kept)
 said_text bay names (answer.Since n cases) =
     held_text cases ++ (codes " by" ++ timer_text names n)
 said_text bay names answer.TooMany = codes " many"
@@ -177,12 +179,12 @@ is_passed (answer.Since n cases) = true
 
 -- ---- releases
 
--- a case in which a switch is released, in which it is not, or in which that hangs on what is kept
+-- a case in which a switch is released, in which it is not, or in which that depends on what is kept
 abbrev pub told_of : Bay → Known → List TestAnswer → CaseRelease → List ℕ
 told_of bay names case told.Released = codes "released" ++ case_text bay case
 told_of bay names case told.Refused = codes "blocked" ++ case_text bay case
 told_of bay names case (told.Hangs kept) =
-    codes "hangs" ++ case_text bay case ++ kept_text names kept
+    codes "depends" ++ case_text bay case ++ kept_text (codes " on") names kept
 
 abbrev pub told_text : Bay → Known → ToldCase → List ℕ
 told_text bay names c = told_of bay names c.case c.told ++ codes "\n"
@@ -209,11 +211,11 @@ release_text bay names r = switch_release bay names r (slice_get bay.switches r.
 
 -- ---- the process is lost
 
--- what is told of a release while the process is lost, and behind it what that hangs on
+-- what is told of a release while the process is lost, and behind it what that depends on
 abbrev pub lost_of : Known → CaseRelease → List ℕ
 lost_of names told.Released = codes " released"
 lost_of names told.Refused = codes " blocked"
-lost_of names (told.Hangs kept) = codes " hangs" ++ kept_text names kept
+lost_of names (told.Hangs kept) = codes " depends" ++ kept_text (codes " on") names kept
 
 abbrev pub lost_line : Known → List ℕ → Release → List ℕ
 lost_line names id r =

@@ -226,12 +226,21 @@ fn put_timer(text: &mut Vec<u8>, names: &KeptNames<'_>, timer: usize) -> Result<
     put_named(text, names.timers.as_slice(), timer, b"timer")
 }
 
-// Adds what a release hangs on: ` by` and the names of points, variables and timers.
-fn put_kept(text: &mut Vec<u8>, names: &KeptNames<'_>, kept: &Kept) -> Result<(), AllocError>
+// Adds what an answer depends on, where a name is known: a word, and the names of points, variables
+// and timers.
+fn put_kept(
+    text: &mut Vec<u8>,
+    word: &[u8],
+    names: &KeptNames<'_>,
+    kept: &Kept,
+) -> Result<(), AllocError>
     ensures { OnOk result
-        (text.new.items ≡ text.old.items ++ spec.kept_text names.now kept.now) }
+        (text.new.items ≡ text.old.items ++ spec.kept_text word.now names.now kept.now) }
 {
-    text.extend_from_slice(b" by")?;
+    if kept.slots.as_slice().is_empty() && kept.timers.as_slice().is_empty() {
+        return Ok(());
+    }
+    text.extend_from_slice(word)?;
     for slot in kept.slots.as_slice() {
         put_slot(text, names, *slot)?;
     }
@@ -307,7 +316,7 @@ fn put_said(
         Answer::Open { case, kept } => {
             text.extend_from_slice(b" open")?;
             put_case(text, bay, case)?;
-            put_kept(text, names, kept)
+            put_kept(text, b" by", names, kept)
         }
         Answer::Since { timer, cases } => {
             put_held(text, *cases)?;
@@ -377,8 +386,8 @@ fn put_told(
         CaseRelease::Released => put_word(text, bay, b"released", &told.case),
         CaseRelease::Refused => put_word(text, bay, b"blocked", &told.case),
         CaseRelease::Hangs(kept) => {
-            put_word(text, bay, b"hangs", &told.case)?;
-            put_kept(text, names, kept)
+            put_word(text, bay, b"depends", &told.case)?;
+            put_kept(text, b" on", names, kept)
         }
     }
 }
@@ -466,8 +475,8 @@ fn put_lost(
         CaseRelease::Released => text.extend_from_slice(b" released\n"),
         CaseRelease::Refused => text.extend_from_slice(b" blocked\n"),
         CaseRelease::Hangs(kept) => {
-            text.extend_from_slice(b" hangs")?;
-            put_kept(text, names, kept)?;
+            text.extend_from_slice(b" depends")?;
+            put_kept(text, b" on", names, kept)?;
             text.extend_from_slice(b"\n")
         }
     }

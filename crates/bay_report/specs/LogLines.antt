@@ -83,7 +83,7 @@ fault_words code =
     else if code == 64 then codes "the program is too long"
     else if code == 70 then codes "the name is unknown"
     else if code == 71 then codes "the name is declared twice"
-    else if code == 72 then codes "the type is not the one that is wanted"
+    else if code == 72 then codes "the type is not the one that is needed"
     else if code == 73 then codes "the result is not set"
     else if code == 74 then codes "the jump goes backward"
     else if code == 75 then codes "the label is unknown"

@@ -48,7 +48,7 @@ fn fault_words(code: u8) -> &'static [u8]
         64 => b"the program is too long",
         70 => b"the name is unknown",
         71 => b"the name is declared twice",
-        72 => b"the type is not the one that is wanted",
+        72 => b"the type is not the one that is needed",
         73 => b"the result is not set",
         74 => b"the jump goes backward",
         75 => b"the label is unknown",

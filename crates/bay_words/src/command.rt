@@ -11,10 +11,10 @@ use std::alloc::{AllocError, Global};
 
 // The version of the program, of its formats and of its fault numbers. CHANGELOG.md lists the
 // changes of each version.
-const VERSION: &str = "1.5.0";
+const VERSION: &str = "1.6.0";
 
 // What stands below the options of a command with a program.
-const WANTED: &str = "Exactly one of --logic and --image is wanted.";
+const WANTED: &str = "Exactly one of --logic and --image is needed.";
 
 // What an option takes: nothing, a text, or a number from the least to the greatest. A value has a
 // name in help.

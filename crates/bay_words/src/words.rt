@@ -355,7 +355,7 @@ fn usage_of(name: &str) -> &'static str {
 // Returns what is wrong with the options of a command, each of which `clap` accepts.
 fn wrong_options(found: &ArgMatches<'_>) -> &'static str {
     if program_from(found).is_none() {
-        return "exactly one of --logic and --image is wanted";
+        return "exactly one of --logic and --image is needed";
     }
     let tell = value_of(found, "tell");
     if matches!(tell, Some(word) if !is_releases(word)) {
@@ -382,7 +382,7 @@ fn wrong_options(found: &ArgMatches<'_>) -> &'static str {
 fn refused_options(alloc: Global, matches: &ArgMatches<'_>) -> WordsFault {
     let (wrong, usage) = match matches.subcommand() {
         Some((name, found)) => (wrong_options(found), usage_of(name)),
-        None => ("a command is wanted", "bayctl <COMMAND>"),
+        None => ("a command is needed", "bayctl <COMMAND>"),
     };
     match format!(in alloc;
         "error: {wrong}\n\nUsage: {usage}\n\nFor more information, try '--help'.\n"

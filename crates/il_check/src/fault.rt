@@ -16,7 +16,7 @@ pub enum CheckFault {
     #[error("the name is declared twice")]
     DuplicateName { line: usize },
     /// A type is not the required one, or a name does not mean what the instruction needs.
-    #[error("the type is not the one that is wanted")]
+    #[error("the type is not the one that is needed")]
     TypeMismatch { line: usize },
     /// The current result is used where it is not set.
     #[error("the result is not set")]
