@@ -18,6 +18,8 @@ use Rattle.il_image.specs.declared.opcode.Widening.TheVariants.{IntToDint, DintT
 use Rattle.il_image.specs.declared.value.Value.{Value}
 use Rattle.il_image.specs.declared.value.Value.TheVariants.{Short, Long, Wide}
 
+-- ---- own: widths, and what a width makes of a number
+
 -- the elementary type of a width
 abbrev pub type_of_width : Width → ElementaryType
 type_of_width width.Int = elementary.Int
@@ -34,6 +36,8 @@ bits_of width.Lint = w64
 abbrev pub wrap_to : Width → ℤ → ℤ
 wrap_to width z = int_wrap (bits_of width) z
 
+-- ---- IEC 61131-3 table 24: arithmetic
+
 -- the integer result: DIV rounds toward zero, and a MOD b is a - (a DIV b) * b
 abbrev pub exact : ArithmeticOperation → ℤ → ℤ → ℤ
 exact Add a b = a +ℤ b
@@ -42,7 +46,7 @@ exact Mul a b = a *ℤ b
 exact Div a b = int_div a b
 exact Mod a b = a -ℤ (int_div a b *ℤ b)
 
--- the result of an operation: the exact integer, reduced into the width
+-- the result of an operation: the exact integer, reduced into the width (own)
 abbrev pub computation_of : ArithmeticOperation → Width → ℤ → ℤ → ℤ
 computation_of operation width a b = wrap_to width (exact operation a b)
 
@@ -54,6 +58,8 @@ DividesBy Mul b = Unit {0}
 DividesBy Div b = b ≡ pos 0 → ⊥
 DividesBy Mod b = b ≡ pos 0 → ⊥
 
+-- ---- IEC 61131-3 table 28: comparisons
+
 -- the comparison of the numbers holds
 abbrev pub comparison_holds : Comparison → ℤ → ℤ → Bool
 comparison_holds Gt a b = int_lt b a
@@ -63,11 +69,15 @@ comparison_holds Ne a b = not (int_eq a b)
 comparison_holds Le a b = int_le a b
 comparison_holds Lt a b = int_lt a b
 
+-- ---- IEC 61131-3 table 26: logic
+
 -- AND, OR and XOR of two BOOLs
 abbrev pub logic_of : Connective → Bool → Bool → Bool
 logic_of And a b = a && b
 logic_of Or a b = a || b
 logic_of Xor a b = if a then not b else b
+
+-- ---- IEC 61131-3 table 22: conversions
 
 -- the value of the next wider type that has the same number
 abbrev pub wider_value : Widening → Value → Option Value

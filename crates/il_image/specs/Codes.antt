@@ -3,6 +3,8 @@ use Rattle.std.specs.Prelude.{ℕ, Option, Some, None}
 use Rattle.il_image.specs.declared.fault.ImageFault.{ImageFault}
 use Rattle.il_image.specs.declared.fault.ImageFault.TheVariants.{BadMagic, BadVersion, BadOpcode, Truncated, OutOfMemory}
 
+-- ---- own: numbers of faults
+
 -- the fault's number; want of memory has none
 abbrev pub code_of : ImageFault → Option ℕ
 code_of BadMagic = Some 80

@@ -9,6 +9,8 @@ use Rattle.il_image.specs.Octets.{AreOctets, number_octets, most_counted}
 use Rattle.il_image.specs.Reading.{instr_from}
 use Rattle.il_image.specs.Spelling.{spelling}
 
+-- ---- own: images that are cut short
+
 -- The version has the image, the initial value, the instruction: its spelling is read back.
 abbrev pub IsImageOf : Version → Image → Type 0
 IsImageOf version image = image_spelled (image_octets version image) ≡ Ok image

@@ -16,6 +16,8 @@ use Rattle.il_image.specs.declared.value.Value.{Value}
 use Rattle.il_image.specs.Images.{Image, is_name_octet, mark, value_size}
 use Rattle.il_image.specs.Reading.{Read, instr_from, known_value, number_at, octet_at, value_at}
 
+-- ---- own: the format of images (docs/IMAGE.md)
+
 -- the octets behind these, each of which has to be there
 abbrev pub behind : List ℕ → List ℕ → Result (List ℕ) ImageFault
 behind [] octets = Ok octets
@@ -164,7 +166,7 @@ pub record TakesMemory (octets : List ℕ) : Type 0 where
   pub begins : (behind mark octets >>= version_at) ≡ Ok (version, rest)
   pub counted : 2 ≤ length rest
 
--- ---- the first octet that is wrong
+-- ---- own: the first octet that is wrong
 
 -- The octets before it are cut short, and with it they are 82, whatever follows.
 pub record IsFirstBad (octets : List ℕ) : Type 0 where

@@ -24,6 +24,8 @@ use Rattle.il_image.specs.Arithmetic.{type_of_width}
 use Rattle.il_image.specs.Kinds.{is_within}
 use Rattle.il_image.specs.Machine.{divides, tells_equality}
 
+-- ---- own: what the verifier knows of cells
+
 -- what lies below a top that is within the wanted kind
 abbrev pub below : CellKind → List CellKind → Option (List CellKind)
 below wanted [] = None

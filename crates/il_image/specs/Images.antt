@@ -16,6 +16,8 @@ use Rattle.il_image.specs.Octets.{number_octets, signed_octets, most_counted}
 use Rattle.il_image.specs.Spelling.{IsInstr, spelling}
 use Rattle.il_image.specs.Values.{number_of, type_of, value_of}
 
+-- ---- own: the format of images (docs/IMAGE.md)
+
 -- the points that the code uses, its variables with their initial values, its timers, and its
 -- octets; slots are the points and then the variables
 pub record Image : Type 0 where
@@ -24,7 +26,7 @@ pub record Image : Type 0 where
   pub timers : List TimerKind
   pub code : List ℕ
 
--- ---- what an image keeps
+-- ---- own: what an image keeps
 
 -- Each item of the list has the property.
 abbrev pub Each : {A : Type 0} → (A → Type 0) → List A → Type 0
@@ -73,7 +75,7 @@ pub record IsImage (i : Image) : Type 0 where
   pub values : Each IsValue i.variables
   pub code : IsCode i.code
 
--- ---- the spelling
+-- ---- own: how an image is spelled
 
 -- the octet of a type
 abbrev pub type_octet : ElementaryType → ℕ

@@ -7,6 +7,8 @@ use Rattle.il_image.specs.declared.value.Value.{Value}
 use Rattle.il_image.specs.Arithmetic.{type_of_width}
 use Rattle.il_image.specs.Values.{number_of, type_of}
 
+-- ---- own: what the verifier knows of cells
+
 -- A number that is not zero is a number of its type, and each value is one of any kind.
 abbrev pub is_within : CellKind → CellKind → Bool
 is_within lower Any = true

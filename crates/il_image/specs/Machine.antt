@@ -24,6 +24,8 @@ use Rattle.il_image.specs.Places.{begun_at}
 use Rattle.il_image.specs.Timers.{after_call}
 use Rattle.il_image.specs.Values.{number_of, type_of}
 
+-- ---- own: the machine (docs/IMAGE.md)
+
 -- the place of the next instruction, the cells of the operand stack with the top first, the slots,
 -- and the timers
 pub record State : Type 0 where
@@ -48,8 +50,9 @@ pub data StepResult : Type 0 where
   Halts : StepResult
   Traps : Trap → StepResult
 
--- ---- the size of a machine: the most cells of its operand stack, and the most slots and timers
+-- ---- own: the size of a machine
 
+-- the most cells of its operand stack, and the most slots and timers
 abbrev pub most_cells : ℕ
 most_cells = 32
 
@@ -59,8 +62,9 @@ most_slots = 512
 abbrev pub most_timers : ℕ
 most_timers = 64
 
--- ---- what steps are made of; what an instruction wants is looked at in this order: slot or timer,
--- cells, kinds, divisor, room
+-- ---- own: what steps are made of
+
+-- What an instruction wants is looked at in this order: slot or timer, cells, kinds, divisor, room.
 
 -- goes on at a place, with these cells
 abbrev pub goes : ℕ → List Value → State → StepResult
@@ -157,7 +161,7 @@ is_comparable c a b =
     same_type (type_of a) (type_of b)
     && (not (same_type (type_of a) elementary.Bool) || tells_equality c)
 
--- ---- what each instruction does, with the place behind it
+-- ---- own: what each instruction does, with the place behind it
 
 -- The top goes.
 abbrev pub drops : ℕ → State → StepResult
@@ -263,7 +267,7 @@ act now (Timer Run n) next s = runs_timer now n next s
 act now (Timer LoadOutput n) next s = loads_output n next s
 act now (Timer LoadElapsed n) next s = loads_elapsed n next s
 
--- ---- a step, and a run
+-- ---- own: a step and a run of the machine
 
 -- the step of the instruction that was read, if one stands there
 abbrev pub turn_of : ℕ → Option (Instr × ℕ) → State → StepResult

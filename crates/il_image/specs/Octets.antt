@@ -6,6 +6,8 @@ use Rattle.bay_base.specs.declared.types.ElementaryType.TheVariants as elementar
 use Rattle.il_image.specs.declared.write.Size.{Size}
 use Rattle.il_image.specs.declared.write.Size.TheVariants.{One, Two, Four, Eight}
 
+-- ---- own: numbers in images
+
 -- each number of the list is an octet
 abbrev pub AreOctets : List ℕ → Type 0
 AreOctets octets = (i : ℕ) → slice_index octets i < 256

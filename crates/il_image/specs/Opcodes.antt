@@ -15,6 +15,8 @@ use Rattle.il_image.specs.declared.opcode.Opcode.TheVariants.{Halt, Push, Drop, 
 use Rattle.il_image.specs.declared.opcode.Version.{Version}
 use Rattle.il_image.specs.declared.opcode.Version.TheVariants.{One, Two}
 
+-- ---- own: the format of images (docs/IMAGE.md)
+
 -- the octet of an opcode
 abbrev pub octet_of : Opcode → ℕ
 octet_of Halt = 0x01

@@ -4,6 +4,8 @@ use Rattle.std.specs.Prelude.{ℕ, zero, suc, ◌≡◌, ◌<◌, ◌==◌, ◌&
 use Rattle.il_image.specs.declared.instr.Instr.{Instr}
 use Rattle.il_image.specs.Reading.{instr_at}
 
+-- ---- own: places of instructions
+
 -- the place behind the instruction at a place
 abbrev pub behind_place : List ℕ → Option ℕ → Option ℕ
 behind_place code None = None
@@ -18,7 +20,7 @@ place_of code (suc n) = behind_place code (place_of code n)
 abbrev pub IsPlace : List ℕ → ℕ → Type 0
 IsPlace code place = (place < length code) × ((n : ℕ) × (place_of code n ≡ Some place))
 
--- ---- the same as a test
+-- ---- own: places of instructions, as a test
 
 -- the place is this one
 abbrev pub is_there : Option ℕ → ℕ → Bool

@@ -20,6 +20,8 @@ use Rattle.il_image.specs.Opcodes.{is_known, opcode_of, width_of}
 use Rattle.il_image.specs.Spelling.{IsInstr, spelling}
 use Rattle.il_image.specs.Values.{value_of}
 
+-- ---- own: the format of images (docs/IMAGE.md)
+
 -- an item and the octets behind it, or the first fault
 abbrev pub Read : Type 0 → Type 0
 Read A = Result (A × List ℕ) ImageFault

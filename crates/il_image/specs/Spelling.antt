@@ -8,6 +8,8 @@ use Rattle.il_image.specs.Octets.{number_octets, signed_octets, size_of}
 use Rattle.il_image.specs.Opcodes.{octet_of, width_octet}
 use Rattle.il_image.specs.Values.{number_of, type_of, value_of}
 
+-- ---- own: the format of images (docs/IMAGE.md)
+
 -- the opcode of an instruction
 abbrev pub opcode_of_instr : Instr → Opcode
 opcode_of_instr Halt = opcode.Halt

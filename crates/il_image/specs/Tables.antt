@@ -13,11 +13,13 @@ use Rattle.il_image.specs.Reading.{instr_at}
 use Rattle.il_image.specs.Values.{type_of}
 use Rattle.il_image.specs.Machine.{most_cells}
 
+-- ---- own: what the verifier knows of code
+
 -- the types of the slots: the points, and then the variables
 abbrev pub slot_types : Image → List ElementaryType
 slot_types i = map (λ p. p.elementary) i.points ++ map type_of i.variables
 
--- ---- places
+-- ---- own: places that an instruction leads to
 
 -- The instruction goes on at this place, where the next one stands at that place.
 abbrev pub LeadsTo : Instr → ℕ → ℕ → Type 0
@@ -42,7 +44,7 @@ pub record IsSuccessor (code : List ℕ) (place to : ℕ) : Type 0 where
   pub here : instr_at code place ≡ Some (instr, next)
   pub leads : LeadsTo instr next to
 
--- ---- tables
+-- ---- own: tables of kinds
 
 -- the kinds on the stack before the instruction at each place
 abbrev pub Table : Type 0
@@ -80,7 +82,7 @@ pub record Agrees (image : Image) (table : Table) : Type 0 where
 abbrev pub HasTable : Image → Type 0
 HasTable image = (table : Table) × Agrees image table
 
--- ---- paths
+-- ---- own: paths through code
 
 -- a path of so many places, from place 0 to this one, each a successor of the one before
 abbrev pub Path : List ℕ → ℕ → ℕ → Type 0

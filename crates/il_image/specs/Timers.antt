@@ -6,6 +6,8 @@ use Rattle.il_image.specs.declared.timer.TimerState.{TimerState}
 use Rattle.bay_base.specs.declared.types.TimerKind.{TimerKind}
 use Rattle.bay_base.specs.declared.types.TimerKind.TheVariants.{OnDelay, OffDelay}
 
+-- ---- IEC 61131-3 table 38: timers
+
 -- a timer before its first call
 abbrev pub first_state : TimerKind → TimerState
 first_state kind =
@@ -45,7 +47,7 @@ after_call t m =
       elapsed = elapsed_of t.preset phase m;
     }
 
--- ---- lists of calls
+-- ---- own: lists of calls
 
 -- one call: IN, PT in milliseconds, and its moment
 pub record Call : Type 0 where
@@ -82,6 +84,8 @@ pub record LastRun (input : Bool) (calls : List Call) (first : Call) : Type 0 wh
   pub first_has : first.input ≡ input
   pub later_have : AllHave input later
   pub begins : IsBroken input before
+
+-- ---- IEC 61131-3 table 38: when PT has passed
 
 -- The last call has IN TRUE, and PT has passed by then since the first call of the unbroken run of
 -- IN TRUE.

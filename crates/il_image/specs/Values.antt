@@ -5,6 +5,8 @@ use Rattle.bay_base.specs.declared.types.ElementaryType.TheVariants as elementar
 use Rattle.il_image.specs.declared.value.Value.{Value}
 use Rattle.il_image.specs.declared.value.Value.TheVariants.{Truth, Short, Long, Wide, Span}
 
+-- ---- IEC 61131-3 table 10: elementary types
+
 -- the type of a value
 abbrev pub type_of : Value → ElementaryType
 type_of (Truth b) = elementary.Bool
@@ -13,7 +15,7 @@ type_of (Long z) = elementary.Dint
 type_of (Wide z) = elementary.Lint
 type_of (Span n) = elementary.Time
 
--- FALSE is 0 and TRUE is 1, and a TIME is its milliseconds
+-- FALSE is 0 and TRUE is 1, and a TIME is its milliseconds (own)
 abbrev pub number_of : Value → ℤ
 number_of (Truth b) = pos (if b then 1 else 0)
 number_of (Short z) = z
@@ -21,7 +23,7 @@ number_of (Long z) = z
 number_of (Wide z) = z
 number_of (Span n) = pos n
 
--- what a value of the type is where none is given: FALSE, 0, or T#0ms
+-- what a value of the type is where none is given: FALSE, 0, or T#0ms (IEC 61131-3, table 13)
 abbrev pub default_value : ElementaryType → Value
 default_value elementary.Bool = Truth false
 default_value elementary.Int = Short (pos 0)
@@ -29,7 +31,7 @@ default_value elementary.Dint = Long (pos 0)
 default_value elementary.Lint = Wide (pos 0)
 default_value elementary.Time = Span 0
 
--- the number is in the range, both ends too
+-- the number is in the range, both ends too (own)
 abbrev pub is_between : ℤ → ℤ → ℤ → Bool
 is_between low high z = int_le low z && int_le z high
 
@@ -39,7 +41,7 @@ truth_of (pos n) =
     if n == 0 then Some (Truth false) else (if n == 1 then Some (Truth true) else None)
 truth_of (negsuc n) = None
 
--- the values of TIME: 0 to 2,147,483,647 milliseconds
+-- the values of TIME: 0 to 2,147,483,647 milliseconds (own)
 abbrev pub span_of : ℤ → Option Value
 span_of (pos n) = if is_between (pos 0) (pos 0x7FFF_FFFF) (pos n) then Some (Span n) else None
 span_of (negsuc n) = None
