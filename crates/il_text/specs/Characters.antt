@@ -3,11 +3,13 @@ use Rattle.std.specs.Prelude.{ℕ, Bool, ◌&&◌, ◌||◌, ◌==◌}
 use Rattle.std.specs.Char.{is_ascii_digit, is_ascii_alphabetic, is_ascii_alphanumeric}
 use Rattle.std.specs.Str.{byte}
 
--- space and tab
+-- ---- own: which characters belong together
+
+-- space and tab (IEC 61131-3, 2.1.4)
 abbrev pub is_blank : ℕ → Bool
 is_blank x = x == byte " " || x == 9
 
--- the sign of a number
+-- the sign of a number (IEC 61131-3, B.1.2.1)
 abbrev pub is_sign : ℕ → Bool
 is_sign x = x == byte "+" || x == byte "-"
 
@@ -19,7 +21,7 @@ is_word x = is_ascii_alphanumeric x || (x == byte "_" || x == byte "#")
 abbrev pub begins_word : ℕ → Bool
 begins_word x = is_word x || is_sign x
 
--- a letter or `_`, with which names begin
+-- a letter or `_`, with which names begin (IEC 61131-3, B.1.1)
 abbrev pub begins_name : ℕ → Bool
 begins_name x = is_ascii_alphabetic x || x == byte "_"
 

@@ -3,6 +3,8 @@ use Rattle.std.specs.Prelude.{ℕ, Option, Some, None}
 use Rattle.il_text.specs.declared.fault.TextFault.{TextFault}
 use Rattle.il_text.specs.declared.fault.TextFault.TheVariants.{BadToken, BadLine, TooDeep, BadLiteral, TooLong, OutOfMemory}
 
+-- ---- own: numbers and lines of faults
+
 -- the fault's number; want of memory has none
 abbrev pub code_of : TextFault → Option ℕ
 code_of (BadToken line) = Some 60

@@ -7,6 +7,8 @@ use Rattle.il_text.specs.Tokens.{Symbol}
 use Rattle.il_text.specs.declared.form.Tail.{Tail}
 use Rattle.il_text.specs.declared.program.VariableScope.{VariableScope}
 
+-- ---- own: views of the code
+
 -- the declarations before, and one for each name of the list; `after_name` says that a comma or the
 -- end comes next
 unfoldable pub declared_from : ℕ → VariableScope → Tail → List Declared → Bool → List Symbol

@@ -3,6 +3,8 @@ use Rattle.std.specs.Prelude.{ℕ, ◌^◌, Option, option_map, min}
 use Rattle.il_text.specs.Literals.{Duration}
 use Rattle.il_text.specs.declared.literal.Duration as code
 
+-- ---- own: views of the code
+
 -- what is left of a duration in the code
 abbrev pub duration_view : code.Duration → Duration
 duration_view d = record { rest = d.rest.now; total = d.total; begun = d.begun }

@@ -5,6 +5,8 @@ use Rattle.std.specs.List.{flat_map, sum_by}
 use Rattle.bay_base.specs.Names.{same_name}
 use Rattle.il_text.specs.Literals.{number_of_part, milliseconds}
 
+-- ---- IEC 61131-3 B.1.2.3.1: durations
+
 -- the units of a duration, the greatest first
 pub data Unit : Type 0 where
   days : Unit
@@ -65,7 +67,7 @@ pub record IsDuration (octets : List ℕ) (ms : ℕ) : Type 0 where
   pub spelled : octets ≡ flat_map spelling (first ∷ more)
   pub summed : ms ≡ sum_by value (first ∷ more)
 
--- These octets have so many milliseconds exactly where they are a duration of as many.
+-- These octets have so many milliseconds exactly where they are a duration of as many (own).
 abbrev pub DurationsFall : Type 0
 DurationsFall = (octets : List ℕ) (ms : ℕ)
     → (milliseconds octets ≡ Some ms → IsDuration octets ms)

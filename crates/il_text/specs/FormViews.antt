@@ -14,6 +14,8 @@ use Rattle.il_text.specs.declared.form.Statement.TheVariants.{Plain, Open}
 use Rattle.il_text.specs.declared.program.Operand.{Operand}
 use Rattle.il_text.specs.declared.program.Operator.{Operator}
 
+-- ---- own: views of the code
+
 -- an operator with `(`, and the load of the operand behind it
 abbrev pub opened_parts : Operator → Bool → Option Operand → List LineContent
 opened_parts o n None = entering o n ∷ []

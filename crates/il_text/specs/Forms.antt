@@ -23,6 +23,8 @@ use Rattle.il_text.specs.declared.token.Mark.TheVariants as mark
 use Rattle.il_text.specs.declared.token.Mnemonic.{Mnemonic}
 use Rattle.il_text.specs.declared.token.Mnemonic.TheVariants as mnemonic
 
+-- ---- own: what a token is
+
 -- the literal that a token is
 abbrev pub literal_of : Symbol → Option Literal
 literal_of (literal value) = Some value
@@ -43,7 +45,7 @@ abbrev pub mnemonic_of : Symbol → Option Mnemonic
 mnemonic_of (mnemonic_word m) = Some m
 mnemonic_of other = None
 
--- `Q` and `ET`, in letters of either case
+-- `Q` and `ET`, in letters of either case (IEC 61131-3, table 37)
 unfoldable pub output_named : List ℕ → Option Output
 output_named w =
     if same_name w (codes "Q") then Some gives.Q
@@ -65,6 +67,8 @@ abbrev pub is_one : List Symbol → Bool
 is_one (s ∷ []) = true
 is_one other = false
 
+-- ---- IEC 61131-3 B.2.1: operands, arguments and instructions
+
 -- place ::= name | name "." ("Q" | "ET")
 unfoldable pub place : Form Place
 place =
@@ -75,13 +79,13 @@ place =
 unfoldable pub operand : Form OperandData
 operand = either (made constant (one literal_of)) (made variable place)
 
--- `IN` and `PT`, in letters of either case
+-- `IN` and `PT`, in letters of either case (IEC 61131-3, table 37)
 unfoldable pub input_named : List ℕ → Option Input
 input_named w =
     if same_name w (codes "IN") then Some input.In
     else (if same_name w (codes "PT") then Some input.Pt else None)
 
--- the input that a token names
+-- the input that a token names (own)
 abbrev pub input_of : Symbol → Option Input
 input_of s = option_and_then input_named (name_of s)
 
@@ -89,7 +93,7 @@ input_of s = option_and_then input_named (name_of s)
 unfoldable pub argument : Form (Input × OperandData)
 argument = behind input_of (λ k. after mark.Assign (made (λ x. (k, x)) operand))
 
--- the inputs are one
+-- the inputs are one (own)
 abbrev pub same_input : Input → Input → Bool
 same_input input.In input.In = true
 same_input input.In input.Pt = false
@@ -117,7 +121,7 @@ closed_arguments = made (λ p. p.0) (parted mark.Close arguments (nothing true))
 unfoldable pub call_action : Form Action
 call_action = behind name_of (λ timer. after mark.Open (made (call timer) closed_arguments))
 
--- an instruction alone on its line
+-- an instruction alone on its line (own)
 abbrev pub acts : Form Action → Form (List LineContent)
 acts = made (λ a. acting a ∷ [])
 
@@ -127,7 +131,7 @@ parenthesis o n =
     either (nothing (entering o n ∷ []))
     (made (λ x. entering o n ∷ acting (load false x) ∷ []) operand)
 
--- a `(` stands first
+-- a `(` stands first (own)
 abbrev pub begins_open : List Symbol → Bool
 begins_open [] = false
 begins_open (s ∷ ss) = is_mark mark.Open s
@@ -153,6 +157,8 @@ statement mnemonic.Call = acts call_action
 unfoldable pub instruction : Form (List LineContent)
 instruction = behind mnemonic_of statement
 
+-- ---- IEC 61131-3 B.1.4.3: declarations
+
 -- a type without and with an initial value
 abbrev pub plain_tail : DeclaredType → Tail
 plain_tail kind = record { kind = kind; initial = None }
@@ -160,7 +166,7 @@ plain_tail kind = record { kind = kind; initial = None }
 abbrev pub initial_tail : DeclaredType → Literal → Tail
 initial_tail kind value = record { kind = kind; initial = Some value }
 
--- two tokens
+-- two tokens (own)
 abbrev pub is_two : List Symbol → Bool
 is_two (s ∷ t ∷ []) = true
 is_two other = false
@@ -184,7 +190,9 @@ declared_names t ss = option_map (λ ns. declared_part ns t) (names_from false s
 unfoldable pub declaration : Form (List LineContent)
 declaration = made (λ p. declared_part p.0 p.1) (parted mark.Colon names tail)
 
--- the token is an operator
+-- ---- IEC 61131-3 B.2.1: labels
+
+-- the token is an operator (own)
 abbrev pub is_mnemonic : Symbol → Bool
 is_mnemonic s = is_some (mnemonic_of s)
 
@@ -193,7 +201,7 @@ unfoldable pub may_follow_label : List Symbol → Bool
 may_follow_label [] = true
 may_follow_label (m ∷ ss) = is_mnemonic m
 
--- the first token is a label
+-- the first token is a label (own)
 abbrev pub is_labelled : List Symbol → Bool
 is_labelled [] = false
 is_labelled (s ∷ []) = false
@@ -203,6 +211,8 @@ is_labelled (s ∷ c ∷ ss) = is_mark mark.Colon c && may_follow_label ss
 unfoldable pub label_parts : List ℕ → Form (List LineContent)
 label_parts n =
     either (nothing (labelling n ∷ [])) (made (λ ps. labelling n ∷ ps) instruction)
+
+-- ---- IEC 61131-3 B.1.4.3, B.1.5.3, B.2.1: lines
 
 -- a line that begins with a name: a label with what stands behind it, or a declaration
 unfoldable pub named_line : Form (List LineContent)
@@ -224,7 +234,7 @@ other_line (mnemonic_word m) = statement m
 other_line (mark_symbol mark.Close) = nothing (leaving ∷ [])
 other_line other = none
 
--- a name stands first
+-- a name stands first (own)
 abbrev pub begins_named : List Symbol → Bool
 begins_named [] = false
 begins_named (s ∷ ss) = is_some (name_of s)
@@ -237,6 +247,8 @@ whole_line = either (nothing []) (by begins_named named_line (behind (λ s. Some
 -- the parts of a line, where it has a form
 abbrev pub parts_of : List Symbol → Option (List LineContent)
 parts_of ts = whole_line.reads ts
+
+-- ---- own: lines without a form
 
 -- The parts that a line is read to are those that it spells; and a line that is read to none spells
 -- none.

@@ -10,9 +10,13 @@ use Rattle.il_text.specs.declared.program.Literal.{Literal}
 use Rattle.il_text.specs.declared.program.VariableScope.{VariableScope}
 use Rattle.il_text.specs.declared.program.VariableScope.TheVariants.{Local, External}
 
+-- ---- own: parts with their lines
+
 -- a part with the number of its line
 abbrev pub Numbered : Type 0
 Numbered = ℕ × LineContent
+
+-- ---- IEC 61131-3 B.1.4.3: declaration blocks
 
 -- name {"," name} ":" type [":=" literal] ";", with its line
 pub record Declaration : Type 0 where
@@ -60,6 +64,8 @@ may_declare External d = is_none d.initial
 -- each declaration of the block may stand in it
 abbrev pub is_allowed : Block → Bool
 is_allowed b = list_all (may_declare b.scope) b.declarations
+
+-- ---- IEC 61131-3 B.2.1: instructions in order
 
 abbrev mutual
   pub entry_parts : Entry → List Numbered
@@ -112,6 +118,8 @@ is_outer (label line name) = true
 is_outer (action line a) = true
 is_outer (block line operator negated es end) = is_parenthesis es
 
+-- ---- IEC 61131-3 B.1.5.3: a program
+
 -- text ::= "PROGRAM" name, {block}, {entry}, "END_PROGRAM"
 pub record Derives (ps : List Numbered) (program : PlainProgram) : Type 0 where
   pub first : ℕ
@@ -123,6 +131,8 @@ pub record Derives (ps : List Numbered) (program : PlainProgram) : Type 0 where
   pub declared : program.declarations ≡ flat_map block_declared blocks
   pub blocks_allowed : list_all is_allowed blocks ≡ true
   pub items_allowed : list_all is_outer program.items ≡ true
+
+-- ---- own: beginnings of programs, and lines of parts
 
 -- some parts after these make a program
 pub record CanGoOn (ps : List Numbered) : Type 0 where

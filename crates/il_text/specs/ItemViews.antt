@@ -15,6 +15,8 @@ use Rattle.il_text.specs.declared.program.Item.{Item, fold-Item}
 use Rattle.il_text.specs.declared.program.Item.TheOpen.{Item-F}
 use Rattle.il_text.specs.declared.program.Declaration.{Declaration}
 
+-- ---- own: views of the code
+
 -- a name, or an output of a timer
 abbrev pub place_of : SymbolicVariable → Place
 place_of (v.Name name) = named name.now

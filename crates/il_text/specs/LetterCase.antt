@@ -6,6 +6,8 @@ use Rattle.il_text.specs.Texts.{ReadsAs}
 use Rattle.il_text.specs.declared.fault.TextFault.{TextFault}
 use Rattle.il_text.specs.declared.program.Input.{Input}
 
+-- ---- own: a program with its names in upper case
+
 -- a name, or an output of a timer, in upper case
 abbrev pub upper_place : Place → Place
 upper_place (named n) = named (upper n)
@@ -68,7 +70,7 @@ upper_program (Ok l) = Ok (upper_listing l)
 upper_program (Err e) = Err e
 
 -- What a text reads as, its upper case reads as with the names in upper case; its fault is the
--- same. So letters may be spelled in either case.
+-- same. So letters may be spelled in either case (IEC 61131-3, 2.1.1).
 abbrev pub LettersMayBeRespelled : Type 0
 LettersMayBeRespelled = (text : List ℕ) (read : Result PlainProgram TextFault) → ReadsAs text read
     → ReadsAs (upper text) (upper_program read)

@@ -10,6 +10,8 @@ use Rattle.il_text.specs.declared.program.Conversion.{Conversion}
 use Rattle.il_text.specs.declared.program.Input.{Input}
 use Rattle.il_text.specs.declared.program.Output.{Output}
 
+-- ---- IEC 61131-3 B.2.1: instructions as plain data
+
 -- a name, or an output of the timer of that name
 pub data Place : Type 0 where
   named : List ℕ → Place
@@ -45,10 +47,12 @@ mutual
     no_entries : Entries
     entry : Entry → Entries → Entries
 
--- entries as those of a parenthesis
+-- entries as those of a parenthesis (own)
 abbrev pub entries_of : List Entry → Entries
 entries_of [] = no_entries
 entries_of (e ∷ es) = entry e (entries_of es)
+
+-- ---- IEC 61131-3 B.1.4.3, B.1.5.3: declarations and programs as plain data
 
 -- one declared name, with its line, its type and the initial value that the text gives
 pub record Declared : Type 0 where

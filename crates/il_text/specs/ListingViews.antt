@@ -6,6 +6,8 @@ use Rattle.il_text.specs.Views.{declared_of, entry_of}
 use Rattle.il_text.specs.declared.listing.Draft as code
 use Rattle.il_text.specs.declared.listing.Open.{Open}
 
+-- ---- own: views of the code
+
 -- an open parenthesis
 abbrev pub opened_of : Open → Opened
 opened_of f =

@@ -11,6 +11,8 @@ use Rattle.il_text.specs.declared.literal.LiteralFault.TheVariants.{Malformed, O
 use Rattle.il_text.specs.declared.program.Literal.{Literal}
 use Rattle.il_text.specs.declared.program.Literal.TheVariants.{Truth, Number, Int, Dint, Lint, Time}
 
+-- ---- IEC 61131-3 B.1.2.1: numbers and truth values
+
 -- an `_`, which may part digits
 abbrev pub is_underscore : ℕ → Bool
 is_underscore x = x == byte "_"
@@ -33,7 +35,7 @@ number radix ds =
     then Some (digits_value radix (filter (λ x. not (is_underscore x)) ds))
     else None
 
--- the parts before and after the first `#`
+-- the parts before and after the first `#` (own)
 unfoldable pub halves : List ℕ → Option (List ℕ × List ℕ)
 halves w =
     if nat_lt (position_or_len is_hash w) (length w)
@@ -88,7 +90,7 @@ number_value (Some (true, n)) =
 unfoldable pub plain_literal : Option Signed → Result Literal LiteralFault
 plain_literal z = number_value z >>= (λ value. Ok (Number value))
 
--- the number is in the range, both ends too
+-- the number is in the range, both ends too (own)
 abbrev pub is_between : ℤ → ℤ → ℤ → Bool
 is_between low high z = int_le low z && int_le z high
 
@@ -143,6 +145,8 @@ typed_dint w = typed_number w >>= dint_literal
 unfoldable pub typed_lint : List ℕ → Result Literal LiteralFault
 typed_lint w = typed_number w >>= (λ value. Ok (Lint value))
 
+-- ---- IEC 61131-3 B.1.2.3.1: durations
+
 -- what is left of a duration, its milliseconds so far, and whether a part was there
 pub record Duration : Type 0 where
   pub rest : List ℕ
@@ -195,7 +199,7 @@ parts w =
 unfoldable pub milliseconds : List ℕ → Option ℕ
 milliseconds w = option_and_then total_of (parts w)
 
--- a TIME is of 2,147,483,647 milliseconds at most
+-- a TIME is of 2,147,483,647 milliseconds at most (own)
 abbrev pub time_literal : Option ℕ → Result Literal LiteralFault
 time_literal None = Err Malformed
 time_literal (Some n) = if nat_le n 2147483647 then Ok (Time n) else Err OutOfRange
@@ -203,6 +207,8 @@ time_literal (Some n) = if nat_le n 2147483647 then Ok (Time n) else Err OutOfRa
 -- what stands behind `T#` or `TIME#`
 unfoldable pub typed_time : List ℕ → Result Literal LiteralFault
 typed_time w = time_literal (milliseconds w)
+
+-- ---- IEC 61131-3 B.1.2: literals
 
 -- a literal with something before its first `#`
 unfoldable pub prefixed_literal : List ℕ → List ℕ → Result Literal LiteralFault

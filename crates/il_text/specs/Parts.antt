@@ -6,6 +6,8 @@ use Rattle.il_text.specs.declared.program.Literal.{Literal}
 use Rattle.il_text.specs.declared.program.Operator.{Operator}
 use Rattle.il_text.specs.declared.program.VariableScope.{VariableScope}
 
+-- ---- IEC 61131-3 B.1.4.3, B.1.5.3, B.2.1: what stands on a line
+
 pub data LineContent : Type 0 where
   -- `PROGRAM name`
   heading : List ℕ → LineContent

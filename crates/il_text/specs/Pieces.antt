@@ -4,6 +4,8 @@ use Rattle.std.specs.Str.{byte}
 use Rattle.il_text.specs.Characters.{are_linked}
 use Rattle.bay_base.specs.Names.{same_name}
 
+-- ---- IEC 61131-3 2.1.5: comments
+
 -- the text begins with `(*`
 abbrev pub opens : List ℕ → Bool
 opens xs = slice_index xs 0 == byte "(" && slice_index xs 1 == byte "*"
@@ -17,7 +19,7 @@ unfoldable pub closes : List ℕ → Bool
 closes [] = false
 closes (x ∷ xs) = ends (x ∷ xs) || closes xs
 
--- what stands in the place of the opening of a comment that is not closed: it is no character
+-- what stands in the place of the opening of a comment that is not closed: it is no character (own)
 abbrev pub unclosed_comment : ℕ
 unclosed_comment = 256
 
@@ -38,6 +40,8 @@ without_comments inside (x ∷ y ∷ xs) =
     (if opens (x ∷ y ∷ xs) then (if closes xs then byte " " else unclosed_comment) ∷ byte " "
     ∷ without_comments true xs
     else x ∷ without_comments false (y ∷ xs))
+
+-- ---- own: pieces, the longest runs of characters that belong together
 
 -- Whether the character and the piece that directly follows it are one piece. A `&` takes the word
 -- `N` to itself, where it stands alone.

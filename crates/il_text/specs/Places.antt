@@ -1,6 +1,8 @@
 -- The number of a text's last line.
 use Rattle.std.specs.Prelude.{ℕ, ◌+◌, ◌&&◌, ◌==◌, nat_lt, if◌then◌else◌, List, [], ◌∷◌, length}
 
+-- ---- own: lines of a text
+
 -- Each line end that something follows begins another line.
 unfoldable pub last_line : List ℕ → ℕ
 last_line [] = 1

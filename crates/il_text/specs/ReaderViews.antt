@@ -10,6 +10,8 @@ use Rattle.il_text.specs.TokenViews.{symbols_of}
 use Rattle.il_text.specs.declared.fault.TextFault.{TextFault}
 use Rattle.il_text.specs.declared.read.Reader as code
 
+-- ---- own: views of the code
+
 -- the program that pieces make after the tokens of an unfinished line and what the lines before it
 -- reached
 unfoldable pub read_on : ℕ → Read → ℕ → List Symbol → List Piece → Result PlainProgram TextFault

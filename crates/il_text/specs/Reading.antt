@@ -13,6 +13,8 @@ use Rattle.il_text.specs.declared.fault.TextFault.TheVariants.{BadToken, BadLine
 use Rattle.il_text.specs.declared.listing.Stage.{Stage}
 use Rattle.il_text.specs.declared.listing.Stage.TheVariants as place
 
+-- ---- own: how a program is read line by line
+
 -- a piece in front of the first of the lines
 abbrev pub onto : Piece → List (List Piece) → List (List Piece)
 onto p [] = (p ∷ []) ∷ []

@@ -7,6 +7,8 @@ use Rattle.il_text.specs.Listing.{PlainProgram}
 use Rattle.il_text.specs.Texts.{ReadsAs}
 use Rattle.il_text.specs.declared.fault.TextFault.{TextFault}
 
+-- ---- IEC 61131-3 2.1.4, 2.1.5: blanks and comments
+
 -- whether a text ends within a comment, where it begins within one or not
 unfoldable pub ends_inside : Bool → List ℕ → Bool
 ends_inside inside [] = inside
@@ -27,6 +29,8 @@ BlanksMayBeRespelled =
     (before blanks others after : List ℕ) (read : Result PlainProgram TextFault)
     → ends_inside false before ≡ false → AreBlanks blanks → AreBlanks others
     → ReadsAs (before ++ (blanks ++ after)) read → ReadsAs (before ++ (others ++ after)) read
+
+-- ---- own: line ends
 
 -- whether a text ends with a CR
 abbrev pub ends_with_cr : List ℕ → Bool

@@ -6,6 +6,8 @@ use Rattle.il_text.specs.Pieces.{pieces, without_comments}
 use Rattle.il_text.specs.Characters.{are_linked}
 use Rattle.il_text.specs.Literals.{Signed}
 
+-- ---- own: what the code finds
+
 -- from start to end each character belongs to the one before it, and that at end, if there is one,
 -- does not
 pub record IsRun (bytes : List ℕ) (start end : ℕ) : Type 0 where

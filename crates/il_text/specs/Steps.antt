@@ -11,6 +11,8 @@ use Rattle.il_text.specs.declared.program.Operator.{Operator}
 use Rattle.il_text.specs.declared.program.VariableScope.{VariableScope}
 use Rattle.il_text.specs.declared.program.VariableScope.TheVariants.{Local, External}
 
+-- ---- own: how a program is read line by line
+
 -- an open parenthesis: its line, its operator, whether that is negated, and the items before it
 pub record Opened : Type 0 where
   pub line : ℕ

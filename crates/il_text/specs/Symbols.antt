@@ -15,7 +15,9 @@ use Rattle.il_text.specs.declared.program.Operator.TheVariants.{And}
 use Rattle.il_text.specs.declared.token.Mark.TheVariants as mark
 use Rattle.il_text.specs.declared.token.Mnemonic.TheVariants.{Combine}
 
--- a word that was read as a literal, or why it is none
+-- ---- IEC 61131-3 2.1.2, 2.1.3: names and reserved words
+
+-- a word that was read as a literal, or why it is none (own)
 abbrev pub literal_piece : Result Literal LiteralFault → Piece
 literal_piece (Ok value) = token (literal value)
 literal_piece (Err Malformed) = bad_token
@@ -30,7 +32,7 @@ name_or_reserved w None = if nat_le (length w) 64 then token (name w) else bad_t
 unfoldable pub plain_word : List ℕ → Piece
 plain_word w = name_or_reserved w (reserved_symbol w)
 
--- a word by whether a `#` parts it
+-- a word by whether a `#` parts it (own)
 abbrev word_by_halves : List ℕ → Option (List ℕ × List ℕ) → Piece
 word_by_halves w (Some h) = literal_piece (prefixed_literal h.0 h.1)
 word_by_halves w None =
@@ -41,6 +43,8 @@ word_by_halves w None =
 -- a name, a reserved word or a literal
 unfoldable pub word : List ℕ → Piece
 word w = word_by_halves w (halves w)
+
+-- ---- IEC 61131-3 annex C: marks
 
 -- the marks, and the operators `&` and `&N`
 unfoldable pub mark_of : List ℕ → Option Symbol
@@ -55,6 +59,8 @@ mark_of p =
     else if bytes_eq p (codes "&") then Some (mnemonic_word (Combine And false))
     else if same_name p (codes "&N") then Some (mnemonic_word (Combine And true))
     else None
+
+-- ---- own: pieces of a text
 
 -- a mark, or what is no token
 abbrev pub mark_piece : Option Symbol → Piece

@@ -13,6 +13,8 @@ use Rattle.il_text.specs.Tokens.{Symbol, Piece}
 use Rattle.il_text.specs.declared.fault.TextFault.{TextFault}
 use Rattle.il_text.specs.declared.fault.TextFault.TheVariants.{BadLine, TooDeep, TooLong}
 
+-- ---- own: which line is the first faulty one
+
 -- a line: its number, and its parts
 abbrev pub TextLine : Type 0
 TextLine = ℕ × List LineContent

@@ -5,6 +5,8 @@ use Rattle.il_text.specs.Tokens.{Symbol, name, mark_symbol}
 use Rattle.il_text.specs.declared.token.Mark.{Mark}
 use Rattle.il_text.specs.declared.token.Mark.TheVariants as mark
 
+-- ---- own: forms of tokens
+
 -- what tokens are read as, if anything, and what they spell
 pub record Form (A : Type 0) : Type 1 where
   pub reads : List Symbol → Option A
@@ -137,6 +139,8 @@ parted m f g = record {
 abbrev pub name_of : Symbol → Option (List ℕ)
 name_of (name n) = Some n
 name_of other = None
+
+-- ---- IEC 61131-3 B.1.4.3: lists of names
 
 -- name {"," name}, from a name on, or after one
 unfoldable pub names_from : Bool → List Symbol → Option (List (List ℕ))

@@ -6,6 +6,8 @@ use Rattle.il_text.specs.declared.token.Token.TheVariants as t
 use Rattle.il_text.specs.declared.lexeme.Lexeme.{Lexeme}
 use Rattle.il_text.specs.declared.lexeme.Lexeme.TheVariants as x
 
+-- ---- own: views of the code
+
 -- a token
 abbrev pub symbol_of : Token → Symbol
 symbol_of (t.Name n) = name n.now

@@ -6,6 +6,8 @@ use Rattle.il_text.specs.declared.token.Keyword.{Keyword}
 use Rattle.il_text.specs.declared.token.Mark.{Mark}
 use Rattle.il_text.specs.declared.token.Mnemonic.{Mnemonic}
 
+-- ---- IEC 61131-3 2.1: tokens
+
 -- a token: a name, a keyword, a type, a literal, an operator, or a mark
 pub data Symbol : Type 0 where
   name : List ℕ → Symbol
@@ -15,7 +17,7 @@ pub data Symbol : Type 0 where
   mnemonic_word : Mnemonic → Symbol
   mark_symbol : Mark → Symbol
 
--- a piece
+-- a piece (own)
 pub data Piece : Type 0 where
   blank : Piece
   line_end : Piece

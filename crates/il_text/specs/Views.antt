@@ -4,6 +4,8 @@ pub use Rattle.il_text.specs.ItemViews.{place_of, source_of, argument_of, argume
 use Rattle.il_text.specs.Listing.{PlainProgram}
 use Rattle.il_text.specs.declared.program.Program.{Program}
 
+-- ---- own: views of the code
+
 -- a program
 abbrev pub plain_program : Program → PlainProgram
 plain_program p =

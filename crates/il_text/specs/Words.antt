@@ -15,6 +15,8 @@ use Rattle.il_text.specs.declared.token.Keyword.TheVariants as keyword
 use Rattle.il_text.specs.declared.token.Mnemonic.TheVariants as mnemonic
 use Rattle.il_text.specs.Tokens.{Symbol, keyword_word, type_word, literal, mnemonic_word}
 
+-- ---- IEC 61131-3 annex C, table 52: reserved words
+
 -- the token of each reserved word
 abbrev pub symbol_of_word : ReservedWord → Symbol
 symbol_of_word word.Ld = mnemonic_word (mnemonic.Load false)
