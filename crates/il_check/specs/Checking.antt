@@ -9,6 +9,8 @@ use Rattle.il_check.specs.Program.{Checked}
 use Rattle.il_check.specs.WellTyped.{Progress, first, no_reach, items_faults, items_left}
 use Rattle.il_check.specs.declared.fault.CheckFault.{CheckFault}
 
+-- ---- own: faults, and the answer
+
 -- before the first item no jump goes to a label
 abbrev pub initial_standing : text.PlainProgram → Progress
 initial_standing program = first (map (λ l. no_reach) (labels_from 0 program.items))

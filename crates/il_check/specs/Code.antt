@@ -3,6 +3,8 @@ use Rattle.std.specs.Prelude.{ℕ, Option, Some, None}
 use Rattle.il_check.specs.declared.fault.CheckFault.{CheckFault}
 use Rattle.il_check.specs.declared.fault.CheckFault.TheVariants.{UnknownName, DuplicateName, TypeMismatch, UnsetResult, BackwardJump, UnknownLabel, Unreachable, ReadOnly, ZeroDivisor, TooMany, OutOfMemory}
 
+-- ---- own: numbers and lines of faults
+
 -- 70 to 79; want of memory has no number
 abbrev pub code_of : CheckFault → Option ℕ
 code_of (UnknownName line) = Some 70

@@ -5,6 +5,8 @@ use Rattle.il_check.specs.declared.typed.Variable.{Variable}
 use Rattle.il_check.specs.declared.typed.Timer.{Timer}
 use Rattle.il_check.specs.declared.typed.TypedItem.{TypedItem}
 
+-- ---- own: views of the code
+
 -- each in the order of the text
 pub record Contents : Type 0 where
   pub externals : List External

@@ -19,6 +19,8 @@ use Rattle.il_check.specs.declared.typed.External.{External}
 use Rattle.il_check.specs.declared.typed.Variable.{Variable}
 use Rattle.il_check.specs.declared.typed.Timer.{Timer}
 
+-- ---- own: views of the code
+
 -- how many are declared so far
 abbrev pub counts_in : Declarations → Counts
 counts_in d =

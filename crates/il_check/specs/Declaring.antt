@@ -30,18 +30,22 @@ use Rattle.il_check.specs.declared.given.Meaning.TheVariants as meaning
 use Rattle.il_check.specs.declared.fault.CheckFault.{CheckFault}
 use Rattle.il_check.specs.declared.fault.CheckFault.TheVariants.{UnknownName, DuplicateName, TypeMismatch, TooMany}
 
+-- ---- IEC 61131-3 2.4.3: declarations
+
 -- the declaration stands in a VAR_EXTERNAL block
 abbrev pub is_external : VariableScope → Bool
 is_external Local = false
 is_external External = true
 
--- an octet that may stand in a name, letters in either case
+-- an octet that may stand in a name, letters in either case (IEC 61131-3, 2.1.2)
 abbrev pub may_stand : ℕ → Bool
 may_stand octet = is_name_octet (to_ascii_uppercase octet)
 
--- 1 to 64 letters, digits and underscores
+-- 1 to 64 letters, digits and underscores (IEC 61131-3, 2.1.2)
 abbrev pub is_name : List ℕ → Bool
 is_name name = (nat_lt 0 (length name) && nat_le (length name) 64) && list_all may_stand name
+
+-- ---- own: points of the bay
 
 -- the first point with this name, letters in either case
 abbrev pub named_point : List Point → List ℕ → Option Point
@@ -51,7 +55,9 @@ named_point points name = find (λ p. same_name p.name name) points
 abbrev pub point_of : List Point → List ℕ → Option Point
 point_of points name = if is_name name then named_point points name else None
 
--- the value, if it is one of this type
+-- ---- IEC 61131-3 2.4.3.2: initial values
+
+-- the value, if it is one of this type (own)
 abbrev pub of_type : ElementaryType → Option Value → Option Value
 of_type kind None = None
 of_type kind (Some v) = if same_type (type_of v) kind then Some v else None
@@ -70,10 +76,12 @@ abbrev pub initial_in : ElementaryType → Option Literal → Option Value
 initial_in kind None = Some (default_value kind)
 initial_in kind (Some given) = literal_value kind given
 
--- the point has this type, if it is there
+-- the point has this type, if it is there (own)
 abbrev pub is_kind_of : Option Point → ElementaryType → Bool
 is_kind_of None kind = true
 is_kind_of (Some p) kind = same_type p.kind kind
+
+-- ---- IEC 61131-3 2.4.3.1: types
 
 -- an external has its point's type; a variable's literal fits it; a timer is no point
 abbrev pub is_typed : VariableScope → DeclaredType → Option Point → Option Literal → Bool
@@ -82,10 +90,12 @@ is_typed Local (Timer kind) point given = true
 is_typed External (Elementary kind) point given = is_kind_of point kind
 is_typed External (Timer kind) point given = is_none point
 
--- the program may write the point, if it is there
+-- the program may write the point, if it is there (own)
 abbrev pub is_writable : Option Point → Bool
 is_writable None = false
 is_writable (Some p) = p.writable
+
+-- ---- own: what is declared, in order, and what names mean
 
 -- the external that a name with a type and a point is
 abbrev pub external_at : List ℕ → ElementaryType → Option Point → Option given.External
@@ -180,6 +190,8 @@ names_in points program = record {
 abbrev pub is_full : Counts → DeclaredType → Bool
 is_full counts (Elementary kind) = nat_le most_slots (counts.externals + counts.variables)
 is_full counts (Timer kind) = nat_le most_timers counts.timers
+
+-- ---- own: faults of declarations
 
 -- the faults of a declaration, of which it is known whether its name is declared before, and
 -- whether it is one too many

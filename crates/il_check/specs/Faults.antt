@@ -4,6 +4,8 @@ use Rattle.std.specs.Prelude.{◌≡◌, Bool, false, ◌&&◌, ◌||◌, nat_lt
 use Rattle.il_check.specs.Code.{code_of, line_of}
 use Rattle.il_check.specs.declared.fault.CheckFault.{CheckFault}
 
+-- ---- own: which fault is answered
+
 -- the fault, where the test holds
 abbrev pub fault_if : Bool → CheckFault → List CheckFault
 fault_if test fault = if test then fault ∷ [] else []

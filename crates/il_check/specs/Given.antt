@@ -24,12 +24,14 @@ use Rattle.il_check.specs.declared.given.GivenArguments.TheVariants as arguments
 use Rattle.il_check.specs.declared.given.Resolved.{Resolved}
 use Rattle.il_check.specs.declared.given.Resolved.TheVariants.{Load, Store, Combine, Not, Convert, Jump, Return, Call}
 
+-- ---- own: instructions with what their names mean
+
 -- what the names of a program mean: of its variables and timers, and the numbers of its labels
 pub record ProgramNames : Type 0 where
   pub meaning : List ℕ → Option Meaning
   pub label : List ℕ → Option ℕ
 
--- the value of a literal that has a type, if its number is one of the type's
+-- the value of a literal that has a type, if its number is one of the type's (IEC 61131-3, 2.2.1)
 abbrev pub typed_value : Literal → Option Value
 typed_value (literal.Truth b) = Some (value.Truth b)
 typed_value (literal.Number z) = None
@@ -64,12 +66,13 @@ variable_given (Some (meaning.Variable slot kind writable)) =
     Known (record { operand = operand.Slot slot; kind = kind; writable = writable })
 variable_given (Some (meaning.Timer timer)) = Misused
 
--- Q is a BOOL, and ET a TIME
+-- Q is a BOOL, and ET a TIME (IEC 61131-3, table 37)
 abbrev pub output_type : Output → ElementaryType
 output_type output.Q = elementary.Bool
 output_type output.Et = elementary.Time
 
--- an output of the timer of a name, which may only be read; a variable has none
+-- an output of the timer of a name, which may only be read; a variable has none (IEC 61131-3,
+-- table 37)
 abbrev pub output_given : Option Meaning → Output → Given
 output_given None gives = Missing
 output_given (Some (meaning.Variable slot kind writable)) gives = Misused

@@ -33,7 +33,7 @@ use Rattle.il_check.specs.declared.typed.SimpleOperation.TheVariants as op
 use Rattle.il_check.specs.declared.typed.Transfer.{Transfer}
 use Rattle.il_check.specs.declared.typed.Transfer.TheVariants as go
 
--- ---- names of places
+-- ---- own: names of places
 
 -- the name of what stands in a slot
 abbrev pub slot_name : Checked → Slot → Option (List ℕ)
@@ -51,7 +51,7 @@ label_names (text.label line name ∷ es) = upper name ∷ label_names es
 label_names (text.action line a ∷ es) = label_names es
 label_names (text.block line operator negated items end ∷ es) = label_names es
 
--- ---- values
+-- ---- own: what is kept of values
 
 -- The value is that of the literal; of one that names a type, it has this type.
 abbrev pub IsValueOf : Literal → Value → Type 0
@@ -67,7 +67,7 @@ abbrev pub BeginsWith : Option Literal → Value → Type 0
 BeginsWith None v = number_of v ≡ pos 0
 BeginsWith (Some l) v = IsValueOf l v
 
--- ---- declarations
+-- ---- own: what is kept of declarations
 
 -- An external is the point of its name, with its type, its source, and whether it may be written.
 pub record IsExternalOf (points : List Point) (d : text.Declared) (kind : ElementaryType)
@@ -107,7 +107,7 @@ AreDeclared points [] es vs ts = (es ≡ []) × (vs ≡ []) × (ts ≡ [])
 AreDeclared points (d ∷ ds) es vs ts =
     IsDeclaredAs points d d.scope d.kind es vs ts (AreDeclared points ds)
 
--- ---- instructions
+-- ---- own: what is kept of instructions
 
 -- The operand is the literal's value, or what the text names.
 abbrev pub IsOperandOf : Checked → text.OperandData → TypedOperand → Type 0
@@ -152,7 +152,7 @@ IsTransferOf c labels (text.call timer args) (go.Call n xs) =
     (timer_name c n ≡ Some (upper timer)) × AreArgumentsOf c args xs
 IsTransferOf c labels a x = ⊥
 
--- ---- items
+-- ---- own: what is kept of items
 
 abbrev mutual
   -- The entry is that of the text; a parenthesis has the same operator and entries.

@@ -10,6 +10,8 @@ use Rattle.il_check.specs.WellTyped.{Progress, behind, is_first, type_behind, ty
 use Rattle.il_check.specs.declared.given.Resolved.{Resolved}
 use Rattle.il_check.specs.Limits.{most_labels, most_nested}
 
+-- ---- own: types of the current result
+
 -- the type of the current result at each label by its number, or none where it is unset
 abbrev pub Labelling : Type 0
 Labelling = ℕ → Option ElementaryType
@@ -18,7 +20,7 @@ Labelling = ℕ → Option ElementaryType
 abbrev pub Becomes : Option ElementaryType → Option ElementaryType → Type 0
 Becomes t u = (u ≡ t) ⊎ (u ≡ None)
 
--- ---- one instruction
+-- ---- own: types of the current result, at one instruction
 
 -- The instruction is right on a result of this type, where so many labels stand above it.
 pub record IsRight (passed : ℕ) (r : Resolved) (result : Option ElementaryType) : Type 0 where
@@ -55,7 +57,7 @@ abbrev mutual
       IsRightEntry names room passed e result
       × AreRightEntries names room passed es (type_behind names e result)
 
--- ---- the items
+-- ---- own: types of the current result, over the items
 
 -- what comes to a place: the type of the result, or nothing where no way leads there
 abbrev pub Coming : Type 0
@@ -149,7 +151,7 @@ Flows names labels (text.block line operator negated items end ∷ es) c =
 abbrev pub IsWellTyped : ProgramNames → List text.Entry → Type 0
 IsWellTyped names items = (labels : Labelling) × Flows names labels items beginning
 
--- ---- what comes behind items
+-- ---- own: types of the current result, behind items
 
 -- what comes of a result, if one comes
 abbrev pub with_result : (Option ElementaryType → Coming) → Coming → Coming

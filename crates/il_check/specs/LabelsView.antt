@@ -8,6 +8,8 @@ use Rattle.il_check.specs.NamesView.{with_value}
 use Rattle.il_check.specs.WellTyped.{no_reach}
 use Rattle.il_check.specs.declared.labels.Labels.{Labels}
 
+-- ---- own: views of the code
+
 -- the name and the number of an item, if it is a label
 abbrev pub label_in : ℕ → text.Entry → List (List ℕ × ℕ)
 label_in number (text.label line name) = (upper name, number) ∷ []

@@ -6,6 +6,8 @@ use Rattle.bay_base.specs.Names.{upper}
 use Rattle.il_check.specs.Given as spec
 use Rattle.il_check.specs.declared.names.ProgramNames.{ProgramNames}
 
+-- ---- own: views of the code
+
 -- names are looked up in upper case
 abbrev pub names_of : ProgramNames → spec.ProgramNames
 names_of n =

@@ -9,19 +9,19 @@ use Rattle.il_text.specs.declared.program.Operator.TheVariants.{And, Or, Xor, Ad
 -- On a result of the first type, with an operand of the second: the type of the new result. None is
 -- an operator that does not work on these.
 
--- AND, OR, XOR
+-- AND, OR, XOR (IEC 61131-3, table 26)
 abbrev pub logic : ElementaryType → ElementaryType → Option ElementaryType
 logic Bool Bool = Some Bool
 logic first second = None
 
--- ADD, SUB, MUL, DIV, MOD
+-- ADD, SUB, MUL, DIV, MOD (IEC 61131-3, table 24)
 abbrev pub arithmetic : ElementaryType → ElementaryType → Option ElementaryType
 arithmetic Int Int = Some Int
 arithmetic Dint Dint = Some Dint
 arithmetic Lint Lint = Some Lint
 arithmetic first second = None
 
--- GT, GE, LE, LT
+-- GT, GE, LE, LT (IEC 61131-3, table 28)
 abbrev pub order : ElementaryType → ElementaryType → Option ElementaryType
 order Int Int = Some Bool
 order Dint Dint = Some Bool
@@ -29,7 +29,7 @@ order Lint Lint = Some Bool
 order Time Time = Some Bool
 order first second = None
 
--- EQ, NE
+-- EQ, NE (IEC 61131-3, table 28)
 abbrev pub equality : ElementaryType → ElementaryType → Option ElementaryType
 equality Bool Bool = Some Bool
 equality Int Int = Some Bool
@@ -38,7 +38,7 @@ equality Lint Lint = Some Bool
 equality Time Time = Some Bool
 equality first second = None
 
--- each operator by its table
+-- each operator by its table (IEC 61131-3, table 52)
 abbrev pub result_type : Operator → ElementaryType → ElementaryType → Option ElementaryType
 result_type And first second = logic first second
 result_type Or first second = logic first second

@@ -13,6 +13,8 @@ use Rattle.il_check.specs.declared.typed.Slot.TheVariants as slot
 use Rattle.il_check.specs.declared.typed.Timer.{Timer}
 use Rattle.il_check.specs.declared.typed.Variable.{Variable}
 
+-- ---- own: places of names
+
 -- What is meant stands at its place among the externals, the variables or the timers, with this
 -- name in upper case.
 abbrev pub IsOwn : Checked → List ℕ → Meaning → Type 0

@@ -2,6 +2,8 @@
 use Rattle.il_check.specs.Contents.{Contents}
 use Rattle.il_check.specs.declared.program.Parts.{Parts}
 
+-- ---- own: views of the code
+
 -- vectors as lists
 abbrev pub parts_view : Parts → Contents
 parts_view p =

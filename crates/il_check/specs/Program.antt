@@ -8,6 +8,8 @@ use Rattle.il_check.specs.declared.typed.Timer.{Timer}
 use Rattle.il_check.specs.declared.typed.SimpleOperation.{SimpleOperation}
 use Rattle.il_check.specs.declared.typed.Transfer.{Transfer}
 
+-- ---- own: a checked program as plain data
+
 mutual
   -- an operation; an operator, the type of both sides, whether it is negated, and the entries in
   -- its parenthesis

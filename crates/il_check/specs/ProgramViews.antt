@@ -7,6 +7,8 @@ use Rattle.il_check.specs.declared.typed.TypedEntry.TheOpen.{TypedEntry-F}
 use Rattle.il_check.specs.declared.typed.TypedItem.{TypedItem}
 use Rattle.il_check.specs.declared.typed.TypedItem.TheVariants.{Label, Transfer, Entry}
 
+-- ---- own: views of the code
+
 -- one level of an entry, with each entry inside already seen
 abbrev pub entry_step : TypedEntry-F plain.Entry → plain.Entry
 entry_step (TypedEntry-F.Operation o) = plain.operation o

@@ -7,6 +7,8 @@ use Rattle.il_text.specs.Listing as text
 use Rattle.il_check.specs.Declaring.{counts_of, is_external, is_full, is_typed, names_in, point_of}
 use Rattle.il_check.specs.Labelling.{IsWellTyped}
 
+-- ---- IEC 61131-3 2.4.3: declarations
+
 -- A declaration is right behind others: an external's name is a point's; no name is declared twice;
 -- an external has its point's type, a literal fits its variable, and a timer is no point; and there
 -- are not too many.
@@ -22,6 +24,8 @@ abbrev pub AreRightDeclarations : List Point → List text.Declared → Type 0
 AreRightDeclarations points declared =
     (before : List text.Declared) (d : text.Declared) (after : List text.Declared)
     → declared ≡ before ++ d ∷ after → IsRightDeclaration points before d
+
+-- ---- IEC 61131-3 2.4.3, 3.2: programs
 
 -- Each declaration is right behind those before it; and there is a type of the current result, or
 -- none, for each label, with which each instruction is reached and right.

@@ -29,6 +29,8 @@ use Rattle.il_check.specs.declared.given.GivenArguments.TheVariants as arguments
 use Rattle.il_check.specs.declared.given.Resolved.{Resolved}
 use Rattle.il_check.specs.declared.given.Resolved.TheVariants.{Load, Store, Combine, Not, Convert, Jump, Return, Call}
 
+-- ---- own: operands of a type
+
 -- the value of a type that a number without a type stands for; no number is a TIME
 abbrev pub number_in : ElementaryType → ℤ → Option Value
 number_in elementary.Bool z = value_of elementary.Bool z
@@ -61,6 +63,8 @@ load_type Misused = None
 load_type (Known source) = Some source.kind
 load_type (Number z) = Some (own_type z)
 
+-- ---- own: types
+
 -- the type is BOOL
 abbrev pub is_boolean : ElementaryType → Bool
 is_boolean kind = same_type elementary.Bool kind
@@ -76,6 +80,8 @@ abbrev pub or_same : ElementaryType → Option ElementaryType → ElementaryType
 or_same kind None = kind
 or_same kind (Some given) = given
 
+-- ---- IEC 61131-3 3.2.2, table 52: what operators take and give
+
 -- an operator takes a type on both sides where its table has a row
 abbrev pub takes : Operator → ElementaryType → Bool
 takes operator kind = is_some (result_type operator kind kind)
@@ -84,7 +90,7 @@ takes operator kind = is_some (result_type operator kind kind)
 abbrev pub gives : Operator → ElementaryType → ElementaryType
 gives operator kind = or_same kind (result_type operator kind kind)
 
--- the operator divides by its operand
+-- the operator divides by its operand (own)
 abbrev pub divides : Operator → Bool
 divides Div = true
 divides Mod = true
@@ -111,6 +117,8 @@ is_conditional Always = false
 is_conditional IfTrue = true
 is_conditional IfFalse = true
 
+-- ---- IEC 61131-3 table 22: conversions
+
 -- the type of what a conversion takes
 abbrev pub converted_from : Conversion → ElementaryType
 converted_from IntToDint = elementary.Int
@@ -120,6 +128,8 @@ converted_from DintToLint = elementary.Dint
 abbrev pub converted_to : Conversion → ElementaryType
 converted_to IntToDint = elementary.Dint
 converted_to DintToLint = elementary.Lint
+
+-- ---- IEC 61131-3 table 37: inputs of timers
 
 -- the type of an input of a timer
 abbrev pub input_type : Input → ElementaryType
@@ -136,11 +146,13 @@ arguments_fit arguments.None = true
 arguments_fit (arguments.One a) = argument_fits a
 arguments_fit (arguments.Two a b) = argument_fits a && argument_fits b
 
--- what is called is a timer
+-- what is called is a timer (own)
 abbrev pub is_timer : Called → Bool
 is_timer called.Missing = false
 is_timer called.Misused = false
 is_timer (called.Timer timer) = true
+
+-- ---- IEC 61131-3 3.2.2: the current result
 
 -- a value of this type, if there is one, may be loaded, negated or not
 abbrev pub may_load : Bool → Option ElementaryType → Bool
@@ -170,6 +182,8 @@ uses_result (Jump condition label) = is_conditional condition
 uses_result (Return condition) = is_conditional condition
 uses_result (Call called arguments) = false
 
+-- ---- own: what is wrong with a result
+
 -- some type passes the test
 abbrev pub any_type : (ElementaryType → Bool) → Bool
 any_type test =
@@ -185,6 +199,8 @@ is_wrong r (Some kind) = not (allows r kind)
 abbrev pub is_unset : Resolved → Option ElementaryType → Bool
 is_unset r result = uses_result r && is_none result
 
+-- ---- IEC 61131-3 3.2.2: the result behind an instruction, and behind a parenthesis
+
 -- the type of the result behind the instruction; none where it is unset
 abbrev pub type_after : Resolved → Option ElementaryType → Option ElementaryType
 type_after (Load negated given) result = load_type given
@@ -196,7 +212,7 @@ type_after (Jump condition label) result = result
 type_after (Return condition) result = result
 type_after (Call called arguments) result = None
 
--- what a parenthesis gives may have this type
+-- what a parenthesis gives may have this type (own)
 abbrev pub may_be : ElementaryType → Option ElementaryType → Bool
 may_be kind None = true
 may_be kind (Some inner) = same_type inner kind
@@ -204,6 +220,8 @@ may_be kind (Some inner) = same_type inner kind
 -- the operator of a parenthesis is right on a result of this type
 abbrev pub combines : Operator → Bool → Option ElementaryType → ElementaryType → Bool
 combines operator negated inner kind = works operator negated kind && may_be kind inner
+
+-- ---- own: what is wrong with an instruction
 
 -- no type that the result may have makes the operator of a parenthesis right
 abbrev pub combines_wrong : Operator → Bool → Option ElementaryType → Option ElementaryType → Bool
@@ -267,6 +285,8 @@ writes_fixed other = false
 abbrev pub may_divide_by_zero : Resolved → Bool
 may_divide_by_zero (Combine operator negated given is_nonzero) = divides operator && not is_nonzero
 may_divide_by_zero other = false
+
+-- ---- own: where an instruction leads
 
 -- what comes next in the text can be reached from the instruction
 abbrev pub goes_on : Resolved → Bool

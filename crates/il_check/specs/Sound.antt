@@ -8,6 +8,8 @@ use Rattle.il_check.specs.Checking.{checked_of}
 use Rattle.il_check.specs.Program.{Checked}
 use Rattle.il_check.specs.TypedProgram.{IsTyped}
 
+-- ---- own: what holds of each checked program
+
 -- the names of the slots: of the externals, then of the variables
 abbrev pub slot_names : Checked → List (List ℕ)
 slot_names c = map (λ e. e.name) c.externals ++ map (λ v. v.name) c.variables

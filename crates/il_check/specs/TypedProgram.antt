@@ -28,7 +28,7 @@ use Rattle.il_check.specs.declared.typed.Transfer.{Transfer}
 use Rattle.il_check.specs.declared.typed.Transfer.TheVariants as go
 use Rattle.il_check.specs.Limits.{most_labels, most_nested}
 
--- ---- what is read and written
+-- ---- own: what is read and written
 
 -- the type of the values in a slot, if there is the slot
 abbrev pub slot_type : Checked → Slot → Option ElementaryType
@@ -58,9 +58,10 @@ is_divisor (operand.Literal v) = not (int_eq (number_of v) (pos 0))
 is_divisor (operand.Slot s) = false
 is_divisor (operand.Output timer gives_what) = false
 
--- ---- operations, on a result of the first type, which leave one of the second; none is a result
--- that is not set
+-- ---- IEC 61131-3 3.2.2, table 52: operations
 
+-- An operation on a result of the first type leaves one of the second; none is a result that is not
+-- set.
 abbrev pub IsOperation : Checked → SimpleOperation → Option ElementaryType → Option ElementaryType
     → Type 0
 IsOperation c (op.Load negated x) t u =
@@ -90,7 +91,7 @@ abbrev mutual
   AreEntries c (entry e es) t u =
       (w : Option ElementaryType) × IsEntry c e t w × AreEntries c es w u
 
--- how deep parentheses stand within one another
+-- how deep parentheses stand within one another (own)
 abbrev mutual
   pub entry_depth : Entry → ℕ
   entry_depth (operation o) = 0
@@ -100,7 +101,7 @@ abbrev mutual
   entries_depth no_entries = 0
   entries_depth (entry e es) = max (entry_depth e) (entries_depth es)
 
--- ---- jumps, returns and calls
+-- ---- IEC 61131-3 3.2.2, table 52: jumps, returns and calls
 
 -- The argument has its input's type.
 abbrev pub IsArgument : Checked → TypedArgument → Type 0
@@ -118,7 +119,7 @@ Decides Always t = Unit {0}
 Decides IfTrue t = t ≡ Some elementary.Bool
 Decides IfFalse t = t ≡ Some elementary.Bool
 
--- one of the items is the label with this number
+-- one of the items is the label with this number (own)
 abbrev pub has_label : List ProgramItem → ℕ → Bool
 has_label [] number = false
 has_label (label n ∷ is) number = (n == number) || has_label is number
@@ -132,25 +133,25 @@ IsTransfer c below (go.Jump condition number) t =
 IsTransfer c below (go.Return condition) t = Decides condition t
 IsTransfer c below (go.Call timer args) t = (timer < length c.timers) × AreArguments c args
 
--- the label that a jump goes to
+-- the label that a jump goes to (own)
 abbrev pub target_of : Transfer → Option ℕ
 target_of (go.Jump condition number) = Some number
 target_of (go.Return condition) = None
 target_of (go.Call timer args) = None
 
--- what comes behind a jump or a return on a result of this type
+-- what comes behind a jump or a return on a result of this type (own)
 abbrev pub coming_behind_condition : Condition → Option ElementaryType → Coming
 coming_behind_condition Always t = None
 coming_behind_condition IfTrue t = Some t
 coming_behind_condition IfFalse t = Some t
 
--- what comes behind a jump, a return or a call
+-- what comes behind a jump, a return or a call (own)
 abbrev pub coming_behind_transfer : Transfer → Option ElementaryType → Coming
 coming_behind_transfer (go.Jump condition number) t = coming_behind_condition condition t
 coming_behind_transfer (go.Return condition) t = coming_behind_condition condition t
 coming_behind_transfer (go.Call timer args) t = Some None
 
--- ---- the items
+-- ---- own: types of the current result, over the items
 
 -- behind a jump, a return or a call on a result of this type
 abbrev pub behind_transfer : Transfer → Option ElementaryType → Carried → Carried

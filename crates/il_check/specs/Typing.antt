@@ -26,6 +26,8 @@ use Rattle.il_check.specs.declared.given.GivenArguments.TheVariants as arguments
 use Rattle.il_check.specs.declared.given.Resolved.{Resolved}
 use Rattle.il_check.specs.declared.given.Resolved.TheVariants.{Load, Store, Combine, Not, Convert, Jump, Return, Call}
 
+-- ---- own: what is left of an instruction
+
 -- a load of the operand, if there is one
 abbrev pub load_operation : Bool → Option TypedOperand → Option SimpleOperation
 load_operation negated None = None

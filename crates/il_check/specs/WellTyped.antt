@@ -17,6 +17,8 @@ use Rattle.il_check.specs.declared.fault.CheckFault.{CheckFault}
 use Rattle.il_check.specs.declared.fault.CheckFault.TheVariants.{UnknownName, DuplicateName, TypeMismatch, UnsetResult, BackwardJump, UnknownLabel, Unreachable, ReadOnly, ZeroDivisor, TooMany}
 use Rattle.il_check.specs.Limits.{most_labels, most_nested}
 
+-- ---- own: faults of instructions, and what is left of them
+
 -- the faults of what names mean and of types: in an instruction that can't be reached no type is
 -- judged
 abbrev pub typing_faults : Bool → ℕ → ℕ → Resolved → Option ElementaryType → List CheckFault
