@@ -3,6 +3,8 @@ use Rattle.std.specs.Prelude.{ℕ}
 use Rattle.bay_ber.specs.declared.fault.BerFault.{BerFault}
 use Rattle.bay_ber.specs.declared.fault.BerFault.TheVariants.{Truncated, Indefinite, LengthTooLong, TagTooLarge, BadContent}
 
+-- ---- own: numbers of faults
+
 abbrev pub code_of : BerFault → ℕ
 code_of Truncated = 1
 code_of Indefinite = 2

@@ -4,6 +4,8 @@ use Rattle.std.specs.Int.{w64}
 use Rattle.bay_ber.specs.declared.content.Bits.{Bits}
 use Rattle.bay_ber.specs.Octets.{number_of}
 
+-- ---- X.690 8.3: integers
+
 -- the number that octets spell in two's complement: bit 8 of the first is the sign (X.690 8.3.3)
 abbrev pub signed_of : List ℕ → ℤ
 signed_of [] = pos 0
@@ -18,6 +20,8 @@ pub record IsInteger (content : List ℕ) (value : ℤ) : Type 0 where
   pub few : length content ≤ 9
   pub is : value ≡ signed_of content
   pub fits : FitsSigned w64 value
+
+-- ---- X.690 8.6: bit strings
 
 -- Octets hold so many bits and at most 7 unused ones behind them, at most 2 ^ 64 - 8 bits in all.
 pub record HasBits (unused : ℕ) (octets : List ℕ) (count : ℕ) : Type 0 where
@@ -37,6 +41,8 @@ IsTruth (octet ∷ []) false = octet ≡ 0
 IsTruth (octet ∷ []) true = 0 < octet
 IsTruth content value = ⊥
 
+-- ---- own: views of the code
+
 -- a bit string without where its octets lie in memory
 pub record BitString : Type 0 where
   pub octets : List ℕ
@@ -46,7 +52,7 @@ pub record BitString : Type 0 where
 abbrev pub bits_of : Bits → BitString
 bits_of b = record { octets = b.octets.now; count = b.count }
 
--- ---- the value of a content, if it spells one, which the laws tie to the relations above
+-- ---- X.690 8.3: what integers are read as, which laws tie to the relation above
 
 -- whether a number is within 64 bits
 abbrev pub is_long : ℤ → Bool
@@ -62,6 +68,8 @@ is_integer content =
 abbrev pub integer_in : List ℕ → Option ℤ
 integer_in content = if is_integer content then Some (signed_of content) else None
 
+-- ---- X.690 8.6: what bit strings are read as, which laws tie to the relation above
+
 -- whether so many unused bits may stand behind octets
 unfoldable pub are_unused : ℕ → List ℕ → Bool
 are_unused unused octets =
@@ -74,6 +82,8 @@ bits_in [] = None
 bits_in (unused ∷ octets) =
     if are_unused unused octets
     then Some (record { octets = octets; count = 8 * length octets - unused }) else None
+
+-- ---- X.690 8.2: what truth values are read as, which laws tie to the relation above
 
 -- the truth value of a content
 abbrev pub truth_in : List ℕ → Option Bool

@@ -4,6 +4,8 @@ use Rattle.std.specs.Prelude.{◌≡◌, ◌⊎◌, Option, Some, None, Result, 
 use Rattle.bay_base.specs.Results.{◌>>=◌ as ◌>>◌}
 use Rattle.bay_ber.specs.Forms.{Form}
 
+-- ---- own: verdicts of layers
+
 -- what is answered; what is spelled so, and what is refused so
 pub record Verdict (A E : Type 0) : Type 1 where
   pub answers : Result A E

@@ -10,6 +10,8 @@ use Rattle.bay_ber.specs.declared.tag.Tag.{Tag}
 use Rattle.bay_ber.specs.Octets.{number_of}
 use Rattle.bay_ber.specs.Spelling.{IsTag, Spells}
 
+-- ---- own: what stands at the front of octets
+
 -- a value that was read, and the octets behind it, without where they lie in memory
 pub record Reading : Type 0 where
   pub tag : Tag
@@ -30,12 +32,12 @@ pub record Begins (octets : List ℕ) (r : Reading) : Type 0 where
 abbrev pub IsSpelled : List ℕ → Type 0
 IsSpelled octets = (r : Reading) × Begins octets r
 
--- A tag octet has 31 in its low five bits, and an octet of 128 or more follows it.
+-- A tag octet has 31 in its low five bits, and an octet of 128 or more follows it (X.690 8.1.2.4).
 abbrev pub HasLargeTag : List ℕ → Type 0
 HasLargeTag (first ∷ second ∷ octets) = (first % 32 ≡ 31) × (128 ≤ second)
 HasLargeTag octets = ⊥
 
--- A tag stands first, and then this octet in the length's place.
+-- A tag stands first, and then this octet in the length's place (X.690 8.1.3).
 pub record HasLengthOctet (octets : List ℕ) (octet : ℕ) : Type 0 where
   pub tag : Tag
   pub front : List ℕ
@@ -47,7 +49,7 @@ pub record HasLengthOctet (octets : List ℕ) (octet : ℕ) : Type 0 where
 abbrev pub IsIndefinite : List ℕ → Type 0
 IsIndefinite octets = HasLengthOctet octets 128
 
--- An octet above 0x84 stands there: more than four octets of length.
+-- An octet above 0x84 stands there: more than four octets of length (X.690 8.1.3.5).
 abbrev pub HasLongLength : List ℕ → Type 0
 HasLongLength octets = (octet : ℕ) × (132 < octet) × HasLengthOctet octets octet
 
@@ -58,7 +60,7 @@ pub record IsTruncated (octets : List ℕ) : Type 0 where
   pub no_long_length : HasLongLength octets → ⊥
   pub not_spelled : IsSpelled octets → ⊥
 
--- ---- reading from the left, which the laws tie to the relations above
+-- ---- X.690 8.1.2: tags, read from the left, which laws tie to the relations above
 
 -- the class, in bits 8 and 7 of the first tag octet (X.690 8.1.2.2)
 abbrev pub class_of : ℕ → Class
@@ -75,7 +77,7 @@ is_constructed first = (first / 32) % 2 == 1
 abbrev pub low_bits : ℕ → ℕ
 low_bits first = first % 32
 
--- a tag of two octets, behind its first
+-- a tag of two octets, behind its first (X.690 8.1.2.4)
 abbrev pub second_at : ℕ → List ℕ → Result (Tag × List ℕ) BerFault
 second_at first [] = Err Truncated
 second_at first (second ∷ octets) =
@@ -97,6 +99,8 @@ tag_at (first ∷ octets) =
       octets,
     )
 
+-- ---- X.690 8.1.3: lengths, read from the left
+
 -- the length at the front, and the octets behind it
 unfoldable pub length_at : List ℕ → Result (ℕ × List ℕ) BerFault
 length_at [] = Err Truncated
@@ -106,6 +110,8 @@ length_at (first ∷ octets) =
     else (if nat_lt 132 first then Err LengthTooLong
     else (if nat_lt (length octets) (first - 128) then Err Truncated
     else Ok (number_of (take (first - 128) octets), drop (first - 128) octets))))
+
+-- ---- X.690 8.1.1: values, read from the left
 
 -- the value at the front, and the octets behind it
 unfoldable pub tlv_at : List ℕ → Result Reading BerFault

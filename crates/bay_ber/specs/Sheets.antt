@@ -4,6 +4,8 @@ use Rattle.bay_base.specs.Options.{◌>>=◌}
 use Rattle.bay_ber.specs.declared.tag.Tag.{Tag}
 use Rattle.bay_ber.specs.Writing.{length_octets, element}
 
+-- ---- own: what a writer holds
+
 -- A text of at most so many octets, or None where it would be longer, and the heads in front of it,
 -- which do not count.
 pub record Sheet : Type 0 where

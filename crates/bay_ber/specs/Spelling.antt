@@ -5,6 +5,8 @@ use Rattle.bay_ber.specs.declared.tag.Class.TheVariants.{Universal, Application,
 use Rattle.bay_ber.specs.declared.tag.Tag.{Tag}
 use Rattle.bay_ber.specs.Octets.{number_of}
 
+-- ---- X.690 8.1.2: tags
+
 -- bits 8 and 7 of the first tag octet (X.690 8.1.2.2)
 abbrev pub class_bits : Class → ℕ
 class_bits Universal = 0
@@ -39,7 +41,7 @@ IsLength (first ∷ second ∷ octets) n =
     (first ≡ 128 + length (second ∷ octets)) × (length (second ∷ octets) ≤ 4)
     × (n ≡ number_of (second ∷ octets))
 
--- The octets are a tag, a length and the content.
+-- The octets are a tag, a length and the content (X.690 8.1.1).
 pub record Spells (octets : List ℕ) (tag : Tag) (content : List ℕ) : Type 0 where
   pub front : List ℕ
   pub len : List ℕ

@@ -1,9 +1,11 @@
--- When two tags are one, and the tags that messages have (X.690 8.1.2.2, 8.4).
+-- When two tags are one, and the tags that messages have (X.690 8.1.2.2; X.680, table 1).
 use Rattle.std.specs.Prelude.{ℕ, Bool, true, false, ◌&&◌, ◌==◌}
 use Rattle.std.specs.Bool.{beq}
 use Rattle.bay_ber.specs.declared.tag.Class.{Class}
 use Rattle.bay_ber.specs.declared.tag.Class.TheVariants.{Universal, Application, ContextSpecific, Private}
 use Rattle.bay_ber.specs.declared.tag.Tag.{Tag}
+
+-- ---- own: when two tags are one
 
 -- Whether two classes are one.
 abbrev pub same_class : Class → Class → Bool
@@ -19,6 +21,8 @@ same_tag first second =
     same_class first.class second.class
     && (beq first.constructed second.constructed && (first.number == second.number))
 
+-- ---- X.690 8.1.2.2: context-specific tags
+
 -- the context-specific tag of a simple value
 abbrev pub context : ℕ → Tag
 context number = record { class = ContextSpecific; constructed = false; number = number }
@@ -26,6 +30,8 @@ context number = record { class = ContextSpecific; constructed = false; number =
 -- the context-specific tag of a value that is made of values
 abbrev pub constructed : ℕ → Tag
 constructed number = record { class = ContextSpecific; constructed = true; number = number }
+
+-- ---- X.680 table 1: universal tags
 
 -- a sequence
 abbrev pub sequence : Tag

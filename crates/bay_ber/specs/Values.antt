@@ -10,6 +10,8 @@ use Rattle.bay_ber.specs.Reading.{Reading, Begins, IsSpelled, tlv_at}
 use Rattle.bay_ber.specs.Tags.{same_tag}
 use Rattle.bay_base.specs.Options.{◌>>=◌}
 
+-- ---- own: values one after another
+
 -- a tag and a content, without where they lie in memory
 pub record Part : Type 0 where
   pub tag : Tag
@@ -23,7 +25,7 @@ value tag content = record { tag = tag; content = content }
 abbrev pub part_of : Value → Part
 part_of v = record { tag = v.tag; content = v.content.now }
 
--- The octets are these values and nothing else, one after another.
+-- The octets are these values and nothing else, one after another (X.690 8.9, 8.10).
 abbrev pub SpellAll : List ℕ → List Part → Type 0
 SpellAll octets [] = octets ≡ []
 SpellAll octets (part ∷ parts) =
@@ -38,7 +40,7 @@ Next old (Ok (Some value)) new =
     Begins old (record { tag = value.tag; content = value.content.now; rest = new })
 Next old (Err fault) new = (new ≡ old) × (old ≡ [] → ⊥) × (IsSpelled old → ⊥)
 
--- ---- the values that octets are, which the laws tie to the relation above
+-- ---- own: the values that octets are, which the laws tie to the relation above
 
 -- the value at the front, without the octets behind it
 abbrev pub part_in : Reading → Part
@@ -61,7 +63,7 @@ values_within (suc most) (octet ∷ octets) =
     with_front (tlv_at (octet ∷ octets)) (values_within most)
 
 -- the values that the octets are, one after another; a value has at least two octets, so there are
--- fewer than octets
+-- fewer than octets (X.690 8.9, 8.10)
 unfoldable pub values_in : List ℕ → Option (List Part)
 values_in octets = values_within (length octets) octets
 
@@ -104,7 +106,7 @@ all_of f (part ∷ parts) = f part >>= λ x. all_of f parts >>= λ xs. Some (x �
 abbrev pub each_in : {B : Type 0} → (Part → Option B) → List ℕ → Option (List B)
 each_in f octets = values_in octets >>= all_of f
 
--- the content of a value that has this tag
+-- the content of a value that has this tag (X.690 8.14)
 abbrev pub under : Tag → Part → Option (List ℕ)
 under tag part = if same_tag part.tag tag then Some part.content else None
 

@@ -5,6 +5,8 @@ use Rattle.bay_ber.specs.declared.tag.Tag.{Tag}
 use Rattle.bay_ber.specs.Spelling.{octet_of}
 use Rattle.std.specs.Int.{w64, bytes_high_first, to_be_bytes, cast_unsigned}
 
+-- ---- X.690 8.1.3, 10.1: the shortest length
+
 -- how many octets a length needs behind the first
 abbrev pub octets_needed : ℕ → ℕ
 octets_needed n =
@@ -16,18 +18,22 @@ unfoldable pub length_octets : ℕ → List ℕ
 length_octets n =
     if nat_lt n 128 then n ∷ [] else (128 + octets_needed n) ∷ bytes_high_first (octets_needed n) n
 
--- a tag of one octet, the shortest length, and the content
+-- a tag of one octet, the shortest length, and the content (X.690 8.1.1)
 unfoldable pub element : Tag → List ℕ → List ℕ
 element tag content = octet_of tag ∷ (length_octets (length content) ++ content)
 
--- how many octets a value with so many octets of content takes
+-- how many octets a value with so many octets of content takes (own)
 abbrev pub element_length : ℕ → ℕ
 element_length count = if nat_lt count 128 then count + 2 else count + 2 + octets_needed count
+
+-- ---- X.690 8.2, 11.1: truth values
 
 -- TRUE is FF, and FALSE is 00.
 abbrev pub truth_octets : Bool → List ℕ
 truth_octets true = 255 ∷ []
 truth_octets false = 0 ∷ []
+
+-- ---- X.690 8.3: integers
 
 -- The first of two octets and bit 8 of the second are all zeros or all ones, so the first says
 -- nothing.
@@ -44,6 +50,8 @@ without_needless (first ∷ second ∷ octets) =
 -- an integer of 64 bits in two's complement, without needless octets
 abbrev pub integer_octets : ℤ → List ℕ
 integer_octets value = without_needless (to_be_bytes w64 (cast_unsigned w64 value))
+
+-- ---- X.690 8.6, 11.2: bit strings
 
 -- an octet with 0 in its unused bits, the lowest
 abbrev pub with_unused_clear : ℕ → ℕ → ℕ
