@@ -9,6 +9,8 @@ use Rattle.bay_transport.specs.declared.fed.Got.TheVariants.{More, Answer, Tsdu,
 use Rattle.bay_transport.specs.Frame.{front_of}
 use Rattle.bay_transport.specs.Doings.{Doing, Answers, Delivers, Ends, TransportConnection, Left, Going, Over, Run, run_of}
 
+-- ---- own: what the assembly of frames holds
+
 -- the octets of the unfinished group stand first in the buffer, and then the rest
 abbrev pub connection_of : Assembly → TransportConnection
 connection_of a = record { size = a.size; group = take a.group a.buffer.items }

@@ -3,6 +3,8 @@ use Rattle.std.specs.Prelude.{ℕ, Option, Some, None}
 use Rattle.bay_transport.specs.declared.fault.TransportFault.{TransportFault}
 use Rattle.bay_transport.specs.declared.fault.TransportFault.TheVariants.{BadTpkt, BadCotp, ClassRefused, TsduTooLong, Failed, OutOfMemory}
 
+-- ---- own: numbers of faults
+
 abbrev pub code_of : TransportFault → Option ℕ
 code_of BadTpkt = Some 10
 code_of BadCotp = Some 11

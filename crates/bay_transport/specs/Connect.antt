@@ -3,6 +3,8 @@ use Rattle.std.specs.Prelude.{ℕ, zero, suc, ◌+◌, ◌/◌, ◌%◌, ◌^◌
 use Rattle.bay_transport.specs.declared.fault.TransportFault.{TransportFault}
 use Rattle.bay_transport.specs.declared.fault.TransportFault.TheVariants.{BadCotp, ClassRefused}
 
+-- ---- X.224 13.2.3: parameters
+
 -- a parameter of a TPDU: its code and its value
 pub record Parameter : Type 0 where
   pub code : ℕ
@@ -38,7 +40,7 @@ parameters_behind (suc skipped) (x ∷ octets) = parameters_behind skipped octet
 abbrev pub parameters_of : List ℕ → Option (List Parameter)
 parameters_of octets = parameters_behind 0 octets
 
--- the first, or where there is none the other
+-- the first, or where there is none the other (own)
 abbrev pub or_else : Option (List ℕ) → Option (List ℕ) → Option (List ℕ)
 or_else (Some x) other = Some x
 or_else None other = other
@@ -48,6 +50,8 @@ abbrev pub last_value : ℕ → List Parameter → Option (List ℕ)
 last_value code [] = None
 last_value code (p ∷ ps) =
     or_else (last_value code ps) (if p.code == code then Some p.value else None)
+
+-- ---- X.224 13.3.4: the size of a TPDU
 
 -- The size of a TPDU in octets is 2 to the power of the parameter C0, which is 7 or more, and at
 -- most 2 ^ 13 (X.224 13.3.4); without the parameter it is 65,531, what a frame holds. A pair is the
@@ -59,6 +63,8 @@ size_of (Some (power ∷ [])) =
     if nat_lt power 7 then None else Some (Some (min power 13), 2 ^ min power 13)
 size_of (Some (power ∷ more ∷ octets)) = None
 
+-- ---- RFC 1006 6: frames
+
 -- what stands before a TPDU of so many octets in its frame: the version, a reserved octet and the
 -- frame's length (RFC 1006 6)
 abbrev pub frame_header : ℕ → List ℕ
@@ -67,6 +73,8 @@ frame_header count = 3 ∷ 0 ∷ ((count + 4) / 256) ∷ ((count + 4) % 256) ∷
 -- the frame of a TPDU
 abbrev pub frame_of : List ℕ → List ℕ
 frame_of tpdu = frame_header (length tpdu) ++ tpdu
+
+-- ---- X.224 13.4: the answer to a request
 
 -- the spelling of one parameter, where it is there
 abbrev pub where_there : ℕ → Option (List ℕ) → List ℕ
@@ -118,6 +126,8 @@ abbrev pub with_parameters : ℕ → ℕ → ℕ → Option (List Parameter)
 with_parameters number high low None = Err BadCotp
 with_parameters number high low (Some ps) =
     with_size number high low ps (size_of (last_value 0xC0 ps))
+
+-- ---- X.224 13.3: the request
 
 -- A length indicator counts the octets of its TPDU behind it: six and the parameters. 255 is
 -- reserved (X.224 13.2.1).

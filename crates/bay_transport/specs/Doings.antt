@@ -9,6 +9,8 @@ use Rattle.bay_transport.specs.declared.frame.Tpdu.TheVariants.{Request, Data, R
 use Rattle.bay_transport.specs.Frame.{tpdu_of, front_of, cut_of}
 use Rattle.bay_transport.specs.Connect.{Confirmation, connect}
 
+-- ---- own: what octets come to
+
 -- one thing that octets come to: a size of TPDUs is agreed, with the answer to the request for it;
 -- a TSDU; the end; a fault
 pub data Doing : Type 0 where
@@ -49,6 +51,8 @@ abbrev pub connect_effect : Result Confirmation TransportFault → TpduEffect
 connect_effect (Ok c) = Agrees c.size c.reply
 connect_effect (Err fault) = Refuses fault
 
+-- ---- X.224 13.7: data TPDUs
+
 -- A data TPDU whose data make the group this, and whose third octet is `mark`: at most 70,000
 -- octets are joined, and bit 8 of the mark stands on the last of a group (X.224 13.7).
 abbrev pub group_effect : ℕ → List ℕ → TpduEffect
@@ -66,6 +70,8 @@ data_effect connection indicator (mark ∷ octets) =
     else Refuses BadCotp)
     else Refuses BadCotp
 
+-- ---- X.224 13.2: TPDUs
+
 -- a TPDU of a kind, behind its code
 abbrev pub kind_effect : ℕ → TransportConnection → Tpdu → ℕ → List ℕ → TpduEffect
 kind_effect number connection Request indicator octets =
@@ -81,9 +87,11 @@ tpdu_effect number connection (indicator ∷ []) = Refuses BadCotp
 tpdu_effect number connection (indicator ∷ code ∷ octets) =
     kind_effect number connection (tpdu_of code) indicator octets
 
--- a frame holds its TPDU behind four octets
+-- a frame holds its TPDU behind four octets (RFC 1006 6)
 abbrev pub effect_of : ℕ → TransportConnection → List ℕ → TpduEffect
 effect_of number connection frame = tpdu_effect number connection (drop 4 frame)
+
+-- ---- own: what frames and octets come to in turn
 
 -- what a TPDU with this effect leaves
 abbrev pub connection_after : TpduEffect → TransportConnection → TransportConnection

@@ -10,6 +10,8 @@ use Rattle.bay_transport.specs.declared.transport.TransportState.TheVariants.{Op
 use Rattle.bay_transport.specs.Doings.{Doing, Answers, Delivers, Ends, Fails, Left, Going, Over, Broken, Stream, doings}
 use Rattle.bay_transport.specs.Assembly.{left_of, IsSound, HasNoRoom}
 
+-- ---- own: what is answered to a piece of a stream
+
 -- The octets that are taken do this and nothing else, and those before the last of them nothing.
 pub record CompletesDoing (s : Stream) (piece : List ℕ) (used : ℕ) (doing : Doing) : Type 0 where
   pub moves : 0 < used
@@ -98,7 +100,7 @@ end_of_stream s = record { number = s.number; left = Over }
 abbrev pub broken : Stream → Stream
 broken s = record { number = s.number; left = Broken }
 
--- ---- what the fields mean
+-- ---- own: what the fields mean
 
 -- what octets left: an assembly while octets are taken
 abbrev pub left_in : TransportState → Assembly → Left

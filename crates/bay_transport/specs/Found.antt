@@ -5,6 +5,8 @@ use Rattle.bay_transport.specs.declared.request.ParameterValues.{ParameterValues
 use Rattle.bay_transport.specs.declared.request.ConnectRequest.{ConnectRequest}
 use Rattle.bay_transport.specs.Connect.{parameters_of, last_value, answer_parameters}
 
+-- ---- own: what the code finds of a request
+
 -- what is found of a code once a parameter has been read
 abbrev pub found_then : ℕ → ℕ → List ℕ → Option (List ℕ) → Option (List ℕ)
 found_then wanted code value found = if code == wanted then Some value else found

@@ -5,7 +5,9 @@ use Rattle.bay_transport.specs.declared.frame.Front.TheVariants.{Begun, NoFrame,
 use Rattle.bay_transport.specs.declared.frame.Tpdu.{Tpdu}
 use Rattle.bay_transport.specs.declared.frame.Tpdu.TheVariants.{Request, Data, Release, Unknown}
 
--- the number of two octets, the high one first
+-- ---- RFC 1006 6: frames
+
+-- the number of two octets, the high one first (own)
 abbrev pub pair_of : ℕ → ℕ → ℕ
 pair_of high low = high * 256 + low
 
@@ -32,6 +34,8 @@ abbrev pub AreFrames : List (List ℕ) → Type 0
 AreFrames [] = Unit {0}
 AreFrames (frame ∷ frames) = IsFrame frame × AreFrames frames
 
+-- ---- own: whole frames and a rest
+
 -- lists joined end to end
 abbrev pub concatenation : List (List ℕ) → List ℕ
 concatenation [] = []
@@ -48,7 +52,7 @@ pub record IsCut (octets : List ℕ) (cut_of : Cut) : Type 0 where
   pub parts : octets ≡ concatenation cut_of.frames ++ cut_of.rest
   pub ended : (frame behind : List ℕ) → IsFrame frame → cut_of.rest ≡ frame ++ behind → ⊥
 
--- ---- cutting, which the law above ties to the frames
+-- ---- own: cutting, which the law above ties to the frames
 
 -- a frame whose length field says so many octets, of which so many have come
 abbrev pub of_length : ℕ → ℕ → Front
@@ -56,7 +60,7 @@ of_length frame have =
     if nat_lt frame 7 then NoFrame else (if nat_lt have frame then Begun else Whole frame)
 
 -- what stands at the front of the octets: a first octet other than 03 and a length below 7 begin no
--- frame
+-- frame (RFC 1006 6)
 abbrev pub front_of : List ℕ → Front
 front_of [] = Begun
 front_of (version ∷ []) = if version == 3 then Begun else NoFrame

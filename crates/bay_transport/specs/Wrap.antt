@@ -4,9 +4,13 @@ use Rattle.bay_transport.specs.Frame.{cut_of}
 use Rattle.bay_transport.specs.Connect.{frame_of}
 use Rattle.bay_transport.specs.Doings.{Delivers, Going, run_of}
 
+-- ---- X.224 13.7: data TPDUs
+
 -- a data TPDU in its frame: its third octet has bit 8 on the last of a TSDU
 abbrev pub data_frame : Bool → List ℕ → List ℕ
 data_frame is_last octets = frame_of (2 ∷ 0xF0 ∷ (if is_last then 0x80 else 0x00) ∷ octets)
+
+-- ---- X.224 6.3: segmenting
 
 -- so many data TPDUs that are full, and then the last
 abbrev pub data_frames : ℕ → ℕ → List ℕ → List ℕ
@@ -21,6 +25,8 @@ full_before room octets = (length octets - 1) / room
 -- A TPDU has three octets before its data.
 abbrev pub tpdus_of : ℕ → List ℕ → List ℕ
 tpdus_of size octets = data_frames (size - 3) (full_before (size - 3) octets) octets
+
+-- ---- own: what the octets sent carry
 
 -- each frame holds a TPDU of at most this size, behind four octets
 abbrev pub AreWithin : ℕ → List (List ℕ) → Type 0
