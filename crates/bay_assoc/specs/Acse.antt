@@ -8,6 +8,8 @@ use Rattle.bay_ber.specs.Values.{Part}
 use Rattle.bay_assoc.specs.Tags.{oid_tag, external_tag, application, mms_application}
 use Rattle.bay_assoc.specs.Presentation.{Carried, carried_parts}
 
+-- ---- ISO 8650-1 AARQ-apdu: the request for an association
+
 -- the application context of MMS
 abbrev pub application_of : List ℕ → Option (List ℕ)
 application_of name = if bytes_eq name mms_application then Some name else None
@@ -28,6 +30,8 @@ associate_parts = made (λ x. x.1.0) (next application_context (next information
 unfoldable pub associate : Form (List ℕ) Carried
 associate =
     one (under (application 0) (known (constructed 1 ∷ constructed 30 ∷ []) associate_parts))
+
+-- ---- ISO 8650-1 RLRQ-apdu: the request for a release
 
 -- the request for a release, whose content is not looked into (RLRQ-apdu)
 unfoldable pub release : Form (List ℕ) (List ℕ)

@@ -3,6 +3,8 @@ use Rattle.std.specs.Prelude.{ℕ, Option, Some, None}
 use Rattle.bay_assoc.specs.declared.fault.AssocFault.{AssocFault}
 use Rattle.bay_assoc.specs.declared.fault.AssocFault.TheVariants.{BadSession, BadPresentation, NoContext, BadAcse, OutOfPhase, PduSizeTooSmall, Failed, OutOfMemory}
 
+-- ---- own: numbers of faults
+
 -- 20 to 26, in the order of the faults
 abbrev pub code_of : AssocFault → Option ℕ
 code_of BadSession = Some 20

@@ -19,6 +19,8 @@ use Rattle.bay_assoc.specs.Presentation.{Carried, Connect, user_data, request}
 use Rattle.bay_assoc.specs.Acse.{associate, release}
 use Rattle.bay_assoc.specs.Texts.{accept_text, disconnect_text, user_text, connected_text, associated_text, release_text}
 
+-- ---- own: what is heard
+
 -- what is heard: a request for an association, with its answer; an MMS PDU; a request for a
 -- release, with its answer; or an abort
 pub data Hearing : Type 0 where
@@ -27,7 +29,7 @@ pub data Hearing : Type 0 where
   released : List ℕ → Hearing
   aborted : Hearing
 
--- ---- contexts
+-- ---- own: contexts that are accepted
 
 -- whether a number that was read is this identifier
 abbrev pub is_id : ℤ → ℕ → Bool
@@ -61,7 +63,7 @@ mms_value a c =
     if is_id c.id a.mms then Ok c.value
     else (if is_id c.id a.acse then Err fault.BadAcse else Err fault.NoContext)
 
--- ---- what is agreed
+-- ---- ISO 9506-2 InitiateResponsePDU: what is agreed
 
 -- at most 5 requests outstanding
 abbrev pub outstanding_of : ℤ → ℕ
@@ -83,12 +85,12 @@ agreed_of p = agreed_size p.size >> λ size. Some (record {
   parameters = p.parameters;
 })
 
--- the TSDU that answers a request
+-- the TSDU that answers a request (own)
 abbrev pub answer_text : Connect → Accepted → Agreed → List ℕ
 answer_text c a agreed =
     accept_text (connected_text c.called c.contexts a (associated_text a.mms (agreed_text agreed)))
 
--- ---- layer by layer
+-- ---- own: layer by layer
 
 -- What is agreed on with the contexts and the user data of a request for a connection: in the
 -- context of ACSE they carry a request for an association, and this in that of MMS an initiate.
@@ -102,14 +104,14 @@ agreement contexts user = do
   agreed ← told (or_fault fault.PduSizeTooSmall (agreed_of proposal))
   told (Ok (a, agreed))
 
--- a request for a connection
+-- a request for a connection (X.225, CN)
 unfoldable pub connection_request : List ℕ → Verdict (Hearing × Phase) AssocFault
 connection_request user = do
   r ← wanted fault.BadPresentation request user
   x ← agreement r.contexts r.user
   told (Ok (answer (answer_text r x.0 x.1), Open (record { contexts = x.0; size = x.1.size })))
 
--- a release, without user data, or with a request for it in the context of ACSE
+-- a release, without user data, or with a request for it in the context of ACSE (X.225, FN)
 unfoldable pub release_request : AssociationTerms → Option (List ℕ)
     → Verdict (Hearing × Phase) AssocFault
 release_request terms None = told (Ok (released (0x0A ∷ 0 ∷ []), Over))
@@ -119,7 +121,7 @@ release_request terms (Some user) = do
   content ← wanted fault.BadAcse release value
   told (Ok (released (disconnect_text (user_text terms.contexts.acse release_text)), Over))
 
--- data: in the context of MMS a PDU
+-- data: in the context of MMS a PDU (X.225, DT)
 unfoldable pub data_transfer : AssociationTerms → List ℕ → Verdict (Hearing × Phase) AssocFault
 data_transfer terms user = do
   c ← wanted fault.BadPresentation user_data user

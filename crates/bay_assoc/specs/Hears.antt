@@ -10,6 +10,8 @@ use Rattle.bay_assoc.specs.declared.hearing.Phase.TheVariants.{Open, Failed}
 use Rattle.bay_assoc.specs.Hearing.{hearing}
 use Rattle.bay_assoc.specs.Views.{hearing_of}
 
+-- ---- own: what a call answers
+
 -- what an open association has agreed on
 abbrev pub association_terms : Phase → Option AssociationTerms
 association_terms (Open terms) = Some terms

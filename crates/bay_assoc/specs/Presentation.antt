@@ -9,7 +9,7 @@ use Rattle.bay_ber.specs.Values.{Part}
 use Rattle.bay_assoc.specs.Tags.{oid_tag, set_tag, application, acse_syntax, mms_syntax, ber_syntax}
 use Rattle.bay_assoc.specs.declared.presentation.Context.{Context}
 
--- ---- the definition of contexts (Context-list)
+-- ---- ISO 8823-1 Context-list: the definition of contexts
 
 -- a transfer syntax: whether it is the Basic Encoding Rules
 unfoldable pub transfer_syntax : Form Part Bool
@@ -43,7 +43,7 @@ context_parts =
 unfoldable pub definition : Form Part Context
 definition = under sequence (fields context_parts)
 
--- whether a context has this identifier
+-- whether a context has this identifier (own)
 abbrev pub has_id : ℕ → List Context → Bool
 has_id id contexts = list_any (λ c. c.id == id) contexts
 
@@ -52,7 +52,7 @@ abbrev pub are_distinct : List Context → Bool
 are_distinct [] = true
 are_distinct (c ∷ contexts) = not (has_id c.id contexts) && are_distinct contexts
 
--- at most 16, and no two of one identifier
+-- at most 16, and no two of one identifier (own)
 abbrev pub few_contexts : List Context → Option (List Context)
 few_contexts contexts =
     if nat_lt 16 (length contexts) then None
@@ -62,7 +62,7 @@ few_contexts contexts =
 unfoldable pub definition_list : Form (List ℕ) (List Context)
 definition_list = such few_contexts (each definition)
 
--- ---- user data (User-data)
+-- ---- ISO 8823-1 User-data: user data
 
 -- a value, and the context that it is in
 pub record Carried : Type 0 where
@@ -72,18 +72,19 @@ pub record Carried : Type 0 where
 abbrev pub carried_by : Option (Unit {0}) × (ℤ × (List ℕ × Unit {0})) → Carried
 carried_by x = record { id = x.1.0; value = x.1.1.0 }
 
--- The parts of a PDV-list, and of an EXTERNAL (X.690 8.18): an object identifier that may be left
--- out and is not looked at, a context's identifier, and a value as a single ASN.1 type.
+-- The parts of a PDV-list, and of an EXTERNAL (ISO 8823-1, PDV-list; X.690 8.18): an object
+-- identifier that may be left out and is not looked at, a context's identifier, and a value as a
+-- single ASN.1 type.
 unfoldable pub carried_parts : Form (List Part) Carried
 carried_parts =
     made carried_by (maybe oid_tag anything
     (next (under int_tag integer) (next (under (constructed 0) octets) done)))
 
--- a value and its context (PDV-list)
+-- a value and its context (ISO 8823-1, PDV-list)
 unfoldable pub pdv_list : Form Part Carried
 pdv_list = under sequence (fields carried_parts)
 
--- one of them, fully encoded (Fully-encoded-data)
+-- one of them, fully encoded (ISO 8823-1, Fully-encoded-data)
 unfoldable pub user_part : Form Part Carried
 user_part = under (application 1) (one pdv_list)
 
@@ -91,7 +92,7 @@ user_part = under (application 1) (one pdv_list)
 unfoldable pub user_data : Form (List ℕ) Carried
 user_data = one user_part
 
--- ---- the request for a connection (CP-type)
+-- ---- ISO 8823-1 CP-type: the request for a connection
 
 -- what it has: the called selector, where it came, the contexts, and the user data
 pub record Connect : Type 0 where
@@ -99,7 +100,7 @@ pub record Connect : Type 0 where
   pub contexts : List Context
   pub user : Carried
 
--- a selector of at most 16 octets
+-- a selector of at most 16 octets (own)
 abbrev pub selector_of : List ℕ → Option (List ℕ)
 selector_of octets = if nat_lt 16 (length octets) then None else Some octets
 
@@ -127,7 +128,7 @@ abbrev pub mode_of : ℤ → Option ℤ
 mode_of (pos n) = if n == 1 then Some (pos n) else None
 mode_of (negsuc n) = None
 
--- the normal mode (Mode-selector)
+-- the normal mode (ISO 8823-1, Mode-selector)
 unfoldable pub mode : Form Part ℤ
 mode = under (constructed 0) (one (under (context 0) (such mode_of integer)))
 
@@ -146,6 +147,6 @@ cp parameters =
 abbrev pub request : Form (List ℕ) Connect
 request = cp normal
 
--- one whose parameters are not looked at
+-- one whose parameters are not looked at (own)
 abbrev pub request_mode : Form (List ℕ) Part
 request_mode = cp whole

@@ -4,20 +4,22 @@ use Rattle.std.specs.Prelude.{ℕ, zero, suc, ◌≡◌, ◌≢◌, ◌⊎◌, �
 use Rattle.bay_base.specs.Options.{◌>>=◌}
 use Rattle.bay_ber.specs.Forms.{Form, made, such}
 
+-- ---- X.225 8.2: units
+
 -- an identifier and the octets that the length behind it counts: an SPDU, a parameter or a group of
 -- parameters
 pub record Unit : Type 0 where
   pub identifier : ℕ
   pub content : List ℕ
 
--- ---- the units that octets are
+-- ---- X.225 8.2: the units that octets are
 
 -- a length behind its first octet 255: two octets, the higher first (X.225 8.2.5)
 abbrev pub long_size : List ℕ → Option (ℕ × List ℕ)
 long_size (high ∷ low ∷ octets) = Some (high * 256 + low, octets)
 long_size octets = None
 
--- a length, and the octets behind it
+-- a length, and the octets behind it (X.225 8.2.5)
 unfoldable pub size_at : List ℕ → Option (ℕ × List ℕ)
 size_at [] = None
 size_at (first ∷ octets) = if first == 255 then long_size octets else Some (first, octets)
@@ -35,11 +37,11 @@ unit_at (identifier ∷ octets) =
     counted_at octets >>= λ counted. Some
     (record { identifier = identifier; content = counted.0 }, counted.1)
 
--- units in front of others, where there are others
+-- units in front of others, where there are others (own)
 abbrev pub onto : List Unit → Option (List Unit) → Option (List Unit)
 onto front = option_map (λ units. front ++ units)
 
--- a unit in front of those behind it, where they are units
+-- a unit in front of those behind it, where they are units (own)
 abbrev pub with_front : Option (Unit × List ℕ) → (List ℕ → Option (List Unit)) → Option (List Unit)
 with_front (Some first) rest = onto (first.0 ∷ []) (rest first.1)
 with_front None rest = None
@@ -55,7 +57,7 @@ units_within (suc most) (octet ∷ octets) = with_front (unit_at (octet ∷ octe
 unfoldable pub units_in : List ℕ → Option (List Unit)
 units_in octets = units_within (length octets) octets
 
--- ---- how they are spelled
+-- ---- X.225 8.2: how they are spelled
 
 -- A length is one octet other than 255, or 255 and two octets, the higher first (X.225 8.2.5).
 abbrev pub IsSize : List ℕ → ℕ → Type 0
@@ -75,7 +77,7 @@ SpellUnits octets [] = octets ≡ []
 SpellUnits octets (u ∷ units) =
     (rest : List ℕ) × Leads octets u rest × SpellUnits rest units
 
--- ---- forms of units
+-- ---- own: forms of units
 
 -- units one after another
 abbrev pub units : Form (List ℕ) (List Unit)
@@ -111,19 +113,19 @@ through {A = A} f g = record {
   Spells = λ s y. (x : A) × f.Spells s x × g.Spells x y;
 }
 
--- ---- user data
+-- ---- X.225 8.3: user data
 
 -- whether a parameter is user data, of the code C1 (X.225 8.3.1)
 abbrev pub is_user : Unit → Bool
 is_user u = u.identifier == 0xC1
 
--- how often user data stand among parameters: not at all, once, or several times
+-- how often user data stand among parameters: not at all, once, or several times (own)
 pub data Users : Type 0 where
   missing : Users
   once : List ℕ → Users
   several : Users
 
--- how often they stand there, of units that are user data
+-- how often they stand there, of units that are user data (own)
 abbrev pub users_of : List Unit → Users
 users_of [] = missing
 users_of (u ∷ []) = once u.content
@@ -133,7 +135,7 @@ users_of (u ∷ v ∷ us) = several
 unfoldable pub parameters : Form (List ℕ) Users
 parameters = made (λ us. users_of (filter is_user us)) units
 
--- ---- SPDUs
+-- ---- X.225 8.3: SPDUs
 
 -- an SPDU: CONNECT (CN) with its user data, ACCEPT (AC), FINISH (FN) with its user data where they
 -- came, DISCONNECT (DN), ABORT (AB), or DATA TRANSFER (DT) behind a GIVE TOKENS, with its user data
@@ -179,6 +181,6 @@ spdu = record {
       ⊎ ((is_transfer octets ≡ false) × (through unit by_identifier).Spells octets s);
 }
 
--- what it is read as
+-- what it is read as (own)
 abbrev pub spdu_in : List ℕ → Option Spdu
 spdu_in octets = spdu.reads octets

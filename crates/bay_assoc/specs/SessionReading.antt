@@ -5,6 +5,8 @@ use Rattle.bay_assoc.specs.declared.session.Next.TheVariants as next
 use Rattle.bay_assoc.specs.Session.{Unit, onto, units_in, is_user, Users, missing, once, several}
 use Rattle.bay_assoc.specs.SessionViews.{unit_of}
 
+-- ---- own: units that are read in turn
+
 -- what was read next of the units in octets, and which octets are left
 abbrev pub NextUnit : List ℕ → Next → List ℕ → Type 0
 NextUnit old next.End new = units_in old ≡ Some []

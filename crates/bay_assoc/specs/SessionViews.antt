@@ -2,6 +2,8 @@
 use Rattle.bay_assoc.specs.declared.session.Unit as read
 use Rattle.bay_assoc.specs.Session.{Unit}
 
+-- ---- own: views of the code
+
 -- a unit that was read
 abbrev pub unit_of : read.Unit → Unit
 unit_of u = record { identifier = u.identifier; content = u.content.now }

@@ -6,6 +6,8 @@ use Rattle.bay_assoc.specs.declared.hearing.Heard.TheVariants.{Answer, Released}
 use Rattle.bay_assoc.specs.declared.hearing.Phase.{Phase}
 use Rattle.bay_assoc.specs.declared.hearing.Phase.TheVariants.{Open}
 
+-- ---- own: how long answers and PDUs are
+
 -- An open association has agreed on such a size.
 abbrev pub IsSized : Phase → Type 0
 IsSized (Open terms) = IsPduSize terms.size

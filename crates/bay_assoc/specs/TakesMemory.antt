@@ -5,6 +5,8 @@ use Rattle.bay_assoc.specs.declared.hearing.Phase.TheVariants.{Idle, Open}
 use Rattle.bay_assoc.specs.Presentation.{request_mode}
 use Rattle.bay_assoc.specs.Session.{Spdu, connect, finish}
 
+-- ---- own: which TSDUs take memory
+
 -- A request for a connection of the normal mode, which is answered.
 abbrev pub IsConnect : Spdu → Type 0
 IsConnect (connect user) = IsSome (request_mode.reads user)

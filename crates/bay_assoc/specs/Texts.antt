@@ -8,7 +8,7 @@ use Rattle.bay_assoc.specs.Tags.{oid_tag, set_tag, external_tag, application, mm
 use Rattle.bay_assoc.specs.declared.presentation.Context.{Context}
 use Rattle.bay_assoc.specs.declared.hearing.Accepted.{Accepted}
 
--- ---- session
+-- ---- X.225 8.2: session
 
 -- a length, of less than 65,536 octets
 abbrev pub size_text : ℕ → List ℕ
@@ -19,22 +19,22 @@ abbrev pub unit_text : ℕ → List ℕ → List ℕ
 unit_text identifier content = identifier ∷ (size_text (length content) ++ content)
 
 -- an ACCEPT: the protocol options without extended concatenation, version 2, and the duplex
--- functional unit; then user data
+-- functional unit; then user data (X.225, AC)
 abbrev pub accept_text : List ℕ → List ℕ
 accept_text user =
     unit_text 0x0E
     ((0x05 ∷ 0x06 ∷ 0x13 ∷ 0x01 ∷ 0x00 ∷ 0x16 ∷ 0x01 ∷ 0x02 ∷ 0x14 ∷ 0x02 ∷ 0x00 ∷ 0x02 ∷ [])
     ++ unit_text 0xC1 user)
 
--- a DISCONNECT with user data
+-- a DISCONNECT with user data (X.225, DN)
 abbrev pub disconnect_text : List ℕ → List ℕ
 disconnect_text user = unit_text 0x0A (unit_text 0xC1 user)
 
--- user data behind an empty GIVE TOKENS and the front of a DATA TRANSFER
+-- user data behind an empty GIVE TOKENS and the front of a DATA TRANSFER (X.225, DT)
 abbrev pub transfer_text : List ℕ → List ℕ
 transfer_text user = 1 ∷ 0 ∷ 1 ∷ 0 ∷ user
 
--- ---- presentation
+-- ---- ISO 8823-1 User-data: presentation
 
 -- a value in a context
 abbrev pub carried_text : Tag → ℕ → List ℕ → List ℕ
@@ -44,6 +44,8 @@ carried_text tag id value =
 -- fully encoded user data
 abbrev pub user_text : ℕ → List ℕ → List ℕ
 user_text id value = element (application 1) (carried_text sequence id value)
+
+-- ---- ISO 8823-1 Result-list: what comes of contexts
 
 -- What comes of a context: accepted (0) with the Basic Encoding Rules, or rejected by the provider
 -- (2).
@@ -56,6 +58,8 @@ result_text a c =
 abbrev pub results_text : Accepted → List Context → List ℕ
 results_text a [] = []
 results_text a (c ∷ contexts) = result_text a c ++ results_text a contexts
+
+-- ---- ISO 8823-1 CPA-PPDU: the answer to a request for a connection
 
 -- the selector of the one called, where it came
 abbrev pub selector_text : Option (List ℕ) → List ℕ
@@ -71,7 +75,7 @@ connected_text called contexts a value =
     (selector_text called ++
     (element (constructed 5) (results_text a contexts) ++ user_text a.acse value)))
 
--- ---- ACSE
+-- ---- ISO 8650-1 AARE-apdu: the answer to a request for an association
 
 -- the answer to a request for an association (AARE): the application context, accepted (0), by the
 -- service user without a reason, and user information
@@ -81,6 +85,8 @@ associated_text mms pdu =
     ++ (element (constructed 2) (0x02 ∷ 0x01 ∷ 0x00 ∷ [])
     ++ (element (constructed 3) (0xA1 ∷ 0x03 ∷ 0x02 ∷ 0x01 ∷ 0x00 ∷ [])
     ++ element (constructed 30) (carried_text external_tag mms pdu))))
+
+-- ---- ISO 8650-1 RLRE-apdu: the answer to a request for a release
 
 -- the answer to a request for a release (RLRE), of the reason normal (0)
 abbrev pub release_text : List ℕ

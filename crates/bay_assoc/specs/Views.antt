@@ -12,6 +12,8 @@ use Rattle.bay_assoc.specs.Session.{Users, missing, once, several, Spdu, connect
 use Rattle.bay_assoc.specs.Presentation.{Carried, Connect}
 use Rattle.bay_assoc.specs.Hearing.{Hearing, answer, mms, released, aborted}
 
+-- ---- own: views of the code
+
 -- how often user data stand among parameters
 abbrev pub users_of : UserData → Users
 users_of user.Missing = missing
