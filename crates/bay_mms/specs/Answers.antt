@@ -13,6 +13,8 @@ use Rattle.bay_mms.specs.declared.request.Request.{Request}
 use Rattle.bay_mms.specs.declared.fault.MmsFault.{MmsFault}
 use Rattle.bay_mms.specs.declared.fault.MmsFault.TheVariants.{BadPdu, UnknownService, TooMany, OutOfMemory}
 
+-- ---- own: what is answered, and which octets take memory
+
 -- whether no variable is named
 abbrev pub names_none : Result (List Naming) Refusal → Bool
 names_none (Ok []) = true

@@ -4,7 +4,9 @@ use Rattle.std.specs.Prelude.{ℕ, List, Option, Some, None, Ok, Err}
 use Rattle.bay_mms.specs.Requests.{Message, unknown, many}
 use Rattle.bay_mms.specs.Grammar.{request, front_id}
 
--- The octets ask the request.
+-- ---- own: what octets ask
+
+-- The octets ask the request (ISO 9506-2, MMSpdu).
 abbrev pub Asks : Message → List ℕ → Type 0
 Asks message octets = request.Spells octets (Ok message)
 

@@ -5,6 +5,8 @@ use Rattle.bay_mms.specs.declared.fault.MmsFault.TheVariants.{BadPdu, UnknownSer
 use Rattle.bay_mms.specs.declared.fault.DataAccessError.{DataAccessError}
 use Rattle.bay_mms.specs.declared.fault.DataAccessError.TheVariants.{ObjectAccessDenied, TypeInconsistent, ObjectNonExistent, ObjectValueInvalid}
 
+-- ---- own: numbers of faults
+
 -- The faults of requests have the numbers 30 to 32; want of memory has none.
 abbrev pub code_of : MmsFault → Option ℕ
 code_of (BadPdu id) = Some 30

@@ -7,6 +7,8 @@ use Rattle.bay_mms.specs.declared.shape.Shape.{Shape}
 use Rattle.bay_mms.specs.declared.fault.DataAccessError.{DataAccessError}
 use Rattle.bay_mms.specs.Controls.{Origin, Control, Operate}
 
+-- ---- own: views of the code
+
 -- an originator
 abbrev pub originating : origin.Origin → Origin
 originating o = record { or_cat = o.or_cat; or_ident = o.or_ident.now }

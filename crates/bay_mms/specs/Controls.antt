@@ -7,6 +7,8 @@ use Rattle.bay_mms.specs.declared.control.Check.{Check}
 use Rattle.bay_mms.specs.declared.fault.DataAccessError.{DataAccessError}
 use Rattle.bay_mms.specs.declared.fault.DataAccessError.TheVariants.{TypeInconsistent, ObjectValueInvalid}
 
+-- ---- IEC 61850-8-1 Oper, SBOw, Cancel: what a control is asked for
+
 -- who controls (IEC 61850-7-3, Originator): orCat and orIdent, in any range
 pub record Origin : Type 0 where
   pub or_cat : ℤ
@@ -25,13 +27,13 @@ pub record Operate : Type 0 where
   pub control : Control
   pub check : Check
 
--- ---- their data
+-- ---- IEC 61850-8-1 Oper, SBOw, Cancel: their data
 
 -- the octet with the two bits of Check
 abbrev pub check_octet : Check → ℕ
 check_octet c = (if c.synchrocheck then 0x80 else 0) + (if c.interlock_check then 0x40 else 0)
 
--- a structure of orCat and orIdent
+-- a structure of orCat and orIdent (IEC 61850-7-3, Originator)
 abbrev pub origin_datum : Origin → Datum
 origin_datum o = structure (datum (integer o.or_cat) (datum (octets o.or_ident) no_data))
 
@@ -63,7 +65,7 @@ pub record IsOperate (d : Datum) (o : Operate) : Type 0 where
   pub checks : AreChecks held o.check
   pub is : d ≡ structure (control_before o.control (datum (bits held 2) no_data))
 
--- ---- what data are read as
+-- ---- own: what simple data are read as
 
 -- the value of each kind, where data are of that kind
 abbrev pub truth_as : Datum → Option Bool
@@ -85,6 +87,8 @@ octets_as d = None
 abbrev pub moment_as : Datum → Option (List ℕ)
 moment_as (utc value) = Some value
 moment_as d = None
+
+-- ---- IEC 61850-8-1 Oper, SBOw, Cancel: what data are read as
 
 -- synchrocheck and interlock-check
 abbrev pub checks : Bool → Bool → Check
@@ -113,17 +117,17 @@ abbrev pub check_as : Datum → Option Check
 check_as (bits held count) = if count == 2 then first_check held else None
 check_as d = None
 
--- data one behind another, as a list
+-- data one behind another, as a list (own)
 abbrev pub list_of : Data → List Datum
 list_of no_data = []
 list_of (datum first later) = first ∷ list_of later
 
--- the parts, where data are a structure
+-- the parts, where data are a structure (own)
 abbrev pub parts_as : Datum → Option (List Datum)
 parts_as (structure parts) = Some (list_of parts)
 parts_as d = None
 
--- an originator out of its parts
+-- an originator out of its parts (IEC 61850-7-3, Originator)
 abbrev pub origin_of : List Datum → Option Origin
 origin_of (category ∷ identity ∷ []) = do
   cat ← integer_as category
@@ -131,7 +135,7 @@ origin_of (category ∷ identity ∷ []) = do
   Some (record { or_cat = cat; or_ident = ident })
 origin_of parts = None
 
--- the originator that data are
+-- the originator that data are (IEC 61850-7-3, Originator)
 unfoldable pub origin_as : Datum → Option Origin
 origin_as d = parts_as d >>= origin_of
 
@@ -167,7 +171,7 @@ cancel_as d = parts_as d >>= cancel_of
 unfoldable pub operate_as : Datum → Option Operate
 operate_as d = parts_as d >>= operate_of
 
--- ---- ranges
+-- ---- own: ranges of what a control is asked for
 
 -- from -128 to 127
 abbrev pub is_category : ℤ → Bool

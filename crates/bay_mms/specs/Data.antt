@@ -11,6 +11,8 @@ use Rattle.bay_ber.specs.Writing.{element, truth_octets, integer_octets, bit_str
 use Rattle.bay_ber.specs.Tags.{context, constructed}
 use Rattle.bay_mms.specs.Utc.{utc_octets}
 
+-- ---- ISO 9506-2 Data: data and their text
+
 mutual
   pub data Datum : Type 0 where
     structure : Data → Datum
@@ -44,7 +46,7 @@ abbrev mutual
   data_text no_data = []
   data_text (datum first later) = datum_text first ++ data_text later
 
--- ---- the data of a leaf
+-- ---- IEC 61850-8-1 BasicTypes: the data of a leaf
 
 -- the two bits of a position, or of a control's checks (IEC 61850-7-3, Dbpos)
 abbrev pub position_octet : Dbpos → ℕ

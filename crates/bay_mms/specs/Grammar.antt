@@ -18,7 +18,7 @@ use Rattle.bay_mms.specs.declared.fault.Refusal.TheVariants.{Bad, Unknown, Many}
 use Rattle.bay_mms.specs.declared.fault.MmsFault.{MmsFault}
 use Rattle.bay_mms.specs.declared.fault.MmsFault.TheVariants as fault
 
--- ---- names and variables
+-- ---- ISO 9506-2 ObjectName: names
 
 -- domain-specific: a domain, and an item of it
 unfoldable pub domain_parts : Form (List Part) (List ℕ × (List ℕ × Unit {0}))
@@ -30,6 +30,8 @@ name =
     choice (context 0) (made vmd octets)
     (choice (constructed 1) (made (λ x. domain x.0 x.1.0) (fields domain_parts))
     (under (context 2) (made association octets)))
+
+-- ---- ISO 9506-2 VariableAccessSpecification: variables
 
 abbrev pub is_there : Option (Unit {0}) → Bool
 is_there (Some x) = true
@@ -51,6 +53,8 @@ unfoldable pub access : Form Part Access
 access =
     choice (constructed 0) (made variables (each variable))
     (under (constructed 1) (made (λ n. named_list) (one name)))
+
+-- ---- own: which names are served
 
 -- whether of one of them only a part is asked for
 abbrev pub any_alternate : List VariableSpecification → Bool
@@ -77,7 +81,7 @@ abbrev pub names_asked : Option ℕ → Access → Result (List Naming) Refusal
 names_asked count named_list = Err Unknown
 names_asked count (variables vs) = counted_names count (map (λ v. v.name) vs) (any_alternate vs)
 
--- ---- data
+-- ---- ISO 9506-2 Data: data
 
 -- a moment; one that has not eight octets is none, and taken as it is
 abbrev pub moment : List ℕ → Datum
@@ -106,7 +110,7 @@ datum_at (suc depth) =
     choice (constructed 2)
     (made (λ ds. mms.structure (data_before ds mms.no_data)) (each (datum_at depth))) simple
 
--- ---- services
+-- ---- ISO 9506-2 GetNameList-Request: which names are asked for
 
 -- objectScope: vmdSpecific, domainSpecific or aaSpecific
 unfoldable pub scope : Form Part Place
@@ -133,11 +137,15 @@ listing_parts = next class_part (next scope_part (maybe (context 2) octets done)
 unfoldable pub listing : Form (List ℕ) Asking
 listing = made names_by (fields listing_parts)
 
+-- ---- ISO 9506-2 GetVariableAccessAttributes-Request: the type that is asked for
+
 -- GetVariableAccessAttributes-Request: by a name; by the name of a list it is not served
 unfoldable pub attributes_by : Form Part (Result Asking Refusal)
 attributes_by =
     choice (constructed 0) (made (λ n. Ok (attributes n)) (one name))
     (under (constructed 1) (made (λ n. Err Unknown) (one name)))
+
+-- ---- ISO 9506-2 Read-Request: variables that are read
 
 -- the variables that are read
 unfoldable pub reading : Access → Result Asking Refusal
@@ -148,6 +156,8 @@ reading vs = names_asked None vs >> λ ns. Ok (read ns)
 unfoldable pub read_parts : Form (List Part) (Option (Unit {0}) × (Access × Unit {0}))
 read_parts = maybe (context 0) anything (next (under (constructed 1) (one access)) done)
 
+-- ---- ISO 9506-2 Write-Request: variables that are written
+
 -- the variables that are written, and as many data
 unfoldable pub writing : Access × (List Datum × Unit {0}) → Result Asking Refusal
 writing x = names_asked (Some (length x.1.0)) x.0 >> λ ns. Ok (write ns x.1.0)
@@ -155,6 +165,8 @@ writing x = names_asked (Some (length x.1.0)) x.0 >> λ ns. Ok (write ns x.1.0)
 -- Write-Request: variableAccessSpecification and listOfData, each at most 10 deep
 unfoldable pub write_parts : Form (List Part) (Access × (List Datum × Unit {0}))
 write_parts = next access (next (under (constructed 0) (each (datum_at 10))) done)
+
+-- ---- ISO 9506-2 ConfirmedServiceRequest: services
 
 -- the service's tag is context-specific, and its number is of no service that is listed
 abbrev pub is_unlisted : Tag → Bool
@@ -177,7 +189,7 @@ service_request =
     (choice (constructed 5) (made writing (fields write_parts))
     (choice (constructed 6) (one attributes_by) (such unlisted whole)))))
 
--- ---- the request
+-- ---- ISO 9506-2 MMSpdu: the request
 
 -- an invoke id, of 32 bits
 abbrev pub id_of : ℤ → Option ℕ
@@ -188,11 +200,11 @@ id_of (negsuc n) = None
 unfoldable pub invoke_id : Form Part ℕ
 invoke_id = under int_tag (such id_of integer)
 
--- invokeID and ConfirmedServiceRequest
+-- invokeID and ConfirmedServiceRequest (ISO 9506-2, Confirmed-RequestPDU)
 unfoldable pub confirmed_parts : Form (List Part) (ℕ × (Result Asking Refusal × Unit {0}))
 confirmed_parts = next invoke_id (next service_request done)
 
--- the request of a service under an invoke id, or why it is denied; a bad one is none
+-- the request of a service under an invoke id, or why it is denied; a bad one is none (own)
 abbrev pub under_id : ℕ → Result Asking Refusal → Option (Result Message Denial)
 under_id id (Ok asking) = Some (Ok (confirmed id asking))
 under_id id (Err Unknown) = Some (Err (unknown id))
@@ -209,6 +221,8 @@ pdu =
 -- a request
 unfoldable pub request : Form (List ℕ) (Result Message Denial)
 request = one pdu
+
+-- ---- own: what is answered
 
 -- the invoke id, where a value of a confirmed request stands at the front, and an id at the front
 -- of its content

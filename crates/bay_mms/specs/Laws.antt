@@ -7,6 +7,8 @@ use Rattle.bay_ber.specs.Writing.{truth_octets, integer_octets, bit_octets, bit_
 use Rattle.bay_ber.specs.Tags.{context, constructed}
 use Rattle.bay_mms.specs.Data.{Datum, Data, structure, truth, bits, integer, unsigned, octets, text, utc, other, no_data, datum, data_text}
 
+-- ---- ISO 9506-2 Data: tags and contents
+
 -- the tag of data (ISO 9506-2, Data)
 abbrev pub datum_tag : Datum → Tag
 datum_tag (structure parts) = constructed 2
@@ -30,6 +32,8 @@ datum_content (octets value) = value
 datum_content (text value) = value
 datum_content (utc value) = value
 datum_content (other tag value) = value
+
+-- ---- own: what stands in texts
 
 -- The list is one value under the tag.
 pub record IsOneValue (list : List ℕ) (tag : Tag) : Type 0 where

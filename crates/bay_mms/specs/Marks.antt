@@ -4,6 +4,8 @@ use Rattle.bay_tree.specs.declared.row.Row.{Row}
 use Rattle.bay_tree.specs.declared.leaf.Leaf.TheVariants as leaf
 use Rattle.bay_tree.specs.Rows.{with_leaf}
 
+-- ---- own: rows as a client sees them
+
 -- the rows with TRUE at the marked place, if there is one
 abbrev pub rows_marked : Option ℕ → List Row → List Row
 rows_marked None rows = rows

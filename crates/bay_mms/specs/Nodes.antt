@@ -10,6 +10,8 @@ use Rattle.bay_mms.specs.Data.{Datum, Data, leaf_datum}
 use Rattle.bay_mms.specs.Types as types
 use Rattle.bay_mms.specs.Types.{TypeSpec, Components, leaf_type_spec}
 
+-- ---- own: what stands below a row
+
 mutual
   pub data Node : Type 0 where
     value : Leaf → Node
@@ -39,7 +41,7 @@ abbrev pub node_at : List Row → ℕ → Node
 node_at rows place =
     node_of (leaf_at rows place) (nodes_in (name_at rows place) (drop (place + 1) rows))
 
--- ---- its data and its type
+-- ---- own: the data and the type of what stands there
 
 abbrev mutual
   pub node_datum : Node → Datum

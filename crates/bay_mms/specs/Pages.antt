@@ -6,6 +6,8 @@ use Rattle.bay_tree.specs.Rows.{names_of}
 use Rattle.bay_mms.specs.Responses.{confirmed_response, names_text, page_text}
 use Rattle.bay_ber.specs.Tags.{constructed, context, visible_tag}
 
+-- ---- own: pages of names
+
 -- the greatest number, up to a bound, that passes a test; 0 where none does
 unfoldable pub greatest : (ℕ → Bool) → ℕ → ℕ
 greatest test zero = 0
@@ -19,13 +21,14 @@ fits id size names = nat_le (length (page_text id names false)) size
 abbrev pub page_count : ℕ → ℕ → List (List ℕ) → ℕ
 page_count id size names = greatest (λ n. fits id size (take n names)) (min 100 (length names))
 
--- the response with this page, which says whether more names follow
+-- the response with this page, which says whether more names follow (ISO 9506-2,
+-- GetNameList-Response)
 abbrev pub first_page : ℕ → ℕ → List (List ℕ) → List ℕ
 first_page id size names =
     page_text id (take (page_count id size names) names)
     (nat_lt (page_count id size names) (length names))
 
--- ---- for the code
+-- ---- own: pages of names as the code makes them
 
 -- where each name ends in the text of all that begins at a place
 abbrev pub ends_from : ℕ → List (List ℕ) → List ℕ
@@ -57,7 +60,7 @@ abbrev pub names_from : List Row → Option ℕ → List (List ℕ)
 names_from rows None = []
 names_from rows (Some place) = names_of (drop place rows)
 
--- the response that lists names of these texts
+-- the response that lists names of these texts (ISO 9506-2, GetNameList-Response)
 abbrev pub response_of_texts : ℕ → List ℕ → Bool → List ℕ
 response_of_texts id texts more =
     confirmed_response id (element (constructed 1)

@@ -10,6 +10,8 @@ use Rattle.bay_mms.specs.Controls.{origin_datum, check_octet, operate_datum}
 use Rattle.bay_mms.specs.ControlViews.{originating, operating}
 use Rattle.bay_ber.specs.Tags.{context, constructed, sequence, visible_tag}
 
+-- ---- ISO 9506-2 InformationReport: a report of variables
+
 -- a variable, by its name
 abbrev pub variable_text : List ℕ → List ℕ
 variable_text name = element sequence (element (constructed 0) name)
@@ -25,16 +27,18 @@ report_text names values =
     element (constructed 3) (element (constructed 0)
     (element (constructed 0) (variables_text names) ++ element (constructed 0) (data_text values)))
 
--- the name that reports of refused controls have
+-- ---- IEC 61850-8-1 LastApplError, CommandTermination: reports of controls
+
+-- the name that reports of refused controls have (IEC 61850-8-1, LastApplError)
 abbrev pub failure_name : List ℕ
 failure_name = element (context 0) (codes "LastApplError")
 
--- an item of a domain
+-- an item of a domain (ISO 9506-2, ObjectName)
 abbrev pub item_name : List ℕ → List ℕ → List ℕ
 item_name domain item =
     element (constructed 1) (element visible_tag domain ++ element visible_tag item)
 
--- CntrlObj, Error, which is 0, Origin, ctlNum and AddCause
+-- CntrlObj, Error, which is 0, Origin, ctlNum and AddCause (IEC 61850-8-1, LastApplError)
 abbrev pub failure_datum : LastApplError → Datum
 failure_datum e =
     structure (datum (text e.object.now)
@@ -42,11 +46,12 @@ failure_datum e =
     (datum (origin_datum (originating e.origin))
     (datum (unsigned (pos e.ctl_num)) (datum (integer (pos e.add_cause)) no_data)))))
 
--- a control was refused
+-- a control was refused (IEC 61850-8-1, LastApplError)
 abbrev pub failure_text : LastApplError → List ℕ
 failure_text e = report_text (failure_name ∷ []) (datum (failure_datum e) no_data)
 
--- a control has done what it was asked for, and is told as it was written
+-- a control has done what it was asked for, and is told as it was written (IEC 61850-8-1,
+-- CommandTermination)
 abbrev pub termination_text : List ℕ → List ℕ → Operate → List ℕ
 termination_text domain item o =
     report_text (item_name domain item ∷ []) (datum (operate_datum (operating o)) no_data)
@@ -57,43 +62,43 @@ failed_text e domain item o =
     report_text (failure_name ∷ item_name domain item ∷ [])
     (datum (failure_datum e) (datum (operate_datum (operating o)) no_data))
 
--- ---- the texts of their parts, one behind another
+-- ---- IEC 61850-8-1 LastApplError, Oper: the texts of their parts, one behind another
 
--- orCat and orIdent
+-- orCat and orIdent (IEC 61850-7-3, Originator)
 abbrev pub origin_parts : Origin → List ℕ
 origin_parts o = element (context 5) (integer_octets o.or_cat) ++ element (context 9) o.or_ident.now
 
--- the originator, a structure of the two
+-- the originator, a structure of the two (IEC 61850-7-3, Originator)
 abbrev pub origin_text : Origin → List ℕ
 origin_text o = element (constructed 2) (origin_parts o)
 
--- ctlVal, origin and ctlNum
+-- ctlVal, origin and ctlNum (IEC 61850-8-1, Oper)
 abbrev pub operate_front : Operate → List ℕ
 operate_front o =
     element (context 3) (truth_octets o.control.ctl_val)
     ++ (origin_text o.control.origin ++ element (context 6) (integer_octets (pos o.control.ctl_num)))
 
--- T, Test and Check
+-- T, Test and Check (IEC 61850-8-1, Oper)
 abbrev pub operate_back : Operate → List ℕ
 operate_back o =
     element (context 17) o.control.t
     ++ (element (context 3) (truth_octets o.control.test)
     ++ element (context 4) (bit_string_octets (check_octet o.check ∷ []) 2))
 
--- CntrlObj and Error
+-- CntrlObj and Error (IEC 61850-8-1, LastApplError)
 abbrev pub failure_front : LastApplError → List ℕ
 failure_front e = element (context 10) e.object.now ++ element (context 5) (integer_octets (pos 0))
 
--- Origin, ctlNum and AddCause
+-- Origin, ctlNum and AddCause (IEC 61850-8-1, LastApplError)
 abbrev pub failure_back : LastApplError → List ℕ
 failure_back e =
     origin_text e.origin ++ (element (context 6) (integer_octets (pos e.ctl_num))
     ++ element (context 5) (integer_octets (pos e.add_cause)))
 
--- the data of an operate
+-- the data of an operate (IEC 61850-8-1, Oper)
 abbrev pub operate_text : Operate → List ℕ
 operate_text o = element (constructed 2) (operate_front o ++ operate_back o)
 
--- the data of a refused control
+-- the data of a refused control (IEC 61850-8-1, LastApplError)
 abbrev pub failure_data : LastApplError → List ℕ
 failure_data e = element (constructed 2) (failure_front e ++ failure_back e)

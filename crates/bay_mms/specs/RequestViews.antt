@@ -12,6 +12,8 @@ use Rattle.bay_mms.specs.declared.access.VariableSpecification as code
 use Rattle.bay_mms.specs.Views.{data_in}
 use Rattle.bay_mms.specs.Requests.{Naming, vmd, domain, association, Place, whole_vmd, in_domain, of_association, VariableSpecification, Asking, identify, names, attributes, read, write, Message, initiate, conclude, confirmed}
 
+-- ---- own: views of the code
+
 -- the name of an object
 abbrev pub naming : ObjectName → Naming
 naming (name.Vmd text) = vmd text.now

@@ -3,29 +3,32 @@ use Rattle.std.specs.Prelude.{ℕ, ℤ, Bool, Option, List}
 use Rattle.bay_mms.specs.Data.{Datum}
 use Rattle.bay_initiate.specs.declared.initiate.Proposal.{Proposal}
 
--- the name of an object (ObjectName): of the device's own, of a domain, or of the association
+-- the name of an object (ISO 9506-2, ObjectName): of the device's own, of a domain, or of the
+-- association
 pub data Naming : Type 0 where
   vmd : List ℕ → Naming
   domain : List ℕ → List ℕ → Naming
   association : List ℕ → Naming
 
--- where names are asked for (objectScope)
+-- where names are asked for, objectScope (ISO 9506-2, GetNameList-Request)
 pub data Place : Type 0 where
   whole_vmd : Place
   in_domain : List ℕ → Place
   of_association : Place
 
--- a variable that is named, and whether only a part of it is asked for (alternate access)
+-- a variable that is named, and whether only a part of it is asked for, by alternate access (ISO
+-- 9506-2, VariableAccessSpecification)
 pub record VariableSpecification : Type 0 where
   pub name : Naming
   pub is_alternate : Bool
 
--- the variables of a read or a write: each by its name, or all by the name of a list
+-- the variables of a read or a write: each by its name, or all by the name of a list (ISO 9506-2,
+-- VariableAccessSpecification)
 pub data Access : Type 0 where
   variables : List VariableSpecification → Access
   named_list : Access
 
--- a service that is read here, and what it is asked for
+-- a service that is read here, and what it is asked for (ISO 9506-2, ConfirmedServiceRequest)
 pub data Asking : Type 0 where
   identify : Asking
   names : ℤ → Place → Option (List ℕ) → Asking
@@ -33,14 +36,14 @@ pub data Asking : Type 0 where
   read : List Naming → Asking
   write : List Naming → List Datum → Asking
 
--- a request; one that is confirmed has an invoke id
+-- a request; one that is confirmed has an invoke id (ISO 9506-2, MMSpdu)
 pub data Message : Type 0 where
   initiate : Proposal → Message
   conclude : Message
   confirmed : ℕ → Asking → Message
 
 -- why a request that is well spelled is denied, with its invoke id: it asks for what is not served,
--- or names too many variables
+-- or names too many variables (own)
 pub data Denial : Type 0 where
   unknown : ℕ → Denial
   many : ℕ → Denial

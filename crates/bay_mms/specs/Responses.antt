@@ -14,17 +14,19 @@ use Rattle.bay_ber.specs.Tags.{context, constructed, int_tag, visible_tag}
 use Rattle.bay_mms.specs.Types.{type_text}
 use Rattle.bay_mms.specs.Nodes.{type_at}
 
+-- ---- ISO 9506-2 Confirmed-ResponsePDU: responses
+
 -- a confirmed response: the invoke id and the service
 abbrev pub confirmed_response : ℕ → List ℕ → List ℕ
 confirmed_response id service =
     element (constructed 1) (element int_tag (integer_octets (pos id)) ++ service)
 
--- the vendor, the model and the revision of an identify response
+-- the vendor, the model and the revision of an identify response (ISO 9506-2, Identify-Response)
 abbrev pub identity_text : List ℕ → List ℕ → List ℕ → List ℕ
 identity_text vendor model revision =
     element (context 0) vendor ++ (element (context 1) model ++ element (context 2) revision)
 
--- names, one behind another
+-- names, one behind another (ISO 9506-2, GetNameList-Response)
 abbrev pub names_text : List (List ℕ) → List ℕ
 names_text [] = []
 names_text (name ∷ names) = element visible_tag name ++ names_text names
@@ -34,27 +36,29 @@ names_text (name ∷ names) = element visible_tag name ++ names_text names
 abbrev pub text_result : List ℕ → List ℕ
 text_result text = element (context 10) text
 
--- the number of an error in the place of data
+-- the number of an error in the place of data (ISO 9506-2, DataAccessError)
 abbrev pub failure_result : DataAccessError → List ℕ
 failure_result cause = element (context 0) (integer_octets (pos (access_code_of cause)))
 
--- and the other result of a write
+-- and the other result of a write (ISO 9506-2, Write-Response)
 abbrev pub success_result : List ℕ
 success_result = element (context 1) []
 
--- the result of one variable of a write: the error, where there is one
+-- the result of one variable of a write: the error, where there is one (ISO 9506-2, Write-Response)
 abbrev pub result_text : Option DataAccessError → List ℕ
 result_text None = success_result
 result_text (Some cause) = failure_result cause
 
--- the response to a read of variables with these results
+-- the response to a read of variables with these results (ISO 9506-2, Read-Response)
 abbrev pub read_text : ℕ → List ℕ → List ℕ
 read_text id results =
     confirmed_response id (element (constructed 4) (element (constructed 1) results))
 
--- the response to a write of variables with these results
+-- the response to a write of variables with these results (ISO 9506-2, Write-Response)
 abbrev pub write_text : ℕ → List ℕ → List ℕ
 write_text id results = confirmed_response id (element (constructed 5) results)
+
+-- ---- ISO 9506-2 ServiceError, Confirmed-ErrorPDU: errors
 
 -- no such object is 2 of the class access, another want of resources 0 of the class resource
 abbrev pub class_text : ErrorClass → List ℕ
@@ -66,6 +70,8 @@ abbrev pub error_text : ℕ → ErrorClass → List ℕ
 error_text id class =
     element (constructed 2) (element (context 0) (integer_octets (pos id))
     ++ element (constructed 2) (element (constructed 0) (class_text class)))
+
+-- ---- ISO 9506-2 RejectPDU: rejects
 
 -- the invoke id, where one was read
 abbrev pub id_text : Option ℕ → List ℕ
@@ -81,9 +87,13 @@ reason_text reject.InvalidPdu = element (context 5) (integer_octets (pos 1))
 abbrev pub reject_text : Option ℕ → RejectReason → List ℕ
 reject_text id reason = element (constructed 4) (id_text id ++ reason_text reason)
 
+-- ---- ISO 9506-2 Conclude-ResponsePDU: the answer to a conclude
+
 -- the answer to a request for the end
 abbrev pub concluded_text : List ℕ
 concluded_text = element (context 12) []
+
+-- ---- ISO 9506-2 GetNameList-Response: pages of names
 
 -- names, and whether more follow
 abbrev pub listing_text : List (List ℕ) → Bool → List ℕ
@@ -94,7 +104,7 @@ listing_text names more =
 abbrev pub page_text : ℕ → List (List ℕ) → Bool → List ℕ
 page_text id names more = confirmed_response id (element (constructed 1) (listing_text names more))
 
--- ---- services
+-- ---- ISO 9506-2 ConfirmedServiceResponse: services
 
 -- the number of a service's tag
 abbrev pub service_number : Service → ℕ
@@ -115,7 +125,7 @@ content_text (service.Attributes tree handle) =
 abbrev pub service_text : Service → List ℕ
 service_text s = element (constructed (service_number s)) (content_text s)
 
--- The handles are the tree's.
+-- The handles are the tree's (own).
 abbrev pub IsOfTree : Service → Type 0
 IsOfTree (service.Attributes tree handle) = IsHandle tree.now handle
 IsOfTree s = Unit {0}

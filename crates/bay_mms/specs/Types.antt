@@ -5,6 +5,8 @@ use Rattle.bay_tree.specs.declared.leaf.Leaf.TheVariants as leaf
 use Rattle.bay_ber.specs.Writing.{element, integer_octets}
 use Rattle.bay_ber.specs.Tags.{context, constructed, sequence}
 
+-- ---- ISO 9506-2 TypeSpecification: types and their text
+
 mutual
   pub data TypeSpec : Type 0 where
     structure : Components → TypeSpec
@@ -32,7 +34,7 @@ abbrev mutual
       ++ components_text later
 
 -- the type of a leaf: numbers by their bits, bit strings by theirs, octets and texts by the most
--- that they may have
+-- that they may have (IEC 61850-8-1, BasicTypes)
 abbrev pub leaf_type_spec : Leaf → TypeSpec
 leaf_type_spec (leaf.Truth value) = plain 3
 leaf_type_spec (leaf.Dbpos value) = sized 4 (pos 2)

@@ -2,6 +2,8 @@
 use Rattle.std.specs.Prelude.{ℕ, ◌*◌, ◌/◌, ◌%◌, ◌^◌, List, [], ◌∷◌, ◌++◌}
 use Rattle.std.specs.Int.{bytes_high_first}
 
+-- ---- IEC 61850-8-1 TimeStamp: moments
+
 -- Four octets of seconds since 1970 (counted modulo 2 ^ 32), three of the fraction of a second in
 -- units of 2 ^ -24, rounded down, and the quality 2A.
 abbrev pub utc_octets : ℕ → List ℕ

@@ -10,6 +10,8 @@ use Rattle.bay_mms.specs.Types.{TypeSpec, Components}
 use Rattle.bay_mms.specs.Data as mms
 use Rattle.bay_mms.specs.Data.{Datum}
 
+-- ---- own: views of the code
+
 -- data in front of others
 abbrev pub data_before : List Datum → mms.Data → mms.Data
 data_before [] later = later

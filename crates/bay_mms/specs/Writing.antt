@@ -4,6 +4,8 @@ use Rattle.bay_ber.specs.Sheets.{Sheet, empty, within}
 use Rattle.bay_mms.specs.declared.fault.EncodeFault.{EncodeFault}
 use Rattle.bay_mms.specs.declared.fault.EncodeFault.TheVariants.{TooLong, OutOfMemory}
 
+-- ---- own: what a call that writes answers
+
 -- a text, if there is one
 abbrev pub or_long : Option (List ℕ) → Result (List ℕ) EncodeFault
 or_long None = Err TooLong
@@ -19,7 +21,7 @@ Adds size old (Ok done) new text = new ≡ old ++ text
 Adds size old (Err TooLong) new text = size < length (old ++ text)
 Adds size old (Err OutOfMemory) new text = Unit {0}
 
--- ---- the results of a read
+-- ---- own: what a writer of results holds
 
 -- octets, and how many the whole response may have
 pub record Results : Type 0 where
