@@ -5,6 +5,8 @@ use Rattle.bay_nodes.specs.declared.paths.StatusPaths.{StatusPaths}
 use Rattle.bay_nodes.specs.declared.switch.Switch.{Switch}
 use Rattle.bay_nodes.specs.Node.{class_of, node_name, node_number}
 
+-- ---- own: names of rows
+
 -- the names of a value, its quality and its moment (IEC 61850-7-3)
 pub record StatusNames : Type 0 where
   pub value : List ℕ
@@ -27,17 +29,20 @@ value_names node object value = record {
   time = node ++ (object ++ codes "$t");
 }
 
--- those of a status value
+-- those of a status value (IEC 61850-7-3, stVal)
 abbrev pub status_names : List ℕ → List ℕ → StatusNames
 status_names node object = value_names node object (codes "$stVal")
 
--- the names of a switch's position, below XCBR or XSWI, and below CSWI, which repeats it
+-- the names of a switch's position, below XCBR or XSWI, and below CSWI, which repeats it (IEC
+-- 61850-7-4, XCBR, XSWI, CSWI)
 abbrev pub position_names : List ℕ → StatusNames
 position_names node = status_names node (codes "$ST$Pos")
 
--- the names of the count of its operations, below XCBR or XSWI
+-- the names of the count of its operations, below XCBR or XSWI (IEC 61850-7-4, OpCnt)
 abbrev pub operation_names : List ℕ → StatusNames
 operation_names node = status_names node (codes "$ST$OpCnt")
+
+-- ---- IEC 61850-7-4 CILO: names of interlocking values
 
 -- the names of its two interlocking values, below CILO
 abbrev pub opening_names : List ℕ → StatusNames
@@ -45,6 +50,8 @@ opening_names node = status_names node (codes "$ST$EnaOpn")
 
 abbrev pub closing_names : List ℕ → StatusNames
 closing_names node = status_names node (codes "$ST$EnaCls")
+
+-- ---- own: names of a switch
 
 -- the names of a switch's position, of its position as its control repeats it, of the count of its
 -- operations and of its two interlocking values
@@ -65,16 +72,21 @@ names_by_nodes node control interlocking = record {
   ena_cls = closing_names interlocking;
 }
 
--- a switch's node is XCBR or XSWI, with its number among the switches of its class
+-- a switch's node is XCBR or XSWI, with its number among the switches of its class (IEC 61850-7-4,
+-- XCBR, XSWI)
 abbrev pub node_of : List Switch → ℕ → Switch → List ℕ
 node_of switches k switch = node_name (class_of switch.kind) (node_number switches switch k)
 
--- the nodes of its control and of its interlocking have the number of its place, from 1
+-- the nodes of its control and of its interlocking have the number of its place, from 1 (IEC
+-- 61850-7-4, CSWI)
 abbrev pub control_of : ℕ → List ℕ
 control_of k = node_name (codes "CSWI") (k + 1)
 
+-- (IEC 61850-7-4, CILO)
 abbrev pub interlocking_of : ℕ → List ℕ
 interlocking_of k = node_name (codes "CILO") (k + 1)
+
+-- ---- IEC 61850-7-4 CILO: names of interlocking values by place
 
 -- the names of the two interlocking values of the switch at a place
 abbrev pub opening_of : ℕ → StatusNames
@@ -83,10 +95,12 @@ opening_of k = opening_names (interlocking_of k)
 abbrev pub closing_of : ℕ → StatusNames
 closing_of k = closing_names (interlocking_of k)
 
--- the names of the switch at a place
+-- the names of the switch at a place (own)
 abbrev pub switch_names : List Switch → ℕ → Switch → SwitchNames
 switch_names switches k switch =
     names_by_nodes (node_of switches k switch) (control_of k) (interlocking_of k)
+
+-- ---- IEC 61850-8-1 SBO, SBOw, Oper, Cancel: names of controls
 
 -- the names of a control: whether its switch is selected, and the rows by which it is selected,
 -- selected with a value and operated, and its selection given up (IEC 61850-7-2, control; IEC
@@ -112,12 +126,16 @@ control_names_of node = record {
 abbrev pub control_names : ℕ → ControlNames
 control_names k = control_names_of (control_of k)
 
+-- ---- IEC 61850-7-3 MV, CMV: names of measured values
+
 -- the names of a measured value, and of that of a phase (IEC 61850-7-3, MV and CMV)
 abbrev pub total_names : List ℕ → List ℕ → StatusNames
 total_names node object = value_names node object (codes "$mag$i")
 
 abbrev pub phase_names : List ℕ → List ℕ → StatusNames
 phase_names node object = value_names node object (codes "$cVal$mag$i")
+
+-- ---- IEC 61850-7-4 MMXU: names of meters
 
 -- the names of a meter's values
 pub record MeterNames : Type 0 where

@@ -16,6 +16,8 @@ use Rattle.bay_nodes.specs.declared.switch.SwitchKind.{SwitchKind}
 use Rattle.bay_nodes.specs.declared.switch.SwitchKind.TheVariants.{Breaker, Disconnector, Earthing}
 use Rattle.bay_nodes.specs.declared.nameplate.Nameplate.{Nameplate}
 
+-- ---- own: parts of nodes, and their rows
+
 -- a part of a logical node: a value, or a structure with its parts
 mutual
   pub data NodePart : Type 0 where
@@ -59,11 +61,12 @@ parts_of (p ∷ ps) = part p (parts_of ps)
 abbrev pub inside : List ℕ → List NodePart → NodePart
 inside name ps = structure name (parts_of ps)
 
--- the quality of a value, and its moment, 0
+-- the quality of a value, and its moment, 0 (IEC 61850-7-3, Quality; IEC 61850-7-2,
+-- TimeStamp)
 abbrev pub stamp : Validity → List NodePart
 stamp q = value (codes "q") (Quality q) ∷ value (codes "t") (Utc 0) ∷ []
 
--- a value with its quality and its moment (IEC 61850-7-3, common data classes of status)
+-- a value with its quality and its moment (IEC 61850-7-3, stVal)
 abbrev pub status : List ℕ → Leaf → Validity → NodePart
 status name v q = inside name (value (codes "stVal") v ∷ stamp q)
 
@@ -72,7 +75,7 @@ abbrev pub status_only : List ℕ → NodePart
 status_only name = inside name (value (codes "ctlModel") (Int8 (pos 0)) ∷ [])
 
 -- the parts of LLN0, with the texts of the nameplate: mode, behaviour and health are 1, `on` and
--- `ok`
+-- `ok` (IEC 61850-7-4, LLN0)
 abbrev pub device_parts : Nameplate → Parts
 device_parts n =
     parts_of
@@ -85,7 +88,7 @@ device_parts n =
     ∷ value (codes "d") (Text n.model) ∷ []) ∷ [])
     ∷ [])
 
--- the parts of LPHD1
+-- the parts of the device itself (IEC 61850-7-4, LPHD)
 abbrev pub physical_parts : Nameplate → Parts
 physical_parts n =
     parts_of
@@ -101,7 +104,7 @@ switch_type Breaker = []
 switch_type Disconnector = status (codes "SwTyp") (Int8 (pos 2)) Good ∷ []
 switch_type Earthing = status (codes "SwTyp") (Int8 (pos 3)) Good ∷ []
 
--- the parts of XCBR and XSWI
+-- the parts of a position (IEC 61850-7-4, XCBR, XSWI)
 abbrev pub position_parts : SwitchKind → Parts
 position_parts kind =
     parts_of
@@ -139,11 +142,12 @@ cancelling =
     ∷ value (codes "Test") (Truth false)
     ∷ [])
 
--- the functional constraint CO, with what may be written to a position
+-- the functional constraint CO, with what may be written to a position (IEC 61850-7-2, CO)
 abbrev pub controls_by : List NodePart → List NodePart
 controls_by ps = inside (codes "CO") (inside (codes "Pos") ps ∷ []) ∷ []
 
--- what may be written to a switch with each kind of control
+-- what may be written to a switch with each kind of control (IEC 61850-8-1, SBO, SBOw, Oper,
+-- Cancel)
 abbrev pub commands : Control → List NodePart
 commands Status = []
 commands Direct = controls_by (operation (codes "Oper") ∷ [])
@@ -159,7 +163,7 @@ model_of Direct = 1
 model_of Sbo = 2
 model_of SboEnhanced = 4
 
--- the parts of CSWI, whose position repeats that of the switch
+-- the parts of a control, whose position repeats that of the switch (IEC 61850-7-4, CSWI)
 abbrev pub control_parts : Control → ℕ → Parts
 control_parts control timeout =
     parts_of
@@ -172,14 +176,16 @@ control_parts control timeout =
     ∷ value (codes "sboTimeout") (Unsigned32 timeout) ∷ []) ∷ [])
     ∷ [])
 
--- the parts of CILO
+-- the parts of interlocking (IEC 61850-7-4, CILO)
 abbrev pub interlocking_parts : Parts
 interlocking_parts =
     parts_of (inside (codes "ST")
     (status (codes "EnaOpn") (Truth false) Invalid
     ∷ status (codes "EnaCls") (Truth false) Invalid ∷ []) ∷ [])
 
--- the magnitude of a measured value, as a whole number
+-- ---- IEC 61850-7-3 MV, CMV: measured values
+
+-- the magnitude of a measured value, as a whole number (IEC 61850-7-3, AnalogueValue)
 abbrev pub magnitude : NodePart
 magnitude = inside (codes "mag") (value (codes "i") (Int32 (pos 0)) ∷ [])
 
@@ -190,7 +196,7 @@ measured_value name = inside name (magnitude ∷ stamp Invalid)
 abbrev pub phase : List ℕ → NodePart
 phase name = inside name (inside (codes "cVal") (magnitude ∷ []) ∷ stamp Invalid)
 
--- the parts of MMXU
+-- the parts of a meter (IEC 61850-7-4, MMXU)
 abbrev pub meter_parts : Parts
 meter_parts =
     parts_of
@@ -200,7 +206,9 @@ meter_parts =
     ∷ []) ∷ [])
     ∷ [])
 
--- a breaker has nodes of another class than the other switches
+-- ---- IEC 61850-7-4 XCBR, XSWI: classes of switches
+
+-- a breaker has nodes of another class than the other switches (own)
 abbrev pub is_breaker : SwitchKind → Bool
 is_breaker Breaker = true
 is_breaker Disconnector = false
@@ -212,22 +220,24 @@ class_of Breaker = codes "XCBR"
 class_of Disconnector = codes "XSWI"
 class_of Earthing = codes "XSWI"
 
--- a logical node's name: its class and its number
+-- a logical node's name: its class and its number (own)
 abbrev pub node_name : List ℕ → ℕ → List ℕ
 node_name class number = class ++ decimal number
 
--- the nodes of the device itself
+-- the nodes of the device itself (IEC 61850-7-4, LLN0)
 abbrev pub device_node : Nameplate → Node
 device_node nameplate = record { name = codes "LLN0"; parts = device_parts nameplate }
 
+-- (IEC 61850-7-4, LPHD)
 abbrev pub physical_node : Nameplate → Node
 physical_node nameplate = record { name = codes "LPHD1"; parts = physical_parts nameplate }
 
--- the nodes of a switch with its number
+-- the nodes of a switch with its number (IEC 61850-7-4, XCBR, XSWI)
 abbrev pub position_node : ℕ × Switch → Node
 position_node s =
     record { name = node_name (class_of s.1.kind) s.0; parts = position_parts s.1.kind }
 
+-- (IEC 61850-7-4, CSWI)
 abbrev pub control_node : ℕ × Switch → Node
 control_node s =
     record {
@@ -235,12 +245,15 @@ control_node s =
       parts = control_parts s.1.control s.1.sbo_timeout_ms;
     }
 
+-- (IEC 61850-7-4, CILO)
 abbrev pub interlocking_node : ℕ × Switch → Node
 interlocking_node s = record { name = node_name (codes "CILO") s.0; parts = interlocking_parts }
 
--- the node of a meter with its number
+-- the node of a meter with its number (IEC 61850-7-4, MMXU)
 abbrev pub meter_node : ℕ × List ℕ → Node
 meter_node m = record { name = node_name (codes "MMXU") m.0; parts = meter_parts }
+
+-- ---- own: which nodes a bay has, in what order
 
 -- the breakers, or the other switches
 abbrev pub is_of : Bool → Switch → Bool

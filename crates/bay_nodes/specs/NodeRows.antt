@@ -14,6 +14,8 @@ use Rattle.bay_nodes.specs.declared.tables.InitialValue.{InitialValue}
 use Rattle.bay_nodes.specs.declared.tables.InitialValue.TheVariants.{Structure, False, Intermediate, Good, Invalid, Int8, Int32, Unsigned8, Octets, Reference, Moment, Vendor, Model, Revision}
 use Rattle.bay_nodes.specs.Node.{node_name, row, rows_of, rows_of_parts, parts_of, inside, status, status_only, stamp, value, switch_type, commands, model_of}
 
+-- ---- own: the same rows line by line
+
 -- the value that a row begins with, where the nameplate says this
 abbrev pub leaf_from : Nameplate → InitialValue → Option Leaf
 leaf_from n Structure = None
@@ -50,7 +52,7 @@ tabled_nodes p class table n (suc k) =
     (row (node_name class n) None ∷ table_rows p (node_name class n) table)
     ++ tabled_nodes p class table (n + 1) k
 
--- the groups of XCBR and XSWI
+-- the groups of XCBR and XSWI (IEC 61850-7-4, XCBR, XSWI)
 abbrev pub status_group : List Row
 status_group =
     rows_of []
@@ -61,34 +63,34 @@ status_group =
     ∷ status (codes "OpCnt") (leaf.Int32 (pos 0)) validity.Good
     ∷ []))
 
--- the type of a switch, which a breaker has not
+-- the type of a switch, which a breaker has not (IEC 61850-7-4, SwTyp)
 abbrev pub type_rows : SwitchKind → List Row
 type_rows kind = rows_of_parts (codes "$ST") (parts_of (switch_type kind))
 
--- the model of a position that is not controlled there
+-- the model of a position that is not controlled there (IEC 61850-7-3, ctlModel)
 abbrev pub position_model : List Row
 position_model = rows_of [] (inside (codes "CF") (status_only (codes "Pos") ∷ []))
 
--- the groups of CSWI
+-- the groups of CSWI (IEC 61850-7-4, CSWI)
 abbrev pub control_group : List Row
 control_group =
     rows_of [] (inside (codes "ST")
     (inside (codes "Pos") (value (codes "stVal") (leaf.Dbpos position.Intermediate)
     ∷ stamp validity.Invalid ++ value (codes "stSeld") (leaf.Truth false) ∷ []) ∷ []))
 
--- the rows above what may be written to a position
+-- the rows above what may be written to a position (IEC 61850-7-2, CO)
 abbrev pub group_row : List Row
 group_row = row (codes "$CO") None ∷ row (codes "$CO$Pos") None ∷ []
 
--- the row by which a switch is selected with a read
+-- the row by which a switch is selected with a read (IEC 61850-8-1, SBO)
 abbrev pub select_row : List Row
 select_row = row (codes "$CO$Pos$SBO") (Some (leaf.Reference [])) ∷ []
 
--- what may be written, or read to select
+-- what may be written, or read to select (IEC 61850-8-1, SBO, SBOw, Oper, Cancel)
 abbrev pub command_rows : Control → List Row
 command_rows control = rows_of_parts [] (parts_of (commands control))
 
--- the model of a control, and how long it stays selected
+-- the model of a control, and how long it stays selected (IEC 61850-7-3, ctlModel)
 abbrev pub control_model : Control → List Row
 control_model control =
     row (codes "$CF") None ∷ row (codes "$CF$Pos") None
