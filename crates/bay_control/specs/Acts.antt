@@ -2,6 +2,8 @@
 use Rattle.std.specs.Prelude.{ℕ, Bool}
 use Rattle.bay_control.specs.declared.request.Choice.{Choice}
 
+-- ---- own: what is seen from outside
+
 -- an association a is opened or closed, or it selects, operates or cancels a switch k
 pub data Act : Type 0 where
   Opened : (a : ℕ) → Act

@@ -6,7 +6,9 @@ use Rattle.bay_control.specs.Requests.{control_of, is_enhanced, is_sbo}
 use Rattle.bay_control.specs.declared.control.SwitchControl.{SwitchControl}
 use Rattle.bay_control.specs.declared.request.Choice.{Choice}
 
--- a select of switch k by association a, with value or without
+-- ---- IEC 61850-7-2 20: when an operate is backed by a select
+
+-- a select of switch k by association a, with value or without (own)
 abbrev pub selects : ℕ → ℕ → Act → Bool
 selects a k (Opened b) = false
 selects a k (Closed b) = false
@@ -15,7 +17,7 @@ selects a k (SelectWith b j choice) = a == b && k == j
 selects a k (Operate b j choice) = false
 selects a k (Cancel b j) = false
 
--- what a select with value asked for
+-- what a select with value asked for (own)
 abbrev pub choice_of : Act → Option Choice
 choice_of (Opened b) = None
 choice_of (Closed b) = None

@@ -15,6 +15,8 @@ use Rattle.bay_control.specs.declared.request.View.{View}
 use Rattle.bay_control.specs.declared.selection.Execution.{Execution}
 use Rattle.bay_control.specs.declared.selection.Selection.{Selection}
 
+-- ---- own: the controls of a bay
+
 -- the controls of a bay: what its file says of each switch, the selected switch and the operating
 -- one
 pub record State : Type 0 where
@@ -44,7 +46,7 @@ controls_of switches = map control_in switches
 abbrev pub initial : List SwitchControl → State
 initial controls = record { controls = controls; selection = None; execution = None }
 
--- ---- what has run out
+-- ---- IEC 61850-7-2 20: what has run out
 
 -- the selection at a moment: it ends where its time is over
 abbrev pub selection_at : ℕ → List SwitchControl → Option Selection → Option Selection
@@ -73,7 +75,7 @@ controls_at now s =
       execution = execution_at now s.controls s.execution;
     }
 
--- ---- tests of the selection and the execution
+-- ---- own: tests of the selection and the execution
 
 -- the association has selected the switch
 abbrev pub is_selected_by : ℕ → ℕ → Option Selection → Bool
@@ -110,18 +112,18 @@ abbrev pub other_is_executing : ℕ → Option Execution → Bool
 other_is_executing k None = false
 other_is_executing k (Some e) = not (e.switch == k)
 
--- ---- the table of checks
+-- ---- IEC 61850-7-2 20: the table of checks
 
--- a check that refuses where it holds, with its cause
+-- a check that refuses where it holds, with its cause (own)
 pub record Row : Type 0 where
   pub refuses : Bool
   pub cause : AddCause
 
--- a row of a table of refusals: where its test is true it refuses with its cause
+-- a row of a table of refusals: where its test is true it refuses with its cause (own)
 abbrev pub row : Bool → AddCause → Row
 row refuses cause = record { refuses = refuses; cause = cause }
 
--- the first row that refuses gives the answer; where none does, the request is accepted
+-- the first row that refuses gives the answer; where none does, the request is accepted (own)
 abbrev pub answer_of : List Row → Result (Unit {0}) AddCause
 answer_of [] = Ok tt
 answer_of (r ∷ rows) = if r.refuses then Err r.cause else answer_of rows
@@ -174,9 +176,9 @@ rows_of_cancel a k s =
     ∷ row (not (is_selected_by a k s.selection)) ObjectNotSelected
     ∷ []
 
--- ---- answers, and the controls after them: what has run out counts as ended
+-- ---- IEC 61850-7-2 20: answers, and the controls after them: what has run out counts as ended
 
--- a decision: what it answers, and the controls after it
+-- a decision: what it answers, and the controls after it (own)
 pub record Outcome : Type 0 where
   pub answer : Result (Unit {0}) AddCause
   pub after : State
@@ -229,7 +231,7 @@ abbrev pub cancel_outcome : ℕ → ℕ → ℕ → State → Outcome
 cancel_outcome a k now s = let t =
     controls_at now s in cancel_of (answer_of (rows_of_cancel a k t)) t
 
--- ---- what ends without a request
+-- ---- IEC 61850-7-2 20: what ends without a request
 
 -- the selection without that of an association
 abbrev pub selection_without : ℕ → Option Selection → Option Selection
@@ -250,7 +252,7 @@ abbrev pub after_contact : ℕ → Dbpos → State → State
 after_contact k position s =
     record s { execution = if is_done k position s.execution then None else s.execution }
 
--- ---- what is shown
+-- ---- IEC 61850-7-3 stSeld: what is shown
 
 -- the switch of a selection
 abbrev pub selected_switch : Option Selection → Option ℕ

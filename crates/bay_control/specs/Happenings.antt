@@ -8,6 +8,8 @@ use Rattle.bay_control.specs.Requests.{asked_choice}
 use Rattle.bay_control.specs.declared.request.Ask.{Ask}
 use Rattle.bay_control.specs.declared.request.View.{View}
 
+-- ---- own: what happens to controls
+
 -- the calls of the controls: an association a is opened or closed, or asks for something on a
 -- switch k; a contact of a switch comes; time alone passes
 pub data Call : Type 0 where
@@ -69,7 +71,7 @@ abbrev pub after_all : List Happening → State → State
 after_all [] s = s
 after_all (h ∷ hs) s = after_all hs (outcome_of h.call h.now s).after
 
--- ---- which associations are open
+-- ---- own: which associations are open
 
 -- only a closed association is opened, and only an open one is closed or asks for something
 abbrev pub is_orderly_call : (ℕ → Bool) → Call → Bool
@@ -103,7 +105,7 @@ abbrev pub is_open_after_all : (ℕ → Bool) → List Happening → ℕ → Boo
 is_open_after_all is_open [] b = is_open b
 is_open_after_all is_open (h ∷ hs) b = is_open_after_all (is_open_after is_open h.call) hs b
 
--- ---- runs
+-- ---- own: runs of the controls
 
 -- Some happenings lead controls from one state to another, and these entries are seen of them;
 -- which associations are open before and after goes with them.

@@ -15,7 +15,7 @@ use Rattle.bay_control.specs.declared.request.Choice.{Choice}
 use Rattle.bay_control.specs.declared.request.Originator.{Originator}
 use Rattle.bay_control.specs.declared.request.View.{View}
 
--- ---- what the bay file says of a switch's control
+-- ---- own: what the bay file says of a switch's control
 
 -- what stands in the place of a switch that is not there
 abbrev pub no_control : SwitchControl
@@ -29,6 +29,8 @@ control_or_none (Some c) = c
 -- the control of the switch at a place
 abbrev pub control_of : List SwitchControl → ℕ → SwitchControl
 control_of controls k = control_or_none (slice_get controls k)
+
+-- ---- IEC 61850-7-3 ctlModel: control models
 
 -- there is a control
 abbrev pub is_controlled : Control → Bool
@@ -58,7 +60,7 @@ is_sbo Direct = false
 is_sbo Sbo = true
 is_sbo SboEnhanced = true
 
--- ---- what is asked for
+-- ---- own: what is asked for
 
 -- the operation and the originator that are asked for
 abbrev pub asked_choice : Ask → Choice
@@ -76,15 +78,15 @@ same_origin c d = int_eq c.cat d.cat && pointwise nat_eq c.ident d.ident
 abbrev pub same_choice : Choice → Choice → Bool
 same_choice c d = same_operation c.operation d.operation && same_origin c.origin d.origin
 
--- ---- what is seen
+-- ---- own: what is seen
 
--- the position is the one that the operation leads to
+-- the position is the one that the operation leads to (IEC 61850-7-3, Dbpos)
 abbrev pub is_reached : Operation → Dbpos → Bool
 is_reached Open Off = true
 is_reached Close On = true
 is_reached operation position = false
 
--- the interlocking releases the operation
+-- the interlocking releases the operation (IEC 61850-7-4, CILO)
 abbrev pub is_released : Operation → View → Bool
 is_released Open view = view.ena_opn
 is_released Close view = view.ena_cls
