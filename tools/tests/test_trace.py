@@ -59,6 +59,34 @@ one = 1
 '''
 
 
+HEADED = '''-- Lengths and more (X.690 8.1).
+
+-- before any heading
+one : ℕ
+
+-- ---- X.690 8.1.3: lengths, as ISO 9506-2 has Data
+
+-- the number
+two : ℕ
+
+-- a view (own)
+three : ℕ
+
+-- ---- own: views
+
+-- what is seen
+four : ℕ
+
+-- (X.690 8.1.2.2, 8.4)
+five : ℕ
+
+-- ---- words
+
+-- under a heading that says neither, as a part of X.690
+six : ℕ
+'''
+
+
 def told_of(it: Promise) -> str:
     return f'{it.page.name}:{it.line}'
 
@@ -91,6 +119,15 @@ class Reading(unittest.TestCase):
         self.assertEqual(found, [
             ('first', 5, 'the first', 3),
             ('Fact', 13, 'some fact (For each {L : Type 0} (step : L).)', 1), ('one', 16, '', 1)])
+
+    def test_a_heading_holds_for_what_stands_below_it(self):
+        with tempfile.TemporaryDirectory() as folder:
+            path = pathlib.Path(folder) / 'One.antt'
+            path.write_text(HEADED, encoding='utf-8')
+            found = [standards.stated(it) for it in Reader('bay_tree', path).read()]
+        self.assertEqual(found, [
+            [], [('X.690', '8.1.3')], [(standards.OWN, 'bay_tree')],
+            [(standards.OWN, 'bay_tree: views')], [('X.690', '8.1.2.2'), ('X.690', '8.4')], []])
 
     def test_a_last_column(self):
         def resolved(by):
@@ -188,6 +225,32 @@ class Promises(unittest.TestCase):
             self.assertTrue(it.calls, it.path)
 
 
+class Standards(unittest.TestCase):
+    def test_each_definition_names_its_clause_or_is_own(self):
+        for it in (it for crate in standards.STATED for it in standards.definitions_of(crate)):
+            self.assertTrue(standards.stated(it), f'{it.path.relative_to(TOP)}:{it.line}: {it.name}'
+                            ' names no clause, and does not say that it is own')
+
+    def test_each_definition_is_counted_once(self):
+        for crate in standards.STATED:
+            number, with_clause, own = standards.counts(crate)
+            self.assertGreater(number, 0, crate)
+            self.assertEqual(number, with_clause + own, crate)
+
+    def test_what_a_comment_cites(self):
+        for text, clauses in (
+                ('bit 6 (X.690 8.1.2.5, 8.4; ISO 9506-2, Data)',
+                 [('X.690', '8.1.2.5'), ('X.690', '8.4'), ('ISO 9506-2', 'Data')]),
+                ('IEC 61131-3:2003, 2.2, annex B.1.2 and tables 24, 26 and 28',
+                 [('IEC 61131-3', it) for it in ('2.2', 'B.1.2', 'table 24', 'table 26',
+                                                 'table 28')]),
+                ('ISO 8823-1 Context-list, CP-type', [('ISO 8823-1', 'Context-list'),
+                                                      ('ISO 8823-1', 'CP-type')]),
+                ('(IEC 61850-7-3, ctlModel)', [('IEC 61850-7-3', 'ctlModel')]),
+                ('of our own', [])):
+            self.assertEqual(standards.clauses_in(text), clauses, text)
+
+
 class Written(Tools):
     def test_the_page(self):
         out = self.folder / 'a page.html'
@@ -213,11 +276,6 @@ class Written(Tools):
         self.assertEqual({html.unescape(it) for it in links} - set(anchors), set())
         for clause in ('8.1.3.6', 'InitiateRequestPDU', 'table 10'):
             self.assertIn(f'<tr><td>{clause}</td>', page)
-
-    def test_what_a_comment_cites(self):
-        self.assertEqual(standards.clauses_in('bit 6 (X.690 8.1.2.5, 8.4; ISO 9506-2, Data)'),
-                         [('X.690', '8.1.2.5'), ('X.690', '8.4'), ('ISO 9506-2', 'Data')])
-        self.assertEqual(standards.clauses_in('of our own'), [])
 
     def test_links_elsewhere(self):
         self.assertIn('href="https://host/at/README.md#L', Sheet('https://host/at').page())

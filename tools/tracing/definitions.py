@@ -10,6 +10,7 @@ WORDS = r'(?:(?:abbrev|unfoldable|opaque|pub|record|data) +)+'
 BEGINS = re.compile(rf'(?:{WORDS}([^\s:]+)|([^\s:(]+) +: )')
 USE = re.compile(r'^(?:pub )?use (.*)$', re.M)
 HANDED = re.compile(r'^pub use (.*)$', re.M)
+HEADING = re.compile(r'-- ---- (.*)')
 WITHIN = re.compile(r'(?:abbrev )?mutual$|module _ (.*)')
 SHARED = re.compile(r'^pub use Rattle\.(\w+)\.specs\.(\w+)$', re.M)
 OUTSIDE = ('use ', 'pub use ', 'pub mod ', 'mod ', 'infix')
@@ -18,13 +19,14 @@ NAMED = re.compile(r"[^\W\d_][\w']*(?:\.[^\W\d_][\w']*)?")
 
 @dataclasses.dataclass(frozen=True)
 class Definition:
-    """A definition with the comment above it."""
+    """A definition with the comment above it, and the heading under which it stands."""
     crate: str
     path: pathlib.Path
     name: str
     line: int
     told: str
     text: str
+    heading: str = ''
 
 
 Named = Definition | Declared
@@ -43,6 +45,7 @@ class Reader:
         self.found: list[Definition] = []
         self.comment: list[str] = []
         self.shared = ''
+        self.heading = ''
 
     def read(self) -> list[Definition]:
         """All definitions of the file, also those within a module of shared arguments."""
@@ -61,8 +64,10 @@ class Reader:
 
     def take(self, number: int, line: str) -> None:
         """Takes a line: of a comment, of what begins, or of what goes on."""
-        begins = BEGINS.match(line)
-        if line.startswith('--'):
+        begins, heading = BEGINS.match(line), HEADING.match(line)
+        if heading:
+            self.heading, self.comment = heading[1], []
+        elif line.startswith('--'):
             self.comment.append(line.lstrip('- '))
         elif line.startswith(OUTSIDE):
             self.comment = []
@@ -70,7 +75,7 @@ class Reader:
             shared = f'(For each {self.shared.removesuffix(" where")}.)' if self.shared else ''
             told = ' '.join(it for it in (*self.comment, shared) if it)
             self.found.append(Definition(self.crate, self.path, begins[1] or begins[2], number,
-                                         told, line))
+                                         told, line, self.heading))
             self.comment = []
         elif not line:
             self.comment = []

@@ -183,11 +183,13 @@ class Sheet:
                 f'For</th></tr>{"".join(rows)}</table>')
 
     def definition(self, it: Named) -> str:
-        """A definition, with the comment above it."""
-        kind = 'type of the code' if isinstance(it, Declared) else 'definition'
+        """A definition, with the heading and the comment above it."""
+        is_type = isinstance(it, Declared)
+        kind = 'type of the code' if is_type else 'definition'
+        under = '' if is_type or not it.heading else f'Under "{inline(it.heading)}". '
         return (f'<div class="definition" id="{self.listed[it]}"><b>{html.escape(it.name)}</b> '
                 f'<span class="quiet">{kind} of {it.crate}, {self.source(it.path, it.line)}. '
-                f'{inline(it.told)}</span>'
+                f'{under}{inline(it.told)}</span>'
                 f'<pre>{self.linked(it.text, scope_of(it), it.name)}</pre></div>')
 
     def crate(self, name: str, listed: list[Named]) -> str:
@@ -243,6 +245,14 @@ class StandardSheet(Sheet):
         return (f'<tr><td>{html.escape(clause)}</td><td>{names}</td><td>{told or "none"}</td>'
                 f'<td>{", ".join(cases) or "none"}</td></tr>')
 
+    def counts(self) -> str:
+        """How many definitions name a clause, in the crates in which all say what they are."""
+        rows = [(crate, *standards.counts(crate)) for crate in standards.STATED]
+        rows.append(('all of these', *(sum(it) for it in list(zip(*rows))[1:])))
+        told = ''.join(f'<tr>{"".join(f"<td>{part}</td>" for part in row)}</tr>' for row in rows)
+        return ('<table><tr><th>Crate</th><th>Definitions</th><th>With a clause</th>'
+                f'<th>Our own</th></tr>{told}</table>')
+
     def page(self) -> str:
         """The whole page."""
         tables: dict[str, list[str]] = {}
@@ -257,8 +267,10 @@ class StandardSheet(Sheet):
             '<!DOCTYPE html><html lang="en"><meta charset="utf-8">'
             '<meta name="viewport" content="width=device-width"><title>By standard and clause'
             f'</title><style>{STYLE}</style><h1>By standard and clause</h1><p>Each definition '
-            'stands under the clauses that the comment above it names, or else the head of its '
-            f'file.</p><p class="quiet">Commit {commit()}.</p>', *body, '<h2>Definitions</h2>',
+            'stands under the clauses that the comment above it names, or else the heading above '
+            'it, or the head of its file. Those of our own stand last, with what they are for. In '
+            f'these crates each says what it is:</p>{self.counts()}'
+            f'<p class="quiet">Commit {commit()}.</p>', *body, '<h2>Definitions</h2>',
             *(self.crate(it, listed) for it in crates()), '</html>\n'))
 
 
