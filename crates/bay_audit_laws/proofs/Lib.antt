@@ -1,6 +1,7 @@
 pub mod BadLemmas
 pub mod BlindLemmas
 pub mod DeviceLemmas
+pub mod ExampleLemmas
 pub mod LawLemmas
 pub mod LoadLemmas
 pub mod MeasureLemmas

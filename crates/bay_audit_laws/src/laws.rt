@@ -1,7 +1,10 @@
 // Laws of a device with a rule that holds. Each function does nothing, and its contract is the
 // law.
+ghost use Rattle.bay_audit.specs.Rules.{IsRule};
+ghost use Rattle.bay_audit_laws.specs.Examples.{at_all_times, halting};
 ghost use Rattle.bay_audit_laws.specs.Laws.{CommandsObey, CommandsWait, ScansObey, ScansWait};
 ghost use Rattle.bay_audit_laws.specs.Lost.{LostIsBlind};
+ghost use Rattle.bay_rules.specs.declared.rule.RuleKind.TheVariants.{Always, Never};
 
 /// Where a rule holds of a program, each scan of a device with that program leaves EnaOpn and
 /// EnaCls as the rule has it: of the positions, the inputs and the measured values as the device
@@ -33,4 +36,11 @@ pub fn a_release_waits()
 /// load on.
 pub fn a_lost_process_releases_only_what_lost_does()
     ensures { LostIsBlind }
+{}
+
+/// What it is for a rule to hold: a program of HALT alone releases no switch, so that of it holds
+/// that a switch is never released, and not that it always is.
+pub fn a_program_that_releases_nothing()
+    ensures never { IsRule halting (at_all_times Never) }
+    ensures always { IsRule halting (at_all_times Always) → ⊥ }
 {}

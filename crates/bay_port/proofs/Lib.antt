@@ -1,5 +1,6 @@
 pub mod AttendLemmas
 pub mod BoundLemmas
+pub mod ExampleLemmas
 pub mod FitLemmas
 pub mod IntroductionLemmas
 pub mod KeyLemmas

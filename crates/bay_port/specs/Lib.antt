@@ -12,8 +12,8 @@
 -- was told that the process is lost. No line of the port is refused. While the connection stands,
 -- the link takes what the process is told in order; what it does not take waits, or is lost if the
 -- connection is closed. `Uses`: of what the link gives since a process was accepted no line is
--- lost, repeated or joined with another; and a process that is told of releases knows them. `Code`
--- numbers the reasons for closing.
+-- lost, repeated or joined with another; and a process that is told of releases knows them.
+-- `Examples`: a process that has sent the front of a line. `Code` numbers the reasons for closing.
 
 -- What public clauses cite of the crates below.
 pub use Rattle.bay_lines.specs.Fronts
@@ -22,6 +22,7 @@ pub use Rattle.bay_serve.specs.Calls
 -- Its own definitions.
 pub mod Attending
 pub mod Code
+pub mod Examples
 pub mod Fit
 pub mod Introduction
 pub mod Laws

@@ -1,7 +1,9 @@
 // Laws of the port of a process. Each function does nothing, and its contract is the law.
-ghost use Rattle.std.specs.Prelude.{◌≡◌, ℕ, Bool, true, List, Option, Some};
+ghost use Rattle.std.specs.Prelude.{◌≡◌, ℕ, Bool, false, true, List, None, Option, Some};
+ghost use Rattle.std.specs.declared.net.socket_addr.SocketAddrV4.{SocketAddrV4};
 ghost use Rattle.bay_device.specs.Device.{State};
 ghost use Rattle.bay_port.specs.Attending.{Script};
+ghost use Rattle.bay_port.specs.Examples.{front_sent};
 ghost use Rattle.bay_port.specs.Laws.{IsReadable, IsSilent, TellsInOrder};
 ghost use Rattle.bay_port.specs.Ports.{PortData, bare, taken_line};
 ghost use Rattle.bay_port.specs.Supervision.{AreOf, IsHeard, IsOfThisBay, IsOnTime};
@@ -9,6 +11,7 @@ ghost use Rattle.bay_port.specs.Telling.{ToldTurn};
 ghost use Rattle.bay_port.specs.Uses.{IsUpToDate, LosesNoLine, StaysHere, Use, after_uses};
 ghost use Rattle.bay_port.specs.Watching.{Duties, Watched};
 ghost use Rattle.bay_port.specs.declared.port.Presence.TheVariants.{Away, Here};
+ghost use Rattle.bay_serve.specs.Calls.{Over, Silence};
 ghost use Rattle.bay_serve.specs.declared.process.ProcessEvent.{ProcessEvent};
 
 /// A process that has gone reports nothing: after a closing, nothing that it sent is kept; the next
@@ -38,6 +41,15 @@ pub fn a_process_is_told_in_order()
 pub fn a_process_loses_no_line()
     ensures { (tells : Bool) (duties : Option Duties) (uses : List Use)
         → StaysHere uses (bare tells duties Away) → LosesNoLine tells duties uses }
+{}
+
+/// The front of a line that a process has sent is kept while it is there, and lost with it: this
+/// run is one that loses no line where nothing more comes, and is none where the connection ends.
+pub fn the_front_of_a_line_goes_with_its_process()
+    ensures here { (t : ToldTurn) (s : State) (from : SocketAddrV4)
+        → LosesNoLine false None (front_sent Silence t s from) }
+    ensures gone { (t : ToldTurn) (s : State) (from : SocketAddrV4)
+        → LosesNoLine false None (front_sent Over t s from) → ⊥ }
 {}
 
 /// A process that is told of releases knows them: after each turn, while it is there, the last line

@@ -1,0 +1,8 @@
+use Rattle.bay_audit_laws.proofs.ExampleLemmas.{breaks-always, keeps-never}
+use Rattle.bay_audit_laws.proofs.laws.a_program_that_releases_nothing.Goals as goal
+
+pub returns-clause-never : goal.returns-clause-never
+returns-clause-never l = keeps-never
+
+pub returns-clause-always : goal.returns-clause-always
+returns-clause-always l = breaks-always
