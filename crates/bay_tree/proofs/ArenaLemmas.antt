@@ -1,22 +1,21 @@
 -- What depends on the names of the rows alone, and so stays as it is when a value changes.
-use Rattle.std.proofs.Common.{String, ◌≡◌, ◌≢◌, ℕ, ◌+◌, ◌<◌, Bool, true, false, ltb, Option, Some, None, option_map, cond, List, [], ◌∷◌, ◌++◌, append-nil, ◌-◌, length, take, drop, get_or, map, refl, ap, sym, subst, ◌∙◌, ⊎_elim, arith}
+use Rattle.std.proofs.Common.{◌≡◌, ◌≢◌, ℕ, ◌+◌, ◌<◌, ◌==◌, Bool, true, false, ltb, Option, Some, None, option_map, cond, List, [], ◌∷◌, ◌++◌, append-nil, ◌-◌, length, take, drop, get_or, refl, ap, sym, subst, ◌∙◌, arith}
 use Rattle.std.proofs.Math.ListN.{get_or-map, set, length-set}
 use Rattle.std.proofs.Math.Seq.{map-set_same}
-use Rattle.std.proofs.lemmas.List.{drop-map, take-map, length-drop, drop_all, take_all, map-set, length-map, get_or-set_same, get_or-set_other}
-use Rattle.std.proofs.lemmas.Bool.{cases_eq}
+use Rattle.std.proofs.lemmas.List.{drop-map, drop_all, length-drop, take_all}
 use Rattle.std.proofs.lemmas.Iterator.Adapters.{position_from-zero}
-use Rattle.std.specs.HashMap.{HashMap}
 use Rattle.std.specs.List.{position_from, position_or_len}
-use Rattle.std.specs.Str.{IsUtf8, bytes_eq}
+use Rattle.std.specs.Str.{bytes_eq}
 use Rattle.bay_tree.specs.declared.row.Row.{Row}
 use Rattle.bay_tree.specs.declared.leaf.Leaf.{Leaf}
-use Rattle.bay_tree.specs.declared.node.Node.{Node}
-use Rattle.bay_tree.specs.Arena.{IsArena, node_at, row_of, rows_of, unlinked_node}
-use Rattle.bay_tree.specs.Names.{parent_of, is_below}
+use Rattle.bay_tree.specs.declared.index.Index.{Index}
+use Rattle.bay_tree.specs.declared.link.Link.{Link}
+use Rattle.bay_tree.specs.Arena.{IsArena, bucket_of, is_in_bucket, link_at}
+use Rattle.bay_tree.specs.Names.{IsWordAt, parent_of, is_below}
 use Rattle.bay_tree.specs.declared.page.Names.{Names}
 use Rattle.bay_tree.specs.Page.{page_after, rows_after, start_after}
 use Rattle.bay_tree.proofs.RowLemmas.{IsTree-set}
-use Rattle.bay_tree.specs.Rows.{IsTree, row_at, leaf_at, with_leaf, name_at, names_of, place_of, first_below, first_below_from, next_below, next_beside}
+use Rattle.bay_tree.specs.Rows.{leaf_at, with_leaf, name_at, names_of, place_of, first_below, first_below_from, next_below, next_beside}
 
 -- a search by name among the rows is a search among their names
 position_from-names : (test : List ℕ → Bool) (start : ℕ) (rows : List Row)
@@ -75,77 +74,54 @@ place_of-same a b name same =
     ∙ search-same (λ own. bytes_eq own name) 0 a b same
     ∙ sym (position_from-zero (λ (row : Row). bytes_eq row.name name) b)
 
--- the row of a node, as a row of the list
-pub row_at-node : (nodes : List Node) (k : ℕ) → row_at (rows_of nodes) k ≡ row_of (node_at nodes k)
-row_at-node nodes k = get_or-map row_of nodes k (unlinked_node (record { name = []; leaf = None }))
-
-pub rows_of-unlinked : (rows : List Row) → rows_of (map unlinked_node rows) ≡ rows
-rows_of-unlinked [] = refl
-rows_of-unlinked (row ∷ rows) = ap (λ rest. row ∷ rest) (rows_of-unlinked rows)
-
 -- what was written through a slice of a whole vector
-pub written : (old new : List Node) (n : ℕ) → length new ≡ length old → n ≡ length old
+pub written : (old new : List Link) (n : ℕ) → length new ≡ length old → n ≡ length old
     → take n (new ++ drop (length new) old) ≡ new
 written old new n same all =
     ap (λ rest. take n (new ++ rest)) (drop_all (length new) old (omega arith))
     ∙ ap (take n) (append-nil new) ∙ take_all n new (omega arith)
 
-row-is : (row : Row) (name : List ℕ) (leaf : Option Leaf) → row.name ≡ name → row.leaf ≡ leaf
-    → row ≡ record { name = name; leaf = leaf }
-row-is row name leaf e f =
-    ap (λ (n : List ℕ). let r : Row = record { name = n; leaf = row.leaf } in r) e
-    ∙ ap (λ (l : Option Leaf). let r : Row = record { name = name; leaf = l } in r) f
+-- a row with another value, put at its place
+pub with_leaf-set : (rows : List Row) (place : ℕ) (row : Row) (leaf : Leaf)
+    → row.name ≡ name_at rows place → row.leaf ≡ Some leaf
+    → set rows place row ≡ with_leaf rows place leaf
+with_leaf-set rows place row leaf name value =
+    ap (λ (n : List ℕ). set rows place (record { name = n; leaf = row.leaf })) name
+    ∙ ap (λ (l : Option Leaf). set rows place (record { name = name_at rows place; leaf = l })) value
 
--- a node with another value at a place
-pub with_leaf-set : (nodes : List Node) (place : ℕ) (node : Node) (leaf : Leaf)
-    → node.name ≡ (node_at nodes place).name → node.leaf ≡ Some leaf
-    → rows_of (set nodes place node) ≡ with_leaf (rows_of nodes) place leaf
-with_leaf-set nodes place node leaf name value =
-    map-set row_of nodes place node
-    ∙ ap (set (rows_of nodes) place)
-    (row-is (row_of node) (name_at (rows_of nodes) place) (Some leaf)
-    (name ∙ sym (ap (λ (r : Row). r.name) (row_at-node nodes place))) value)
-
-link-set : (link : Node → Option ℕ) (nodes : List Node) (place : ℕ) (node : Node) (k : ℕ)
-    → place < length nodes → link node ≡ link (node_at nodes place)
-    → link (node_at (set nodes place node) k) ≡ link (node_at nodes k)
-link-set link nodes place node k within same =
-    ⊎_elim (λ (here : k ≡ place). rw here
-    (ap link (get_or-set_same nodes place node _ within) ∙ same))
-    (λ (other : k ≢ place). ap link (get_or-set_other nodes place k node _ other))
-    (cases_eq k place)
-
--- a new value leaves the links and the index good
-pub IsArena-set : {A S : Type 0} (nodes : List Node) (index : HashMap (String A) ℕ S) (place : ℕ)
-    (node : Node) → place < length nodes → leaf_at (rows_of nodes) place ≢ None
-    → node.name ≡ (node_at nodes place).name → node.below ≡ (node_at nodes place).below
-    → node.beside ≡ (node_at nodes place).beside → IsArena nodes index
-    → IsArena (set nodes place node) index
-IsArena-set nodes index place node within leaf name below beside arena =
-    let rows = rows_of nodes in
-    let new : List Row = rows_of (set nodes place node) in
-    let within_rows : place < length rows = omega (arith, length-map nodes row_of) in
-    let named : node.name ≡ name_at rows place =
-    name ∙ sym (ap (λ (r : Row). r.name) (row_at-node nodes place)) in
-    let put : new ≡ set rows place (row_of node) = map-set row_of nodes place node in
+-- a new value leaves the index and the links good
+pub IsArena-set : (rows : List Row) (index : Index) (links : List Link) (place : ℕ) (row : Row)
+    → place < length rows → leaf_at rows place ≢ None → row.name ≡ name_at rows place
+    → IsArena rows index links → IsArena (set rows place row) index links
+IsArena-set rows index links place row within leaf name arena =
+    let new : List Row = set rows place row in
+    let count = length index.first.items in
     let names : names_of new ≡ names_of rows =
-    ap names_of put ∙ map-set_same (λ (r : Row). r.name) rows place (row_of node)
-    (record { name = []; leaf = None }) named in
-    let long : length (set nodes place node) ≡ length nodes = length-set nodes place node in
+    map-set_same (λ (r : Row). r.name) rows place row (record { name = []; leaf = None }) name in
+    let long : length new ≡ length rows = length-set rows place row in
+    let own = λ (k : ℕ). name_at-same new rows k names in
     record {
-      tree = subst IsTree (sym put)
-          (IsTree-set rows place (row_of node) within_rows leaf named arena.tree);
-      texts = λ k lt. subst IsUtf8 (sym (name_at-same new rows k names))
-          (arena.texts k
-          (omega (arith, length-map (set nodes place node) row_of, length-map nodes row_of)));
-      linked = record {
-        below = λ k lt. link-set (λ (n : Node). n.below) nodes place node k within below
-            ∙ arena.linked.below k (omega arith) ∙ sym (first_below-same new rows k names);
-        beside =
-            λ k lt. link-set (λ (n : Node). n.beside) nodes place node k within beside
-            ∙ arena.linked.beside k (omega arith) ∙ sym (next_beside-same new rows k names);
+      tree = IsTree-set rows place row within leaf name arena.tree;
+      indexed = record {
+        some = arena.indexed.some;
+        first = λ b lt. arena.indexed.first b lt
+            ∙ sym (search-same (λ n. bucket_of count n == b) 0 new rows names);
+        long = arena.indexed.long ∙ sym long;
+        next = λ k lt. arena.indexed.next k (omega arith)
+            ∙ sym (ap (λ n. position_from (is_in_bucket count (bucket_of count n)) (k + 1)
+            (drop (k + 1) new)) (own k)
+            ∙ search-same (λ n. bucket_of count n == bucket_of count (name_at rows k)) (k + 1)
+            (drop (k + 1) new) (drop (k + 1) rows) (names_of-drop (k + 1) new rows names));
       };
-      indexed = λ asked. arena.indexed asked ∙ sym (place_of-same new rows asked names);
+      linked = record {
+        long = arena.linked.long ∙ sym long;
+        word = λ k lt. subst (λ n. IsWordAt n (link_at links k).word) (sym (own k))
+            (arena.linked.word k (omega arith));
+        below = λ k lt. arena.linked.below k (omega arith)
+            ∙ sym (first_below-same new rows k names);
+        beside = λ k lt. arena.linked.beside k (omega arith)
+            ∙ sym (next_beside-same new rows k names);
+      };
     }
 
 -- the rows after a name, by where they begin
@@ -169,26 +145,22 @@ page-is a b m n e f =
     ap (λ (x : List (List ℕ)). let p : Names = record { names = x; more = m } in p) e
     ∙ ap (λ (x : Bool). let p : Names = record { names = b; more = x } in p) f
 
--- a page of the nodes from a place on is the page of the rows after the name
-pub page-made : (nodes : List Node) (rows : List Row) (name : Option (List ℕ)) (start count : ℕ)
-    (names : List (List ℕ)) → rows_of nodes ≡ rows → start_after rows name ≡ Some start
-    → names ≡ names_of (rows_of (take count (take (length nodes - start) (drop start nodes))))
+-- a page of the rows from a place on is the page of those after the name
+pub page-made : (held rows : List Row) (name : Option (List ℕ)) (start count : ℕ)
+    (names : List (List ℕ)) → held ≡ rows → start_after rows name ≡ Some start
+    → names ≡ names_of (take count (take (length held - start) (drop start held)))
     → (let p : Names = record {
       names = names;
       more =
-          ltb count (length (take (length nodes - start) (drop start nodes)));
+          ltb count (length (take (length held - start) (drop start held)));
     } in p)
     ≡ page_after rows name count
-page-made nodes rows name start count names same begins made =
-    let rest : List Node = take (length nodes - start) (drop start nodes) in
-    let whole : rest ≡ drop start nodes =
-    take_all (length nodes - start) (drop start nodes) (omega (arith, length-drop start nodes))
-    in
-    let all : rows_of rest ≡ rows_after rows name =
-    ap rows_of whole ∙ sym (drop-map row_of start nodes) ∙ ap (drop start) same
-    ∙ rows_after-start rows name start begins in
+page-made held rows name start count names same begins made =
+    let rest : List Row = take (length held - start) (drop start held) in
+    let all : rest ≡ rows_after rows name =
+    take_all (length held - start) (drop start held) (omega (arith, length-drop start held))
+    ∙ ap (drop start) same ∙ rows_after-start rows name start begins in
     page-is names (names_of (take count (rows_after rows name))) (ltb count (length rest))
     (ltb count (length (rows_after rows name)))
-    (made ∙ ap names_of (sym (take-map row_of count rest))
-    ∙ ap (λ (rs : List Row). names_of (take count rs)) all)
-    (ap (ltb count) (sym (length-map rest row_of) ∙ ap length all))
+    (made ∙ ap (λ (rs : List Row). names_of (take count rs)) all)
+    (ap (λ (rs : List Row). ltb count (length rs)) all)

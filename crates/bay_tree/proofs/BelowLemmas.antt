@@ -52,7 +52,7 @@ within-either test row rows start k true found later = let same : start ≡ k = 
 within-either test row rows start k false found later = omega (arith, later found)
 
 -- what a search finds stands at its start or behind it
-position_from-start : (test : Row → Bool) (rows : List Row) (start k : ℕ)
+pub position_from-start : (test : Row → Bool) (rows : List Row) (start k : ℕ)
     → position_from test start rows ≡ Some k → start ≤ k
 position_from-start test [] start k found = absurd cc
 position_from-start test (row ∷ rows) start k found =
@@ -147,7 +147,7 @@ end-either test row rows start k true found later = let same : start ≡ k = cc 
 end-either test row rows start k false found later = omega (arith, later found)
 
 -- what a search finds stands within the list
-position_from-end : (test : Row → Bool) (rows : List Row) (start k : ℕ)
+pub position_from-end : (test : Row → Bool) (rows : List Row) (start k : ℕ)
     → position_from test start rows ≡ Some k → k < start + length rows
 position_from-end test [] start k found = absurd cc
 position_from-end test (row ∷ rows) start k found =

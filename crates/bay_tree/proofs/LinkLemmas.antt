@@ -1,94 +1,65 @@
 -- Links that are made from the last row to the first.
-use Rattle.std.proofs.Common.{◌≡◌, ◌≢◌, ℕ, suc, ◌+◌, ◌<◌, ◌≤◌, ◌==◌, Bool, true, false, cond, Option, Some, None, option_and_then, IfSome, List, [], ◌∷◌, length, drop, map, refl, ap, sym, subst, ◌∙◌, ⊎_elim, arith, add-one}
-use Rattle.std.proofs.Math.ListN.{get_or-map}
-use Rattle.std.proofs.Math.Seq.{drop-cons}
-use Rattle.std.proofs.lemmas.List.{length-map, drop_all}
-use Rattle.std.proofs.lemmas.Bool.{cases_lt}
+use Rattle.std.proofs.Common.{◌≡◌, ◌≢◌, ℕ, ◌+◌, ◌<◌, ◌≤◌, ◌==◌, true, false, cond, Option, Some, None, option_and_then, IfSome, List, [], length, drop, refl, ap, sym, subst, ◌∙◌, ⊎_elim, arith}
+use Rattle.std.proofs.Math.ListN.{replicate, set}
+use Rattle.std.proofs.lemmas.List.{drop_all, get_or-replicate, get_or-set_other, get_or-set_same, length-replicate, length-set}
+use Rattle.std.proofs.lemmas.Bool.{cases_eq, cases_lt}
 use Rattle.std.proofs.lemmas.Bool.Decides.{Decides-eqb, eqb_tells}
-use Rattle.std.specs.List.{position_from}
 use Rattle.std.specs.Str.{bytes_eq}
 use Rattle.bay_tree.specs.declared.row.Row.{Row}
-use Rattle.bay_tree.specs.declared.node.Node.{Node}
-use Rattle.bay_tree.specs.Arena.{IsLinked, node_at, row_of, rows_of, unlinked_node}
-use Rattle.bay_tree.specs.Names.{parent_of, is_parent, is_below}
+use Rattle.bay_tree.specs.declared.link.Link.{Link}
+use Rattle.bay_tree.specs.Arena.{IsLinked, link_at}
+use Rattle.bay_tree.specs.Names.{IsWordAt, parent_of, is_parent, is_below}
 use Rattle.bay_tree.specs.Rows.{IsTree, IsStructureNamed, row_at, name_at, place_of, first_below_from, next_below, next_beside}
+use Rattle.bay_tree.proofs.IndexLemmas.{search-here}
 use Rattle.bay_tree.proofs.NamedLemmas.{same-text, other-text}
 use Rattle.bay_tree.proofs.SearchLemmas.{place_of-found, place_of-none}
 
 -- the links, as far as the rows from a place on tell
-pub record IsLinkedFrom (start : ℕ) (rows : List Row) (nodes : List Node) : Type 0 where
-  pub below : (k : ℕ) → k < length nodes
-      → (node_at nodes k).below ≡ first_below_from start (drop start rows) (name_at rows k)
-  pub beside : (k : ℕ) → start ≤ k → k < length nodes
-      → (node_at nodes k).beside ≡ next_beside rows k
-  pub bare : (k : ℕ) → k < start → k < length nodes → (node_at nodes k).beside ≡ None
+pub record IsLinkedFrom (start : ℕ) (rows : List Row) (links : List Link) : Type 0 where
+  pub long : length links ≡ length rows
+  pub word : (k : ℕ) → start ≤ k → k < length rows
+      → IsWordAt (name_at rows k) (link_at links k).word
+  pub below : (k : ℕ) → k < length rows
+      → (link_at links k).below ≡ first_below_from start (drop start rows) (name_at rows k)
+  pub beside : (k : ℕ) → start ≤ k → k < length rows
+      → (link_at links k).beside ≡ next_beside rows k
+  pub bare : (k : ℕ) → k < start → k < length rows → (link_at links k).beside ≡ None
 
--- what the loop keeps
-pub record Linking (start : ℕ) (rows : List Row) (nodes : List Node) : Type 0 where
-  pub rows_stay : rows_of nodes ≡ rows
-  pub linked : IsLinkedFrom start rows nodes
-
-pub length-rows_of : (nodes : List Node) → length (rows_of nodes) ≡ length nodes
-length-rows_of nodes = length-map nodes row_of
+-- where nothing is linked yet
+abbrev pub unlinked : Link
+unlinked = record { word = 0; below = None; beside = None }
 
 -- behind the last row nothing is below anything
-pub linked-none : (nodes : List Node) → nodes ≡ map unlinked_node (rows_of nodes)
-    → IsLinkedFrom (length nodes) (rows_of nodes) nodes
-linked-none nodes bare =
-    let rows = rows_of nodes in
-    let end : drop (length nodes) rows ≡ [] =
-    drop_all (length nodes) rows (omega (arith, length-rows_of nodes)) in
+pub linked-none : (rows : List Row)
+    → IsLinkedFrom (length rows) rows (replicate (length rows) unlinked)
+linked-none rows =
+    let own : (k : ℕ) → k < length rows → link_at (replicate (length rows) unlinked) k ≡ unlinked =
+    λ k lt. get_or-replicate (length rows) k unlinked unlinked lt in
     record {
-      below = λ k lt.
-          let own : (node_at nodes k).below ≡ None =
-          ap (λ ns. (node_at ns k).below) bare
-          ∙ ap (λ (n : Node). n.below)
-          (get_or-map unlinked_node rows k (record { name = []; leaf = None })) in
-          own ∙ sym (ap (λ rest. first_below_from (length nodes) rest (name_at rows k)) end);
+      long = length-replicate (length rows) unlinked;
+      word = λ k le lt. absurd (omega arith);
+      below = λ k lt. ap (λ (l : Link). l.below) (own k lt)
+          ∙ sym (ap (λ rest. first_below_from (length rows) rest (name_at rows k))
+          (drop_all (length rows) rows (omega arith)));
       beside = λ k le lt. absurd (omega arith);
-      bare = λ k before lt. ap (λ ns. (node_at ns k).beside) bare
-          ∙ ap (λ (n : Node). n.beside)
-          (get_or-map unlinked_node rows k (record { name = []; leaf = None }));
+      bare = λ k before lt. ap (λ (l : Link). l.beside) (own k lt);
     }
 
 -- the links as far as all rows tell
-pub linked-all : (rows : List Row) (nodes : List Node) → IsLinkedFrom 0 rows nodes
-    → IsLinked rows nodes
-linked-all rows nodes linked = record {
+pub linked-all : (rows : List Row) (links : List Link) → IsLinkedFrom 0 rows links
+    → IsLinked rows links
+linked-all rows links linked = record {
+  long = linked.long;
+  word = λ k lt. linked.word k (omega arith) lt;
   below = linked.below;
   beside = λ k lt. linked.beside k (omega arith) lt;
 }
-
--- one more row in front of those searched
-search-here : (test : Row → Bool) (rows : List Row) (i : ℕ) → i < length rows
-    → position_from test i (drop i rows)
-    ≡ cond (test (row_at rows i)) (Some i) (position_from test (i + 1) (drop (i + 1) rows))
-search-here test rows i lt =
-    let split : drop i rows ≡ row_at rows i ∷ drop (suc i) rows =
-    drop-cons rows i (record { name = []; leaf = None }) lt in
-    ap (λ rest. position_from test i rest) split
-    ∙ ap (λ n. cond (test (row_at rows i)) (Some i) (position_from test (i + 1) (drop n rows)))
-    (sym (add-one i))
 
 first-here : (rows : List Row) (i : ℕ) (parent : List ℕ) → i < length rows
     → first_below_from i (drop i rows) parent
     ≡ cond (is_below parent (name_at rows i)) (Some i)
     (first_below_from (i + 1) (drop (i + 1) rows) parent)
 first-here rows i parent lt = search-here (λ (row : Row). is_below parent row.name) rows i lt
-
--- the index with one more row in front of those that it has
-pub index-put : (rows : List Row) (start i : ℕ) (name own : List ℕ) (before after : Option ℕ)
-    → start ≡ i + 1 → i < length rows → own ≡ name_at rows i
-    → after ≡ cond (bytes_eq own name) (Some i) before
-    → before ≡ position_from (λ (row : Row). bytes_eq row.name name) start (drop start rows)
-    → after ≡ position_from (λ (row : Row). bytes_eq row.name name) i (drop i rows)
-index-put rows start i name own before after at lt named put held =
-    let test : Row → Bool = λ row. bytes_eq row.name name in
-    put
-    ∙ ap (λ n. cond (bytes_eq n name) (Some i) before) named
-    ∙ ap (λ o. cond (bytes_eq (name_at rows i) name) (Some i) o)
-    (held ∙ ap (λ n. position_from test n (drop n rows)) at)
-    ∙ sym (search-here test rows i lt)
 
 apart : (rows : List Row) (a k : ℕ) → IsTree rows → a < length rows → k < length rows → a ≢ k
     → name_at rows a ≢ name_at rows k
@@ -126,13 +97,13 @@ below-some rows i name parent lt some =
     ∙ ap (λ own. cond (is_parent name own) (Some i)
     (first_below_from (i + 1) (drop (i + 1) rows) name)) some
 
-beside-here : (rows : List Row) (i : ℕ) (nodes : List Node) (k : ℕ) → i ≤ k → k < length nodes
-    → (i < length nodes → (node_at nodes i).beside ≡ next_beside rows i)
-    → ((j : ℕ) → i + 1 ≤ j → j < length nodes → (node_at nodes j).beside ≡ next_beside rows j)
-    → (node_at nodes k).beside ≡ next_beside rows k
-beside-here rows i nodes k le lt here later =
+beside-here : (rows : List Row) (i : ℕ) (links : List Link) (k : ℕ) → i ≤ k → k < length rows
+    → (i < length rows → (link_at links i).beside ≡ next_beside rows i)
+    → ((j : ℕ) → i + 1 ≤ j → j < length rows → (link_at links j).beside ≡ next_beside rows j)
+    → (link_at links k).beside ≡ next_beside rows k
+beside-here rows i links k le lt here later =
     ⊎_elim (λ (is : (i == k ≡ true) × (i ≡ k)). subst
-    (λ n. (node_at nodes n).beside ≡ next_beside rows n) is.1 (here (omega arith)))
+    (λ n. (link_at links n).beside ≡ next_beside rows n) is.1 (here (omega arith)))
     (λ (is : (i == k ≡ false) × (i ≢ k)). later k (omega (arith, is.1)) lt) (eqb_tells i k)
 
 -- the row that a row stands below is there
@@ -141,6 +112,12 @@ above-of : (rows : List Row) (o : Option (List ℕ)) (a : ℕ)
     → (parent : List ℕ) × (o ≡ Some parent) × (place_of rows parent ≡ Some a)
 above-of rows None a h = absurd cc
 above-of rows (Some parent) a h = (parent, refl, h)
+
+pub above-within : (rows : List Row) (o : Option (List ℕ)) (a : ℕ)
+    → option_and_then (place_of rows) o ≡ Some a → a < length rows
+above-within rows o a h =
+    let above = above-of rows o a h in
+    (place_of-found rows above.0 a above.2).0
 
 no-above : (rows : List Row) (k : ℕ) (o : Option (List ℕ)) → k < length rows
     → IfSome o (λ parent. (j : ℕ) × (j < k) × IsStructureNamed parent (row_at rows j))
@@ -160,33 +137,80 @@ not-earlier i k lt =
     ⊎_elim (λ (is : (i == k ≡ true) × (i ≡ k)). absurd (omega (arith, is.1)))
     (λ (is : (i == k ≡ false) × (i ≢ k)). is.0) (eqb_tells i k)
 
+-- the links before the one at a place is written, whose word alone is known
+pub record IsWorded (i : ℕ) (rows : List Row) (links : List Link) : Type 0 where
+  pub word : IsWordAt (name_at rows i) (link_at links i).word
+  pub linked : IsLinkedFrom (i + 1) rows links
+
+either-word : (i : ℕ) (rows : List Row) (links : List Link) → IsWorded i rows links → (k : ℕ)
+    → i ≤ k → k < length rows → IsWordAt (name_at rows k) (link_at links k).word
+either-word i rows links worded k le lt =
+    ⊎_elim (λ (is : (i == k ≡ true) × (i ≡ k)). subst
+    (λ n. IsWordAt (name_at rows n) (link_at links n).word) is.1 worded.word)
+    (λ (is : (i == k ≡ false) × (i ≢ k)). worded.linked.word k (omega (arith, is.1)) lt)
+    (eqb_tells i k)
+
+-- a word is written where a row stands
+pub linked-word : (rows : List Row) (links : List Link) (i : ℕ) (link : Link) → i < length rows
+    → link.below ≡ (link_at links i).below → link.beside ≡ (link_at links i).beside
+    → IsWordAt (name_at rows i) link.word → IsLinkedFrom (i + 1) rows links
+    → IsWorded i rows (set links i link)
+linked-word rows links i link lt below beside word linked =
+    let in_links : i < length links = omega (arith, linked.long) in
+    let own : link_at (set links i link) i ≡ link = get_or-set_same links i link unlinked in_links
+    in
+    let other : (k : ℕ) → k ≢ i → link_at (set links i link) k ≡ link_at links k =
+    λ k apart. get_or-set_other links i k link unlinked apart in
+    let below_same : (k : ℕ) → (link_at (set links i link) k).below ≡ (link_at links k).below =
+    λ k. ⊎_elim (λ (here : k ≡ i). rw here (ap (λ (l : Link). l.below) own ∙ below))
+    (λ (apart : k ≢ i). ap (λ (l : Link). l.below) (other k apart)) (cases_eq k i) in
+    let beside_same : (k : ℕ) → (link_at (set links i link) k).beside ≡ (link_at links k).beside =
+    λ k. ⊎_elim (λ (here : k ≡ i). rw here (ap (λ (l : Link). l.beside) own ∙ beside))
+    (λ (apart : k ≢ i). ap (λ (l : Link). l.beside) (other k apart)) (cases_eq k i) in
+    record {
+      word = subst (λ (l : Link). IsWordAt (name_at rows i) l.word) (sym own) word;
+      linked = record {
+        long = length-set links i link ∙ linked.long;
+        word = λ k le in_k. subst (λ (l : Link). IsWordAt (name_at rows k) l.word)
+            (sym (other k (λ here. absurd (omega (arith, here))))) (linked.word k le in_k);
+        below = λ k in_k. below_same k ∙ linked.below k in_k;
+        beside = λ k le in_k. beside_same k ∙ linked.beside k le in_k;
+        bare = λ k before in_k. beside_same k ∙ linked.bare k before in_k;
+      };
+    }
+
 -- a row of one word leaves the links as they are
-pub linked-skip : (rows : List Row) (nodes : List Node) (i : ℕ) → IsTree rows → i < length rows
+pub linked-skip : (rows : List Row) (links : List Link) (i : ℕ) → IsTree rows → i < length rows
     → option_and_then (place_of rows) (parent_of (name_at rows i)) ≡ None
-    → IsLinkedFrom (i + 1) rows nodes → IsLinkedFrom i rows nodes
-linked-skip rows nodes i tree lt h linked =
+    → IsWorded i rows links → IsLinkedFrom i rows links
+linked-skip rows links i tree lt h worded =
+    let linked = worded.linked in
     let none : parent_of (name_at rows i) ≡ None =
     no-above rows i (parent_of (name_at rows i)) lt (tree.parents i lt) h in
     record {
-      below = λ k in_nodes. linked.below k in_nodes
-          ∙ sym (below-none rows i (name_at rows k) lt none);
+      long = linked.long;
+      word = either-word i rows links worded;
+      below = λ k in_k. linked.below k in_k ∙ sym (below-none rows i (name_at rows k) lt none);
       beside =
-          λ k le in_nodes. beside-here rows i nodes k le in_nodes
+          λ k le in_k. beside-here rows i links k le in_k
           (λ own. linked.bare i (omega arith) own ∙ sym (ap (next_below rows i) none))
           linked.beside;
-      bare = λ k before in_nodes. linked.bare k (omega arith) in_nodes;
+      bare = λ k before in_k. linked.bare k (omega arith) in_k;
     }
 
 -- a row is put before those below its parent
-pub linked-put : (rows : List Row) (nodes new : List Node) (i a : ℕ) → IsTree rows → i < length rows
-    → length nodes ≡ length rows → length new ≡ length rows
+pub linked-put : (rows : List Row) (links new : List Link) (i a : ℕ) → IsTree rows → i < length rows
+    → length new ≡ length rows
     → option_and_then (place_of rows) (parent_of (name_at rows i)) ≡ Some a
-    → ((k : ℕ) → k < length nodes
-    → (node_at new k).below ≡ cond (a == k) (Some i) (node_at nodes k).below)
-    → ((k : ℕ) → k < length nodes
-    → (node_at new k).beside ≡ cond (i == k) (node_at nodes a).below (node_at nodes k).beside)
-    → IsLinkedFrom (i + 1) rows nodes → IsLinkedFrom i rows new
-linked-put rows nodes new i a tree lt long long_new h below beside linked =
+    → ((k : ℕ) → k < length links → (link_at new k).word ≡ (link_at links k).word)
+    → ((k : ℕ) → k < length links
+    → (link_at new k).below ≡ cond (a == k) (Some i) (link_at links k).below)
+    → ((k : ℕ) → k < length links
+    → (link_at new k).beside ≡ cond (i == k) (link_at links a).below (link_at links k).beside)
+    → IsWorded i rows links → IsLinkedFrom i rows new
+linked-put rows links new i a tree lt long h word below beside worded =
+    let linked = worded.linked in
+    let all : length links ≡ length rows = linked.long in
     let above = above-of rows (parent_of (name_at rows i)) a h in
     let parent = above.0 in
     let some : parent_of (name_at rows i) ≡ Some parent = above.1 in
@@ -195,24 +219,26 @@ linked-put rows nodes new i a tree lt long long_new h below beside linked =
     let named : name_at rows a ≡ parent = found.1 in
     let rest = first_below_from (i + 1) (drop (i + 1) rows) in
     record {
-      below = λ k in_new.
+      long = long;
+      word = λ k le in_k. subst (λ w. IsWordAt (name_at rows k) w) (sym (word k (omega arith)))
+          (either-word i rows links worded k le in_k);
+      below = λ k in_k.
           below k (omega arith)
-          ∙ ap (λ o. cond (a == k) (Some i) o) (linked.below k (omega arith))
-          ∙ ap (λ b. cond b (Some i) (rest (name_at rows k)))
-          (same-place rows a k tree in_a (omega arith))
+          ∙ ap (λ o. cond (a == k) (Some i) o) (linked.below k in_k)
+          ∙ ap (λ b. cond b (Some i) (rest (name_at rows k))) (same-place rows a k tree in_a in_k)
           ∙ ap (λ p. cond (bytes_eq p (name_at rows k)) (Some i) (rest (name_at rows k))) named
           ∙ sym (below-some rows i (name_at rows k) parent lt some);
-      beside = λ k le in_new. beside-here rows i new k le in_new
+      beside = λ k le in_k. beside-here rows i new k le in_k
           (λ own. beside i (omega arith)
-          ∙ ap (λ b. cond b (node_at nodes a).below (node_at nodes i).beside)
+          ∙ ap (λ b. cond b (link_at links a).below (link_at links i).beside)
           ((Decides-eqb i i).1 refl)
-          ∙ linked.below a (omega arith)
+          ∙ linked.below a in_a
           ∙ ap rest named
           ∙ sym (ap (next_below rows i) some))
           (λ j later in_j. beside j (omega arith)
-          ∙ ap (λ b. cond b (node_at nodes a).below (node_at nodes j).beside)
-          (not-later i j later) ∙ linked.beside j later (omega arith));
-      bare = λ k before in_new. beside k (omega arith)
-          ∙ ap (λ b. cond b (node_at nodes a).below (node_at nodes k).beside)
-          (not-earlier i k before) ∙ linked.bare k (omega arith) (omega arith);
+          ∙ ap (λ b. cond b (link_at links a).below (link_at links j).beside)
+          (not-later i j later) ∙ linked.beside j later in_j);
+      bare = λ k before in_k. beside k (omega arith)
+          ∙ ap (λ b. cond b (link_at links a).below (link_at links k).beside)
+          (not-earlier i k before) ∙ linked.bare k (omega arith) in_k;
     }

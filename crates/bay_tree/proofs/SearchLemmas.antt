@@ -1,11 +1,10 @@
 -- What a search by name finds, and that it misses no row.
-use Rattle.std.proofs.Common.{◌≡◌, ◌≢◌, ℕ, ◌+◌, ◌<◌, Bool, true, false, cond, Option, Some, None, Err, option_map, List, [], ◌∷◌, length, All, get_or, refl, ap, sym, subst, ◌∙◌, arith, zero, suc}
+use Rattle.std.proofs.Common.{◌≡◌, ◌≢◌, ℕ, ◌+◌, ◌<◌, Bool, true, false, cond, Option, Some, None, Err, option_map, List, [], ◌∷◌, length, All, get_or, refl, ap, sym, ◌∙◌, arith, zero, suc}
 use Rattle.std.proofs.lemmas.Iterator.Adapters.{position_from-zero}
 use Rattle.std.proofs.lemmas.List.Quantifiers.{position-Some}
 use Rattle.std.proofs.lemmas.Slice.Eq.{bytes_eq-Decides}
 use Rattle.std.specs.List.{position_from}
-use Rattle.std.specs.Str.{IsUtf8, bytes_eq}
-use Rattle.bay_tree.specs.Arena.{AreTexts}
+use Rattle.std.specs.Str.{bytes_eq}
 use Rattle.std.specs.Option.{ok_or}
 use Rattle.bay_tree.specs.declared.fault.TreeFault.{TreeFault}
 use Rattle.bay_tree.specs.declared.row.Row.{Row}
@@ -77,18 +76,6 @@ start_after-some rows None start h unknown = unknown
 start_after-some rows (Some name) start h unknown =
     let found = started-with (place_of rows name) start h in
     place_of-some rows name found.0 found.1 unknown
-
-no_text : (rows : List Row) (name : List ℕ) (place : Option ℕ) → AreTexts rows → ¬ IsUtf8 name
-    → place_of rows name ≡ place → place ≡ None
-no_text rows name None texts bad is = refl
-no_text rows name (Some place) texts bad is =
-    let found = place_of-found rows name place is in
-    absurd (bad (subst IsUtf8 found.1 (texts place found.0)))
-
--- what is no text names no row
-pub place_of-no_text : (rows : List Row) (name : List ℕ) → AreTexts rows → ¬ IsUtf8 name
-    → place_of rows name ≡ None
-place_of-no_text rows name texts bad = no_text rows name (place_of rows name) texts bad refl
 
 -- a look-up that is refused has found no row
 pub not-found : (rows : List Row) (name : List ℕ) (fault other : TreeFault) (place : Option ℕ)

@@ -1,43 +1,48 @@
--- What ties the nodes of the arena and the index of their names to the list of rows.
-use Rattle.std.specs.Prelude.{String, ◌≡◌, ℕ, ◌<◌, None, List, [], length, map, slice_index_or}
-use Rattle.std.specs.HashMap.{HashMap, get_by_text}
-use Rattle.std.specs.Str.{IsUtf8}
+-- What ties the index and the links of a tree to the list of its rows.
+use Rattle.std.specs.Prelude.{◌≡◌, ℕ, ◌+◌, ◌*◌, ◌%◌, ◌^◌, ◌<◌, ◌==◌, Bool, None, List, length, drop, slice_index_or}
+use Rattle.std.specs.List.{fold, position_from}
+use Rattle.bay_tree.specs.declared.index.Index.{Index}
+use Rattle.bay_tree.specs.declared.link.Link.{Link}
 use Rattle.bay_tree.specs.declared.row.Row.{Row}
-use Rattle.bay_tree.specs.declared.node.Node.{Node}
-use Rattle.bay_tree.specs.Rows.{IsTree, name_at, place_of, first_below, next_beside}
+use Rattle.bay_tree.specs.Names.{IsWordAt}
+use Rattle.bay_tree.specs.Rows.{IsTree, name_at, first_below, next_beside}
 
--- the row that a node holds
-abbrev pub row_of : Node → Row
-row_of node = record { name = node.name; leaf = node.leaf }
+-- the hash of the octets before an octet, with the octet
+abbrev pub hash_with : ℕ → ℕ → ℕ
+hash_with hash octet = (hash * 16777619 % 2 ^ 32 + octet) % 2 ^ 32
 
--- the rows that the nodes hold, in order
-abbrev pub rows_of : List Node → List Row
-rows_of nodes = map row_of nodes
+-- the bucket of a name, out of so many
+abbrev pub bucket_of : ℕ → List ℕ → ℕ
+bucket_of count name = fold hash_with 0 name % count
 
--- a row that is not linked yet
-abbrev pub unlinked_node : Row → Node
-unlinked_node row = record { name = row.name; leaf = row.leaf; below = None; beside = None }
+-- a row stands in a bucket, out of so many
+abbrev pub is_in_bucket : ℕ → ℕ → Row → Bool
+is_in_bucket count bucket row = bucket_of count row.name == bucket
 
--- the node at a place; past the last place one without a name
-abbrev pub node_at : List Node → ℕ → Node
-node_at nodes place = slice_index_or nodes place (unlinked_node (record { name = []; leaf = None }))
+-- the index has the first row of each bucket, and behind each row the next of its bucket
+pub record IsIndex (rows : List Row) (index : Index) : Type 0 where
+  pub some : 0 < length index.first.items
+  pub first : (b : ℕ) → b < length index.first.items → slice_index_or index.first.items b None
+      ≡ position_from (is_in_bucket (length index.first.items) b) 0 rows
+  pub long : length index.next.items ≡ length rows
+  pub next : (k : ℕ) → k < length rows → slice_index_or index.next.items k None
+      ≡ position_from (is_in_bucket (length index.first.items)
+      (bucket_of (length index.first.items) (name_at rows k))) (k + 1) (drop (k + 1) rows)
 
--- each node knows the first row below its row and the next beside it
-pub record IsLinked (rows : List Row) (nodes : List Node) : Type 0 where
-  pub below : (k : ℕ) → k < length nodes → (node_at nodes k).below ≡ first_below rows k
-  pub beside : (k : ℕ) → k < length nodes → (node_at nodes k).beside ≡ next_beside rows k
+-- the link at a place; past the last place one that leads nowhere
+abbrev pub link_at : List Link → ℕ → Link
+link_at links place =
+    slice_index_or links place (record { word = 0; below = None; beside = None })
 
--- each name is a text in UTF-8
-abbrev pub AreTexts : List Row → Type 0
-AreTexts rows = (k : ℕ) → k < length rows → IsUtf8 (name_at rows k)
-
--- the index has the place of each name
-abbrev pub IsIndex : {A S : Type 0} → List Row → HashMap (String A) ℕ S → Type 0
-IsIndex rows index = (name : List ℕ) → get_by_text index name ≡ place_of rows name
+-- each row's link knows where its last word begins, the first row below it and the next beside it
+pub record IsLinked (rows : List Row) (links : List Link) : Type 0 where
+  pub long : length links ≡ length rows
+  pub word : (k : ℕ) → k < length rows → IsWordAt (name_at rows k) (link_at links k).word
+  pub below : (k : ℕ) → k < length rows → (link_at links k).below ≡ first_below rows k
+  pub beside : (k : ℕ) → k < length rows → (link_at links k).beside ≡ next_beside rows k
 
 -- what the fields of a tree keep
-pub record IsArena {A S : Type 0} (nodes : List Node) (index : HashMap (String A) ℕ S) : Type 0 where
-  pub tree : IsTree (rows_of nodes)
-  pub texts : AreTexts (rows_of nodes)
-  pub linked : IsLinked (rows_of nodes) nodes
-  pub indexed : IsIndex (rows_of nodes) index
+pub record IsArena (rows : List Row) (index : Index) (links : List Link) : Type 0 where
+  pub tree : IsTree rows
+  pub indexed : IsIndex rows index
+  pub linked : IsLinked rows links

@@ -1,22 +1,64 @@
-// The index of the rows by their names.
-ghost use Rattle.std.specs.Prelude.{IfOk, IsOk};
-ghost use Rattle.bay_tree.specs.Arena.{AreTexts, IsIndex};
+// The index of the rows by their names: a table of buckets, each a chain of rows in their order.
+ghost use Rattle.std.specs.Prelude.{◌≡◌, ◌<◌, IfOk};
+ghost use Rattle.bay_tree.specs.Arena.{IsIndex};
+ghost use Rattle.bay_tree.specs.Arena as spec;
+ghost use Rattle.bay_tree.specs.Rows.{place_of};
 
 use crate::row::Row;
 use std::alloc::{AllocError, Global};
-use std::collections::HashMap;
 
-/// The places of the rows by their names.
-pub type Index = HashMap<String, usize>;
+/// The places of the rows by their names. It has no names of its own: those of the rows are
+/// compared.
+#[derive(Debug, Drop)]
+pub struct Index {
+    /// The first row of each bucket.
+    first: Vec<Option<usize>>,
+    /// For each row the next one of its bucket.
+    next: Vec<Option<usize>>,
+}
+
+// Returns the bucket of a name, out of so many.
+fn bucket_of(count: usize, name: &[u8]) -> usize
+    requires { 0 < count }
+    ensures value { result ≡ spec.bucket_of count name.now }
+    ensures within { result < count }
+{
+    let mut hash = 0u32;
+    for octet in name {
+        hash = hash
+            .wrapping_mul(16_777_619)
+            .wrapping_add(u32::from(*octet));
+    }
+    hash as usize % count
+}
 
 /// Builds the index of these rows.
 pub fn index_of(alloc: Global, rows: &[Row]) -> Result<Index, AllocError>
-    ensures places { IfOk result (λ index. IsIndex rows.now index) }
-    ensures texts { IsOk result → AreTexts rows.now }
+    ensures { IfOk result (IsIndex rows.now) }
 {
-    let mut index = HashMap::with_capacity(alloc, rows.len())?;
+    let mut first = vec![in alloc; None; rows.len() + 1]?;
+    let mut next = vec![in alloc; None; rows.len()]?;
     for place in (0..rows.len()).rev() {
-        index.insert(String::from_str(alloc, rows[place].name.as_str())?, place)?;
+        let bucket = bucket_of(first.len(), rows[place].name.as_str().as_bytes());
+        next[place] = first[bucket];
+        first[bucket] = Some(place);
     }
-    Ok(index)
+    Ok(Index { first, next })
+}
+
+impl Index {
+    /// Returns the place of the first of the rows with this name, given as octets.
+    pub fn find(&self, rows: &[Row], name: &[u8]) -> Option<usize>
+        requires { IsIndex rows.now self.now }
+        ensures { result ≡ place_of rows.now name.now }
+    {
+        let mut at = self.first[bucket_of(self.first.len(), name)];
+        while let Some(place) = at {
+            if rows[place].name.as_str().as_bytes() == name {
+                return at;
+            }
+            at = self.next[place];
+        }
+        None
+    }
 }

@@ -3,16 +3,16 @@
 //
 // Handed out: `tree` (the tree and its calls), `row` and `leaf` (what it is built of and holds),
 // `page` (a page of names), `fault`, `search` (whether rows make a tree), `laws` (what a write
-// leaves). Inside: `node` (the rows as an arena, each with its links), `index` (the places of
-// names), `name` (a name with its last word).
+// leaves). Inside: `index` (the places of names), `link` (the rows that a client can go to from a
+// row), `name` (a name's parent and its last word).
 #![tactic(auto)]
 
 pub mod fault;
 mod index;
 pub mod laws;
 pub mod leaf;
+mod link;
 mod name;
-mod node;
 pub mod page;
 pub mod row;
 pub mod search;

@@ -1,9 +1,8 @@
 // Pages of names.
 ghost use Rattle.std.specs.Prelude.{◌≡◌, take, IfOk};
 ghost use Rattle.bay_tree.specs.Rows.{names_of};
-ghost use Rattle.bay_tree.specs.Arena.{rows_of};
 
-use crate::node::Node;
+use crate::row::Row;
 use bay_base::listing::Listing;
 use bay_base::text::Text;
 use std::alloc::{AllocError, Global};
@@ -16,29 +15,29 @@ pub struct Names {
     pub more: bool,
 }
 
-// Returns the first `count` nodes, or all if there are fewer.
-fn first_nodes(nodes: &[Node], count: usize) -> &[Node]
-    ensures { result.now ≡ take count nodes.now }
+// Returns the first `count` rows, or all if there are fewer.
+fn first_rows(rows: &[Row], count: usize) -> &[Row]
+    ensures { result.now ≡ take count rows.now }
 {
-    if count < nodes.len() {
-        &nodes[..count]
+    if count < rows.len() {
+        &rows[..count]
     } else {
-        nodes
+        rows
     }
 }
 
-/// Copies the names of the first `count` nodes, or of all if there are fewer.
+/// Copies the names of the first `count` rows, or of all if there are fewer.
 pub(crate) fn first_names(
     alloc: Global,
-    nodes: &[Node],
+    rows: &[Row],
     count: usize,
 ) -> Result<Vec<Text>, AllocError>
-    ensures { IfOk result (λ names. names.items ≡ names_of (rows_of (take count nodes.now))) }
+    ensures { IfOk result (λ names. names.items ≡ names_of (take count rows.now)) }
 {
-    let first = first_nodes(nodes, count);
+    let first = first_rows(rows, count);
     let mut names = Vec::with_capacity(alloc, first.len())?;
-    for node in first {
-        names.push(Text::from_str(alloc, node.name.as_str())?)?;
+    for row in first {
+        names.push(Text::from_str(alloc, row.name.as_str())?)?;
     }
     Ok(names)
 }

@@ -4,7 +4,7 @@ ghost use Rattle.bay_tree.specs.Arena.{IsIndex};
 ghost use Rattle.bay_tree.specs.Rows.{IsTree, IsBelowStructure, name_at, place_of};
 
 use crate::index::{Index, index_of};
-use crate::name::parent;
+use crate::name::part_name;
 use crate::row::Row;
 use std::alloc::{AllocError, Global};
 
@@ -14,8 +14,8 @@ fn is_first(rows: &[Row], index: &Index, place: usize) -> bool
     requires indexed { IsIndex rows.now index.now }
     ensures { IsTrue result ↔ (place_of rows.now (name_at rows.now place) ≡ Some place) }
 {
-    match index.get(rows[place].name.as_str()) {
-        Some(first) => *first == place,
+    match index.find(rows, rows[place].name.as_str().as_bytes()) {
+        Some(first) => first == place,
         None => false,
     }
 }
@@ -26,12 +26,12 @@ fn is_below_structure(rows: &[Row], index: &Index, place: usize) -> bool
     requires indexed { IsIndex rows.now index.now }
     ensures { IsTrue result ↔ IsBelowStructure rows.now place }
 {
-    let above = match parent(rows[place].name.as_str()) {
-        Some(above) => index.get(above),
+    let above = match part_name(rows[place].name.as_str()).parent {
+        Some(parent) => index.find(rows, parent.as_bytes()),
         None => return true,
     };
     match above {
-        Some(above) => *above < place && rows[*above].leaf.is_none(),
+        Some(above) => above < place && rows[above].leaf.is_none(),
         None => false,
     }
 }

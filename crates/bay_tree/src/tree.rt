@@ -11,7 +11,7 @@ ghost use Rattle.bay_tree.specs.Page as spec;
 use crate::fault::{NamesFault, TreeFault};
 use crate::index::{Index, index_of};
 use crate::leaf::{Leaf, LeafType};
-use crate::node::{Node, link, nodes_of};
+use crate::link::{Link, links_of};
 use crate::page::{Names, first_names};
 use crate::row::Row;
 use bay_base::listing::Listing;
@@ -37,20 +37,21 @@ impl Model for Handle {
 /// The tree of named values of one logical device, which contracts see as the list of its rows.
 #[derive(Debug, Drop)]
 pub struct Tree {
-    nodes: Vec<Node>,
+    rows: Vec<Row>,
     index: Index,
+    links: Vec<Link>,
 }
 
 impl Model for Tree {
     ghost use Rattle.std.specs.Prelude.{List};
     ghost use Rattle.bay_tree.specs.declared.row.Row.{Row};
-    ghost use Rattle.bay_tree.specs.Arena.{IsArena, rows_of};
+    ghost use Rattle.bay_tree.specs.Arena.{IsArena};
 
     ghost Value = { List Row };
 
-    ghost view = { λ t. rows_of t.nodes.items };
+    ghost view = { λ t. t.rows.items };
 
-    ghost invariant = { λ t. IsArena t.nodes.items t.index };
+    ghost invariant = { λ t. IsArena t.rows.items t.index t.links.items };
 }
 
 // Writes a value to a place. A plain value overwrites a value of its own type in place, which
@@ -91,9 +92,8 @@ impl Tree {
         ensures { IfOk result (λ tree. tree ≡ rows.items) }
     {
         let index = index_of(alloc, rows.as_slice())?;
-        let mut nodes = nodes_of(alloc, rows)?;
-        link(&mut nodes, &index);
-        Ok(Tree { nodes, index })
+        let links = links_of(alloc, rows.as_slice(), &index)?;
+        Ok(Tree { rows, index, links })
     }
 
     /// States that the rows are a tree: their names differ, and each name's parent is a structure
@@ -101,7 +101,7 @@ impl Tree {
     pub fn are_a_tree(&self)
         ensures { IsTree self.now }
     {
-        let _ = &self.nodes;
+        let _ = &self.rows;
     }
 
     /// Returns the handle of the row with this name.
@@ -114,10 +114,7 @@ impl Tree {
         ensures unknown { (result ≡ Err TreeFault.NoSuchName)
             ↔ All (λ row. row.name ≢ name.now) self.now }
     {
-        match self.index.get(name) {
-            Some(index) => Ok(Handle { index: *index }),
-            None => Err(TreeFault::NoSuchName),
-        }
+        self.find_octets(name.as_bytes())
     }
 
     /// Returns the handle of the row with this name, given as octets. Octets that are not valid
@@ -131,11 +128,9 @@ impl Tree {
         ensures unknown { (result ≡ Err TreeFault.NoSuchName)
             ↔ All (λ row. row.name ≢ name.now) self.now }
     {
-        // That each row's name is a text is known of the tree's parts alone.
-        let _ = &self.nodes;
-        match str::from_utf8(name) {
-            Ok(text) => self.find(text),
-            Err(_) => Err(TreeFault::NoSuchName),
+        match self.index.find(&self.rows, name) {
+            Some(index) => Ok(Handle { index }),
+            None => Err(TreeFault::NoSuchName),
         }
     }
 
@@ -146,7 +141,7 @@ impl Tree {
         ensures value { option_copied result ≡ leaf_at self.now handle }
         ensures named { option_copied result ≡ leaf_of (name_at self.now handle) self.now }
     {
-        self.nodes[handle.index].leaf.as_ref()
+        self.rows[handle.index].leaf.as_ref()
     }
 
     // Returns whether a row has a value of this type.
@@ -181,7 +176,7 @@ impl Tree {
         if !self.has_leaf_type(handle, leaf.leaf_type()) {
             return Err(TreeFault::WrongType);
         }
-        put_leaf(&mut self.nodes[handle.index].leaf, leaf);
+        put_leaf(&mut self.rows[handle.index].leaf, leaf);
         Ok(())
     }
 
@@ -194,7 +189,7 @@ impl Tree {
             ≡ places_since self.now (name_at self.now handle) result }
         ensures after { IfSome result (λ row. (handle < row) × IsHandle self.now row) }
     {
-        let index = self.nodes[handle.index].below?;
+        let index = self.links[handle.index].below?;
         Some(Handle { index })
     }
 
@@ -207,7 +202,7 @@ impl Tree {
             (λ parent. places_behind self.now parent handle ≡ places_since self.now parent result) }
         ensures after { IfSome result (λ row. (handle < row) × IsHandle self.now row) }
     {
-        let index = self.nodes[handle.index].beside?;
+        let index = self.links[handle.index].beside?;
         Some(Handle { index })
     }
 
@@ -216,7 +211,7 @@ impl Tree {
         ensures place { result ≡ place_if self.now 0 }
         ensures there { IfSome result (IsHandle self.now) }
     {
-        if self.nodes.is_empty() {
+        if self.rows.is_empty() {
             None
         } else {
             Some(Handle { index: 0 })
@@ -229,7 +224,7 @@ impl Tree {
         ensures place { result ≡ place_if self.now (handle + 1) }
         ensures there { IfSome result (IsHandle self.now) }
     {
-        if self.nodes.len() - handle.index > 1 {
+        if self.rows.len() - handle.index > 1 {
             Some(Handle {
                 index: handle.index + 1,
             })
@@ -243,7 +238,7 @@ impl Tree {
         requires { IsHandle self.now handle }
         ensures { result.now ≡ name_at self.now handle }
     {
-        self.nodes[handle.index].name.as_str()
+        self.rows[handle.index].name.as_str()
     }
 
     /// Returns the last word of a row's name.
@@ -253,7 +248,7 @@ impl Tree {
         ensures named { IsNamed (parent_of (name_at self.now handle)) result.now
             (name_at self.now handle) }
     {
-        self.nodes[handle.index].name.word()
+        &self.name(handle)[self.links[handle.index].word..]
     }
 
     /// Returns the first `count` names that follow the row with a name, or the first of all if no
@@ -273,7 +268,7 @@ impl Tree {
             Some(start) => start,
             None => return Err(NamesFault::NoSuchName),
         };
-        let rest = &self.nodes.as_slice()[start..];
+        let rest = &self.rows.as_slice()[start..];
         let names = first_names(alloc, rest, count)?;
         Ok(Names {
             names: Listing::new(names),
@@ -294,8 +289,8 @@ impl Tree {
             None => return Ok(0),
             Some(name) => name,
         };
-        // That the rows are as many as nodes is known of the tree's parts alone.
-        let _ = &self.nodes;
+        // How many rows there may be is known of the tree's parts alone.
+        let _ = &self.rows;
         match self.find_octets(name) {
             Ok(row) => Ok(row.index + 1),
             Err(_) => Err(NamesFault::NoSuchName),
@@ -309,8 +304,8 @@ impl Tree {
     {
         match after {
             None => Some(0),
-            Some(name) => match self.index.get(name) {
-                Some(place) => Some(*place + 1),
+            Some(name) => match self.index.find(&self.rows, name.as_bytes()) {
+                Some(place) => Some(place + 1),
                 None => None,
             },
         }

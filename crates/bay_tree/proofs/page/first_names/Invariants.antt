@@ -1,8 +1,7 @@
 use Rattle.std.proofs.Common.{◌≡◌, take}
-use Rattle.bay_tree.specs.Arena.{rows_of}
 use Rattle.bay_tree.specs.Rows.{names_of}
 use Rattle.bay_tree.proofs.page.first_names.Given as goal
 
--- the names of the nodes so far
-abbrev pub invariant-loop-node : goal.invariant-loop-node
-invariant-loop-node l = l.names.items ≡ names_of (rows_of (take l.node-index l.first))
+-- the names of the rows so far
+abbrev pub invariant-loop-row : goal.invariant-loop-row
+invariant-loop-row l = l.names.items ≡ names_of (take l.row-index l.first)

@@ -1,4 +1,4 @@
-use Rattle.std.proofs.Common.{◌≡◌, None, [], sym, ap, ◌∙◌}
+use Rattle.std.proofs.Common.{◌≡◌, [], None, sym, ap, ◌∙◌}
 use Rattle.std.proofs.lemmas.List.{get_or_default}
 use Rattle.bay_tree.specs.declared.row.Row.{Row}
 use Rattle.bay_tree.specs.Rows.{name_at, place_of}
@@ -11,11 +11,10 @@ returns-in-Some c =
     let row =
     get_or_default rows c.args.place c.index-rows-place.result
     (record { name = []; leaf = None }) c.requires.within in
-    let named : c.as_str.result.now ≡ name_at rows c.args.place =
-    c.as_str.ensures ∙ ap (λ (r : Row). r.name) row in
-    first-is _ c.in-Some.first.now c.args.place
-    (sym (ap (place_of rows) named) ∙ sym (c.requires.indexed c.as_str.result.now)
-    ∙ sym c.in-Some.ensures.value)
+    let named : c.as_bytes.result.now ≡ name_at rows c.args.place =
+    c.as_bytes.ensures.value ∙ c.as_str.ensures ∙ ap (λ (r : Row). r.name) row in
+    first-is _ c.in-Some.first c.args.place
+    (sym (ap (place_of rows) named) ∙ sym c.in-Some.ensures)
 
 pub returns-in-None : goal.returns-in-None
 returns-in-None c =
@@ -23,7 +22,6 @@ returns-in-None c =
     let row =
     get_or_default rows c.args.place c.index-rows-place.result
     (record { name = []; leaf = None }) c.requires.within in
-    let named : c.as_str.result.now ≡ name_at rows c.args.place =
-    c.as_str.ensures ∙ ap (λ (r : Row). r.name) row in
-    none-is _ c.args.place (sym (ap (place_of rows) named)
-    ∙ sym (c.requires.indexed c.as_str.result.now) ∙ sym c.in-None.ensures.value)
+    let named : c.as_bytes.result.now ≡ name_at rows c.args.place =
+    c.as_bytes.ensures.value ∙ c.as_str.ensures ∙ ap (λ (r : Row). r.name) row in
+    none-is _ c.args.place (sym (ap (place_of rows) named) ∙ sym c.in-None.ensures)

@@ -1,19 +1,33 @@
-use Rattle.std.proofs.Common.{◌≡◌, None, refl, subst}
-use Rattle.bay_tree.specs.Arena.{AreTexts}
+use Rattle.std.proofs.Common.{◌≡◌, Some, None, List, ap, sym, refl, ◌∙◌}
+use Rattle.bay_tree.specs.declared.row.Row.{Row}
 use Rattle.bay_tree.specs.Rows.{place_of}
-use Rattle.bay_tree.proofs.SearchLemmas.{place_of-none, place_of-no_text}
+use Rattle.bay_tree.proofs.NamedLemmas.{found-leaf}
+use Rattle.bay_tree.proofs.SearchLemmas.{place_of-found, place_of-none, place_of-some}
 use Rattle.bay_tree.proofs.tree.Tree.find_octets.Goals as goal
 
-pub returns-in-Err-clause-place : goal.returns-in-Err-clause-place
-returns-in-Err-clause-place c =
-    let lacking : place_of c.args.self.now c.args.name.now ≡ None =
-    place_of-no_text c.args.self.now c.args.name.now
-    (subst AreTexts c.self.view_is c.self.invariant.texts) c.in-Err.ensures.cases.0 in
-    rw lacking
+place : (c : goal.In-Some) → place_of c.args.self.now c.args.name.now ≡ Some c.in-Some.index
+place c =
+    ap (λ (rs : List Row). place_of rs c.args.name.now) (sym (c.deref.ensures.value ∙ c.self.view_is))
+    ∙ sym c.in-Some.ensures
 
-pub returns-in-Err-clause-unknown : goal.returns-in-Err-clause-unknown
-returns-in-Err-clause-unknown c =
-    let lacking : place_of c.args.self.now c.args.name.now ≡ None =
-    place_of-no_text c.args.self.now c.args.name.now
-    (subst AreTexts c.self.view_is c.self.invariant.texts) c.in-Err.ensures.cases.0 in
-    (λ _. place_of-none c.args.self.now c.args.name.now lacking, λ _. refl)
+pub returns-in-Some-clause-found : goal.returns-in-Some-clause-found
+returns-in-Some-clause-found c =
+    place_of-found c.args.self.now c.args.name.now c.in-Some.index (place c)
+
+pub returns-in-Some-clause-value : goal.returns-in-Some-clause-value
+returns-in-Some-clause-value c =
+    found-leaf c.args.name.now c.args.self.now c.in-Some.index (place c)
+
+pub returns-in-Some-clause-unknown : goal.returns-in-Some-clause-unknown
+returns-in-Some-clause-unknown c = (
+  λ e. absurd cc,
+  λ lacking. absurd
+      (place_of-some c.args.self.now c.args.name.now c.in-Some.index (place c) lacking),
+)
+
+pub returns-in-None-clause-unknown : goal.returns-in-None-clause-unknown
+returns-in-None-clause-unknown c =
+    let none : place_of c.args.self.now c.args.name.now ≡ None =
+    ap (λ (rs : List Row). place_of rs c.args.name.now)
+    (sym (c.deref.ensures.value ∙ c.self.view_is)) ∙ sym c.in-None.ensures in
+    (λ _. place_of-none c.args.self.now c.args.name.now none, λ _. refl)

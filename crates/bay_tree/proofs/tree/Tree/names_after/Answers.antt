@@ -1,7 +1,6 @@
-use Rattle.std.proofs.Common.{◌≡◌, Some, None, sym, ap, ◌∙◌, refl}
+use Rattle.std.proofs.Common.{◌≡◌, Some, None, sym, ◌∙◌, refl}
 use Rattle.std.specs.Option.{option_copied}
 use Rattle.bay_tree.specs.Page.{start_after}
-use Rattle.bay_tree.specs.Arena.{rows_of}
 use Rattle.bay_tree.proofs.ArenaLemmas.{page-made}
 use Rattle.bay_tree.proofs.SearchLemmas.{start_after-none, start_after-some}
 use Rattle.bay_tree.proofs.tree.Tree.names_after.Goals as goal
@@ -34,6 +33,5 @@ returns-clause-unknown c =
 pub returns-clause-page : goal.returns-clause-page
 returns-clause-page c =
     page-made c.as_slice.result.now c.args.self.now (option_copied c.args.after) c.in-Some.start
-    c.args.count c.new.result
-    (ap rows_of c.as_slice.ensures.value ∙ c.self.view_is) (sym c.in-Some.ensures.start)
+    c.args.count c.new.result (c.as_slice.ensures.value ∙ c.self.view_is) (sym c.in-Some.ensures.start)
     (c.new.ensures ∙ c.in_ok-names.ensures)

@@ -1,23 +1,18 @@
-use Rattle.std.proofs.Common.{◌≡◌, ◌<◌, Some, sym, ap, ◌∙◌, length, arith}
-use Rattle.std.proofs.lemmas.List.{length-map}
-use Rattle.bay_tree.specs.Arena.{row_of}
-use Rattle.bay_tree.specs.Rows.{place_of}
+use Rattle.std.proofs.Common.{◌≡◌, ◌<◌, length, sym, ap, ◌∙◌, arith}
 use Rattle.bay_tree.proofs.SearchLemmas.{place_of-found}
 use Rattle.bay_tree.proofs.tree.Tree.start_after.Goals as goal
 
-found : (c : goal.After-row_known-1) → c.in-Some-get.place.now < length c.args.self.now
+found : (c : goal.In-Some-find) → c.in-Some-find.place < length c.deref.result.now
 found c =
-    let place : place_of c.args.self.now c.in-Some.name.now ≡ Some c.in-Some-get.place.now =
-    rw (← c.self.view_is) (sym (c.self.invariant.indexed c.in-Some.name.now)
-    ∙ sym c.in-Some-get.ensures.value) in
-    (place_of-found c.args.self.now c.in-Some.name.now c.in-Some-get.place.now place).0
+    (place_of-found c.deref.result.now c.as_bytes.result.now c.in-Some-find.place
+    (sym c.in-Some-find.ensures)).0
 
 pub overflow_add-result : goal.overflow_add-result
 overflow_add-result c =
-    let within = found c in
-    let long : length c.args.self.now ≡ length c.self.inside.nodes.items =
-    sym (ap length c.self.view_is) ∙ length-map c.self.inside.nodes.items row_of in
-    omega (arith, within, c.self.inside.nodes.ok, c.self.inside.nodes.small)
+    omega (arith, found c, c.deref.ensures.len, c.self.inside.rows.small)
 
-pub returns-in-Some-get-clause-within : goal.returns-in-Some-get-clause-within
-returns-in-Some-get-clause-within c = omega (arith, found c)
+pub returns-in-Some-find-clause-within : goal.returns-in-Some-find-clause-within
+returns-in-Some-find-clause-within c =
+    let same : length c.deref.result.now ≡ length c.args.self.now =
+    ap length (c.deref.ensures.value ∙ c.self.view_is) in
+    omega (arith, found c, same)
