@@ -13,7 +13,7 @@ use Rattle.bay_tree.specs.declared.link.Link.{Link}
 use Rattle.bay_tree.specs.Arena.{IsArena, bucket_of, is_in_bucket, link_at}
 use Rattle.bay_tree.specs.Names.{IsWordAt, parent_of, is_below}
 use Rattle.bay_tree.specs.declared.page.Names.{Names}
-use Rattle.bay_tree.specs.Page.{page_after, rows_after, start_after}
+use Rattle.bay_tree.specs.Page.{page_after, rows_after}
 use Rattle.bay_tree.proofs.RowLemmas.{IsTree-set}
 use Rattle.bay_tree.specs.Rows.{leaf_at, with_leaf, name_at, names_of, place_of, first_below, first_below_from, next_below, next_beside}
 
@@ -124,20 +124,6 @@ IsArena-set rows index links place row within leaf name arena =
       };
     }
 
--- the rows after a name, by where they begin
-rest-either : (rows : List Row) (b : Bool) (n start : ℕ)
-    → option_map (λ p. p + 1) (cond b (Some n) None) ≡ Some start
-    → drop start rows ≡ drop (n + 1) rows
-rest-either rows true n start h = let same : n + 1 ≡ start = cc in rw (← same)
-rest-either rows false n start h = absurd cc
-
-pub rows_after-start : (rows : List Row) (name : Option (List ℕ)) (start : ℕ)
-    → start_after rows name ≡ Some start → drop start rows ≡ rows_after rows name
-rows_after-start rows None start h = let same : 0 ≡ start = cc in rw (← same)
-rows_after-start rows (Some name) start h =
-    rest-either rows (ltb (position_or_len (λ (row : Row). bytes_eq row.name name) rows)
-    (length rows)) (position_or_len (λ (row : Row). bytes_eq row.name name) rows) start h
-
 page-is : (a b : List (List ℕ)) (m n : Bool) → a ≡ b → m ≡ n
     → (let p : Names = record { names = a; more = m } in p)
     ≡ (let p : Names = record { names = b; more = n } in p)
@@ -147,7 +133,7 @@ page-is a b m n e f =
 
 -- a page of the rows from a place on is the page of those after the name
 pub page-made : (held rows : List Row) (name : Option (List ℕ)) (start count : ℕ)
-    (names : List (List ℕ)) → held ≡ rows → start_after rows name ≡ Some start
+    (names : List (List ℕ)) → held ≡ rows → drop start rows ≡ rows_after rows name
     → names ≡ names_of (take count (take (length held - start) (drop start held)))
     → (let p : Names = record {
       names = names;
@@ -159,7 +145,7 @@ page-made held rows name start count names same begins made =
     let rest : List Row = take (length held - start) (drop start held) in
     let all : rest ≡ rows_after rows name =
     take_all (length held - start) (drop start held) (omega (arith, length-drop start held))
-    ∙ ap (drop start) same ∙ rows_after-start rows name start begins in
+    ∙ ap (drop start) same ∙ begins in
     page-is names (names_of (take count (rows_after rows name))) (ltb count (length rest))
     (ltb count (length (rows_after rows name)))
     (made ∙ ap (λ (rs : List Row). names_of (take count rs)) all)

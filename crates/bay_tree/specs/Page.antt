@@ -23,8 +23,3 @@ page_after rows name count =
 abbrev pub IsUnknown : List Row → Option (List ℕ) → Type 0
 IsUnknown rows None = ⊥
 IsUnknown rows (Some name) = All (λ row. row.name ≢ name) rows
-
--- where the rows after a name begin
-abbrev pub start_after : List Row → Option (List ℕ) → Option ℕ
-start_after rows None = Some 0
-start_after rows (Some name) = option_map (λ place. place + 1) (place_of rows name)

@@ -6,7 +6,6 @@ ghost use Rattle.bay_tree.specs.Rows.{IsTree, IsHandle, place_of, name_at, leaf_
 ghost use Rattle.bay_tree.specs.LeafTypes.{leaf_type_of};
 ghost use Rattle.bay_tree.specs.Order.{place_if};
 ghost use Rattle.bay_tree.specs.Page.{page_after, rows_after, IsUnknown};
-ghost use Rattle.bay_tree.specs.Page as spec;
 
 use crate::fault::{NamesFault, TreeFault};
 use crate::index::{Index, index_of};
@@ -82,6 +81,16 @@ fn put_leaf(place: &mut Option<Leaf>, leaf: Leaf)
             _ => *place = Some(Leaf::Utc(new)),
         },
         leaf => *place = Some(leaf),
+    }
+}
+
+// Returns the octets of a name, if one is given.
+fn octets_of(name: Option<&str>) -> Option<&[u8]>
+    ensures { option_copied result ≡ option_copied name.entry }
+{
+    match name {
+        Some(name) => Some(name.as_bytes()),
+        None => None,
     }
 }
 
@@ -264,10 +273,7 @@ impl Tree {
         ensures unknown { (result ≡ Err NamesFault.NoSuchName)
             ↔ IsUnknown self.now (option_copied after.entry) }
     {
-        let start = match self.start_after(after) {
-            Some(start) => start,
-            None => return Err(NamesFault::NoSuchName),
-        };
+        let start = self.place_after(octets_of(after))?;
         let rest = &self.rows.as_slice()[start..];
         let names = first_names(alloc, rest, count)?;
         Ok(Names {
@@ -294,20 +300,6 @@ impl Tree {
         match self.find_octets(name) {
             Ok(row) => Ok(row.index + 1),
             Err(_) => Err(NamesFault::NoSuchName),
-        }
-    }
-
-    // Returns the place where the rows after a name begin; without a name the first place.
-    fn start_after(&self, after: Option<&str>) -> Option<usize>
-        ensures start { result ≡ spec.start_after self.now (option_copied after.entry) }
-        ensures within { IfSome result (λ start. start ≤ length self.now) }
-    {
-        match after {
-            None => Some(0),
-            Some(name) => match self.index.find(&self.rows, name.as_bytes()) {
-                Some(place) => Some(place + 1),
-                None => None,
-            },
         }
     }
 }

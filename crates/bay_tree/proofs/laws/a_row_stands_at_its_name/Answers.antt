@@ -1,10 +1,16 @@
-use Rattle.bay_tree.proofs.SearchLemmas.{place_of-found, place_of-named, place_of-stays}
+use Rattle.std.proofs.Common.{ap, sym, ◌∙◌}
+use Rattle.bay_tree.specs.Rows.{place_of}
+use Rattle.bay_tree.proofs.ArenaLemmas.{place_of-same}
+use Rattle.bay_tree.proofs.SearchLemmas.{place_of-found}
+use Rattle.bay_tree.proofs.TreeLemmas.{place_of-own}
 use Rattle.bay_tree.proofs.laws.a_row_stands_at_its_name.Goals as goal
 
 pub returns-clause-named : goal.returns-clause-named
 returns-clause-named c =
-    λ rows row name tree within.
-    (λ found. (place_of-found rows name row found).1, place_of-named rows row name tree within)
+    λ rows row name tree within. (
+      λ found. (place_of-found rows name row found).1,
+      λ named. ap (place_of rows) (sym named) ∙ place_of-own rows row tree within,
+    )
 
 pub returns-clause-stays : goal.returns-clause-stays
-returns-clause-stays c = place_of-stays
+returns-clause-stays c = place_of-same
