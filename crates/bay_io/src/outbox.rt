@@ -3,7 +3,6 @@ ghost use Rattle.std.specs.Prelude.{◌≡◌, ◌+◌, ◌≤◌, ◌++◌, [],
 ghost use Rattle.std.specs.Fmt.{decimal};
 ghost use Rattle.bay_io.specs.Sent.{has_room};
 
-use arrayvec::ArrayVec;
 use itoa::Buffer;
 use std::marker::Model;
 use thiserror::Error;
@@ -11,60 +10,49 @@ use thiserror::Error;
 // The capacity of the buffer in octets.
 const ROOM: usize = 65_536;
 
-// The most octets that a short text has.
-const SHORT: usize = 4;
-
 /// A write or a flush failed, or a write accepted none of the octets it was given.
 #[derive(Clone, Copy, Debug, PartialEq, Eq, Error)]
 #[error("a write failed")]
 pub struct WriteFault;
 
-// Adds a short text octet by octet, which is cheaper than a call that copies it.
-fn keep_octets(pending: &mut ArrayVec<u8, ROOM>, text: &[u8])
-    requires { length pending.old.items + length text.now ≤ 65536 }
-    ensures { pending.new.items ≡ pending.old.items ++ text.now }
-{
-    for octet in text {
-        pending.push(*octet);
-    }
-}
-
-// Adds a text that is usually short, if it fits. Returns whether it fitted.
+// Copies a text behind the first `count` octets of a room, if it fits there, and counts it. Returns
+// whether it fitted.
 #[inline(always)]
-fn keep_short(pending: &mut ArrayVec<u8, ROOM>, text: &[u8]) -> bool
-    requires { length pending.old.items ≤ 65536 }
-    ensures fits { result ≡ has_room pending.old.items text.now }
-    ensures items { pending.new.items
-        ≡ (if result then pending.old.items ++ text.now else pending.old.items) }
-    ensures room { length pending.new.items ≤ 65536 }
+fn append(room: &mut [u8; ROOM], count: &mut usize, text: &[u8]) -> bool
+    requires { count.old ≤ 65536 }
+    ensures fits { result ≡ has_room (take count.old room.old) text.now }
+    ensures after { take count.new room.new
+        ≡ (if result then take count.old room.old ++ text.now else take count.old room.old) }
+    ensures within { count.new ≤ 65536 }
 {
-    if text.len() > SHORT {
-        return pending.try_extend_from_slice(text).is_ok();
-    }
-    if pending.remaining_capacity() < text.len() {
+    if text.len() > ROOM - *count {
         return false;
     }
-    keep_octets(pending, text);
+    let end = *count + text.len();
+    room[*count..end].copy_from_slice(text);
+    *count = end;
     true
 }
 
 /// Octets that are not yet written, at most 65,536. Needs no memory beyond its own.
 #[derive(Drop)]
 pub struct Outbox {
-    pending: ArrayVec<u8, ROOM>,
+    room: [u8; ROOM],
+    // How many octets at the front of the room were added.
+    count: usize,
     // Where a number's digits are made; it stays, so that it is emptied once and not for each
     // number.
     digits: Buffer,
 }
 
 impl Model for Outbox {
-    ghost use Rattle.std.specs.Prelude.{ℕ, ◌≤◌, List, length};
+    ghost use Rattle.std.specs.Prelude.{ℕ, ◌≤◌, List, take};
 
     ghost Value = { List ℕ };
 
-    ghost view = { λ outbox. outbox.pending.items };
+    ghost view = { λ outbox. take outbox.count outbox.room };
 
-    ghost invariant = { λ outbox. length outbox.pending.items ≤ 65536 };
+    ghost invariant = { λ outbox. outbox.count ≤ 65536 };
 }
 
 impl Outbox {
@@ -73,7 +61,8 @@ impl Outbox {
         ensures { result ≡ [] }
     {
         Outbox {
-            pending: ArrayVec::new(),
+            room: [0; ROOM],
+            count: 0,
             digits: Buffer::new(),
         }
     }
@@ -84,7 +73,7 @@ impl Outbox {
         ensures fits { result ≡ has_room self.old text.now }
         ensures after { self.new ≡ (if result then self.old ++ text.now else self.old) }
     {
-        self.pending.try_extend_from_slice(text).is_ok()
+        append(&mut self.room, &mut self.count, text)
     }
 
     /// Adds the decimal digits of a number if they fit in the buffer. Returns whether they fitted.
@@ -94,7 +83,7 @@ impl Outbox {
         ensures after { self.new ≡ (if result then self.old ++ decimal number else self.old) }
     {
         let digits = self.digits.format(number);
-        keep_short(&mut self.pending, digits.as_bytes())
+        append(&mut self.room, &mut self.count, digits.as_bytes())
     }
 
     /// Returns the octets that were added.
@@ -102,14 +91,14 @@ impl Outbox {
         ensures octets { result.now ≡ self.now }
         ensures within { length self.now ≤ 65536 }
     {
-        self.pending.as_slice()
+        &self.room[..self.count]
     }
 
     /// Removes all octets but the first `count`.
     pub fn truncate(&mut self, count: usize)
         ensures { self.new ≡ take count self.old }
     {
-        self.pending.truncate(count);
+        self.count = self.count.min(count);
     }
 
     /// Removes the first `count` octets.
@@ -120,15 +109,14 @@ impl Outbox {
         if count == 0 {
             return;
         }
-        let left = self.pending.len() - count;
-        self.pending.as_mut_slice().copy_within(count.., 0);
-        self.pending.truncate(left);
+        self.room.copy_within(count..self.count, 0);
+        self.count -= count;
     }
 
     /// Removes all octets.
     pub fn clear(&mut self)
         ensures { self.new ≡ [] }
     {
-        self.pending.clear();
+        self.count = 0;
     }
 }
