@@ -1,16 +1,18 @@
 -- Lemmas on the words and numbers of a line.
-use Rattle.std.proofs.Common.{◌≡◌, ◌≢◌, take, drop, subst, ℕ, suc, ◌+◌, ◌<◌, ◌≤◌, Bool, true, false, cond, eqb, nat_lt, List, Option, option_map, [], ◌∷◌, length, get_or, Some, None, refl, sym, ap, ◌∙◌, arith}
+use Rattle.std.proofs.Common.{◌≡◌, take, drop, subst, ℕ, zero, suc, add-one, ◌+◌, ◌-◌, ◌*◌, ◌^◌, ◌<◌, ◌≤◌, Bool, true, false, cond, eqb, nat_lt, List, Option, option_map, [], ◌∷◌, length, get_or, Some, None, refl, sym, ap, ◌∙◌, arith}
 use Rattle.std.proofs.lemmas.Bool.Decides.{nat_tests}
-use Rattle.std.proofs.lemmas.List.Splits.{slice_split-cons_no, slice_split_first}
+use Rattle.std.proofs.lemmas.List.Splits.{length-slice_split, slice_split-cons_no, slice_split_first}
 use Rattle.std.proofs.lemmas.Slice.Eq.{bytes_eq-Decides}
+use Rattle.std.proofs.Math.Nat.{pow-succ'}
+use Rattle.std.proofs.Math.Seq.{drop-cons}
 use Rattle.std.specs.Char.{is_ascii_digit}
-use Rattle.std.specs.List.{slice_split, onto_first, position, position_or_len}
+use Rattle.std.specs.List.{count_by, slice_split, onto_first, position, position_or_len}
 use Rattle.std.specs.Str.{bytes_eq}
 use Rattle.std.specs.Str.{IsUtf8}
 use Rattle.std.proofs.lemmas.Str.{is_utf8-from_IsUtf8}
-use Rattle.bay_base.specs.Decimals.{with_digit}
-use Rattle.bay_base.proofs.ListLemmas.{is-utf8-false}
-use Rattle.bay_base.proofs.DecimalLemmas.{number_from, number_from-none, read_number-some}
+use Rattle.bay_base.specs.Decimals.{read_number}
+use Rattle.bay_base.proofs.ListLemmas.{is-utf8-false, take-rest}
+use Rattle.bay_base.proofs.DecimalLemmas.{number_from, number_from-end}
 use Rattle.bay_trace.specs.Trace.{is_space, first_number, name_of}
 
 -- a text with a space is the word before it and what follows
@@ -47,35 +49,52 @@ no-space bs e = by_test (nat_lt (position_or_len is_space bs) (length bs)) refl
     by_test true l = let some : Some (position_or_len is_space bs) ≡ None = rw l at e in absurd cc
     by_test false l = alone bs (grind (arith, nat_tests))
 
+some-words : (rest : List ℕ)
+    → (w : List ℕ) × (ws : List (List ℕ)) × (slice_split is_space rest ≡ w ∷ ws)
+some-words rest = by-words (slice_split is_space rest) (length-slice_split is_space rest) refl
+  where
+    by-words : (words : List (List ℕ)) → length words ≡ count_by is_space rest + 1
+        → slice_split is_space rest ≡ words
+        → (w : List ℕ) × (ws : List (List ℕ)) × (slice_split is_space rest ≡ w ∷ ws)
+    by-words [] l e = absurd (omega (arith, l))
+    by-words (w ∷ ws) l e = (w, ws, e)
+
+-- a number, and the words of what stands behind it
+pub number-first : (word rest : List ℕ) (n : ℕ) → read_number word ≡ Some n
+    → first_number (word ∷ slice_split is_space rest) ≡ Some (n, slice_split is_space rest)
+number-first word rest n e =
+    let words = some-words rest in rw words.2 (ap (option_map (λ k. (k, words.0 ∷ words.1))) e)
+
+ten-more : (c : ℕ) → 10 ^ (c + 1) ≡ 10 * 10 ^ c
+ten-more c = rw add-one (pow-succ' 10 c)
+
+-- a number of at most 18 digits
+pub few-digits : (k c n : ℕ) → n < 10 ^ c → c + k ≡ 18 → n < 10 ^ 18
+few-digits zero c n l e =
+    let same : c ≡ 18 = omega (arith, e) in subst (λ i. n < 10 ^ i) same l
+few-digits (suc k) c n l e =
+    few-digits k (c + 1) n (omega (arith, l, ten-more c)) (omega (arith, e))
+
 -- the number that the first of several words is behind a number, and the words behind it
 abbrev pub number_behind : ℕ → List (List ℕ) → Option (ℕ × List (List ℕ))
 number_behind n [] = None
 number_behind n (word ∷ []) = None
 number_behind n (word ∷ next ∷ words) = option_map (λ m. (m, next ∷ words)) (number_from n word)
 
-behind-none : (n b : ℕ) (ws : List (List ℕ)) → with_digit n b ≡ None
-    → number_behind n (onto_first b ws) ≡ None
-behind-none n b [] e = refl
-behind-none n b (word ∷ []) e = refl
-behind-none n b (word ∷ next ∷ ws) e =
-    ap (option_map (λ k. (k, next ∷ ws))) (number_from-none n b word e)
-
-first-behind : (b : ℕ) (ws : List (List ℕ))
-    → first_number (onto_first b ws) ≡ number_behind 0 (onto_first b ws)
-first-behind b [] = refl
-first-behind b (word ∷ []) = refl
-first-behind b (word ∷ next ∷ ws) =
-    ap (option_map (λ k. (k, next ∷ ws))) (read_number-some (b ∷ word) (grind (arith, nat_tests)))
+-- the space behind a number
+pub behind-space : (n at : ℕ) (bs : List ℕ) → n < 10 ^ 19 → at < length bs → get_or bs at 0 ≡ 32
+    → Some (n, slice_split is_space (take (length bs - (at + 1)) (drop (at + 1) bs)))
+    ≡ number_behind n (slice_split is_space (drop at bs))
+behind-space n at bs l within e =
+    let words = some-words (drop (at + 1) bs) in
+    let here : slice_split is_space (drop at bs) ≡ [] ∷ words.0 ∷ words.1 =
+    ap (slice_split is_space) (drop-cons bs at 0 within ∙ ap (λ b. b ∷ drop (suc at) bs) e)
+    ∙ ap (λ l. [] ∷ l) (ap (λ k. slice_split is_space (drop k bs)) (sym (add-one at)) ∙ words.2) in
+    rw (take-rest bs (at + 1), here, words.2)
+    (sym (ap (option_map (λ m. (m, words.0 ∷ words.1))) (number_from-end n (omega (arith, l)))))
 
 pub not-space : (b : ℕ) → is_ascii_digit b ≡ true → is_space b ≡ false
 not-space b h = grind (arith, nat_tests)
-
-pub behind-other : (n : ℕ) (bs : List ℕ) → 0 < length bs → get_or bs 0 0 ≢ 32
-    → with_digit n (get_or bs 0 0) ≡ None → number_behind n (slice_split is_space bs) ≡ None
-behind-other n [] l other e = absurd (omega (arith, l))
-behind-other n (b ∷ bs) l other e =
-    ap (number_behind n) (slice_split-cons_no is_space b bs (grind (arith, nat_tests)))
-    ∙ behind-none n b (slice_split is_space bs) e
 
 -- what says something of a word only where it is this text, or where something is said further on,
 -- says it of what has the text's property

@@ -11,6 +11,9 @@ use bay_base::decimal::{decimal, negative, positive, with_digit};
 use bay_base::point::MeterField;
 use bay_tree::leaf::Dbpos;
 
+// How many digits behind the first need no test: any 19 digits are below 2^64.
+const FREE_DIGITS: usize = 18;
+
 /// An event, with names as in the trace.
 #[derive(Clone, Copy)]
 pub enum NamedEvent<'a> {
@@ -249,6 +252,18 @@ fn event(text: &[u8]) -> Option<NamedEvent<'_>>
     association_event(text)
 }
 
+// Returns the number before the first space, however many digits it has, and what follows that
+// space.
+#[cold]
+fn cut_long_number(text: &[u8]) -> Option<(u64, &[u8])>
+    ensures { option_map (λ cut. (cut.0, slice_split is_space cut.1.now)) result
+        ≡ first_number (slice_split is_space text.now) }
+{
+    let (word, rest) = cut_word(text);
+    let number = decimal(word)?;
+    Some((number, rest?))
+}
+
 // Returns the number before the first space, and what follows that space.
 fn cut_number(text: &[u8]) -> Option<(u64, &[u8])>
     ensures { option_map (λ cut. (cut.0, slice_split is_space cut.1.now)) result
@@ -258,16 +273,18 @@ fn cut_number(text: &[u8]) -> Option<(u64, &[u8])>
         return None;
     };
     let mut number = with_digit(0, *first)?;
-    let mut rest = others;
-    while let [octet, others @ ..] = rest {
-        match with_digit(number, *octet) {
-            Some(more) => number = more,
-            None if *octet == b' ' => return Some((number, others)),
-            None => return None,
+    for place in 0..others.len().min(FREE_DIGITS) {
+        let octet = others[place];
+        if !octet.is_ascii_digit() {
+            return if octet == b' ' {
+                Some((number, &others[place + 1..]))
+            } else {
+                None
+            };
         }
-        rest = others;
+        number = number * 10 + u64::from(octet - b'0');
     }
-    None
+    cut_long_number(text)
 }
 
 // Reads a line that is not empty.

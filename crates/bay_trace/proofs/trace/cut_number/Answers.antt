@@ -1,11 +1,22 @@
-use Rattle.std.proofs.Common.{sym, ◌∙◌}
-use Rattle.bay_trace.proofs.WordLemmas.{behind-other}
+use Rattle.std.proofs.Common.{◌∙◌, ℕ, ◌+◌, ◌-◌, ◌<◌, ◌^◌, sym, arith}
+use Rattle.bay_trace.proofs.WordLemmas.{behind-space, few-digits}
 use Rattle.bay_trace.proofs.trace.cut_number.Goals as goal
 
-pub returns-in-None-2 : goal.returns-in-None-2
-returns-in-None-2 c =
-    let rest = c.loop-rest.rest.now in
-    let none =
-    behind-other c.loop-rest.number rest c.in-len1-up-rest.len_at_least c.if-octet-eq32.false
-    (sym c.with_digit-in-len1-up-rest.ensures ∙ c.in-None-2.is) in
-    sym (c.loop-rest.invariant.read ∙ none)
+few : (place n : ℕ) → n < 10 ^ (place + 1) → place < 18 → n < 10 ^ 18
+few place n l less = few-digits (17 - place) (place + 1) n l (omega (arith, less))
+
+pub overflow_mul-number : goal.overflow_mul-number
+overflow_mul-number c =
+    omega (arith, few c.loop-place.place c.loop-place.number c.loop-place.invariant.within (omega arith))
+
+pub overflow_add-number : goal.overflow_add-number
+overflow_add-number c =
+    let less = few c.loop-place.place c.loop-place.number c.loop-place.invariant.within (omega arith) in
+    grind (arith, less, c.from.ensures)
+
+pub returns-then-octet-eq32 : goal.returns-then-octet-eq32
+returns-then-octet-eq32 c =
+    let less = few c.loop-place.place c.loop-place.number c.loop-place.invariant.within (omega arith) in
+    behind-space c.loop-place.number c.loop-place.place _ (omega (arith, less)) (omega arith)
+    c.if-octet-eq32.true
+    ∙ sym c.loop-place.invariant.read

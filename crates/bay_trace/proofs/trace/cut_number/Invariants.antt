@@ -1,15 +1,12 @@
-use Rattle.std.proofs.Common.{◌≡◌, ◌<◌, ◌^◌, length}
+use Rattle.std.proofs.Common.{◌≡◌, ◌+◌, ◌<◌, ◌^◌, drop}
 use Rattle.std.specs.List.{slice_split}
 use Rattle.bay_trace.specs.Trace.{is_space, first_number}
 use Rattle.bay_trace.proofs.WordLemmas.{number_behind}
 use Rattle.bay_trace.proofs.trace.cut_number.Given as goal
 
-abbrev pub invariant-loop-rest : goal.invariant-loop-rest
-invariant-loop-rest l = record {
-  within : l.number < 2 ^ 64;
+abbrev pub invariant-loop-place : goal.invariant-loop-place
+invariant-loop-place l = record {
+  within : l.number < 10 ^ (l.place + 1);
   read : first_number (slice_split is_space l.text)
-      ≡ number_behind l.number (slice_split is_space l.rest);
+      ≡ number_behind l.number (slice_split is_space (drop l.place l.others));
 }
-
-abbrev pub decreases-loop-rest : goal.decreases-loop-rest
-decreases-loop-rest l = length l.rest
