@@ -2,6 +2,7 @@ pub mod DigitLemmas
 pub mod PlacingLemmas
 pub mod PutLemmas
 pub mod RecordLemmas
+pub mod ScanLemmas
 pub mod TextLemmas
 pub mod VerbLemmas
 pub mod WordLemmas

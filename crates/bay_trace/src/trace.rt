@@ -1,8 +1,9 @@
 // What a line of the trace says.
-ghost use Rattle.std.specs.Prelude.{◌≡◌, ◌∷◌, ◌≤◌, ◌^◌, ◌<◌, ℕ, length, option_map, IfSome, Some, codes, neg_ℤ, pos};
+ghost use Rattle.std.specs.Prelude.{◌≡◌, ◌∷◌, ◌≤◌, ◌^◌, ◌<◌, ℕ, length, option_map, IfSome, None, Some, codes, neg_ℤ, pos, slice_index_or, ◌==◌, if◌then◌else◌};
+ghost use Rattle.std.specs.Fmt.{decimal};
 ghost use Rattle.std.specs.List.{slice_split};
 ghost use Rattle.std.specs.Str.{IsUtf8};
-ghost use Rattle.bay_trace.specs.Trace.{association_of, is_space, received_of, rest_words, association_event_in, first_number, read_integer, position_of, truth_of, field_of, name_of, measure_of, event_of, words_line, trace_line_of, process_of};
+ghost use Rattle.bay_trace.specs.Trace.{association_of, is_space, received_of, rest_words, association_event_in, first_number, read_integer, position_of, truth_of, field_of, name_of, measure_of, event_of, words_line, trace_line_of, process_of, at_moment, scan};
 ghost use Rattle.bay_trace.specs.Trace as spec;
 ghost use Rattle.bay_trace.specs.TraceView.{named_view, line_view};
 
@@ -13,6 +14,9 @@ use bay_tree::leaf::Dbpos;
 
 // How many digits behind the first need no test: any 19 digits are below 2^64.
 const FREE_DIGITS: usize = 18;
+
+// What stands behind the moment in the line of a scan.
+const SCAN: &[u8] = b" scan";
 
 /// An event, with names as in the trace.
 #[derive(Clone, Copy)]
@@ -306,6 +310,22 @@ pub fn read_trace_line(line: &[u8]) -> Option<TraceLine<'_>>
         return Some(TraceLine::Blank);
     }
     moment_line(line)
+}
+
+/// Returns the digits of the moment in the line of a scan, or `None` if they begin with a 0. Of any
+/// other line the result says nothing.
+pub fn scan_digits(line: &[u8]) -> Option<&[u8]>
+    ensures { (moment : ℕ) → trace_line_of line.now ≡ Some (at_moment moment scan)
+        → option_map (λ digits. digits.now) result
+        ≡ (if slice_index_or line.now 0 0 == 48 then None else Some (decimal moment)) }
+{
+    let [first, ..] = line else {
+        return None;
+    };
+    if *first == b'0' {
+        return None;
+    }
+    Some(&line[..line.len().saturating_sub(SCAN.len())])
 }
 
 /// Reads a line with an event that a process sends: a contact, an input or a measurement. Returns
