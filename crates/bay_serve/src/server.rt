@@ -116,10 +116,10 @@ impl Server {
     }
 
     /// Records from now on what the device is given.
-    pub fn start_record(&mut self, record: Record)
+    pub fn start_record(&mut self, kept: Record)
         ensures { self.new ≡ self.old }
     {
-        self.parts.record = Some(record);
+        self.parts.record = Some(kept);
     }
 
     /// Writes what was recorded and not written yet. Returns why the record has ended, once.
