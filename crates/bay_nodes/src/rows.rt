@@ -298,6 +298,11 @@ fn push_controls(
     Ok(())
 }
 
+// About how many rows a switch has, and a meter.
+const ROWS_OF_SWITCH: usize = 64;
+
+const ROWS_OF_METER: usize = 40;
+
 /// Returns the rows of a bay's nodes with their initial values: those of the device, the breakers,
 /// the other switches, the controls, the interlocking, and the meters.
 pub fn rows_of(
@@ -311,7 +316,9 @@ pub fn rows_of(
     // Their names are distinct, and each row's parent is a structure before it.
     ensures tree { length switches.now < 2 ^ 32 → length meters.now < 2 ^ 32 → IfOk result IsTree }
 {
-    let mut rows = Vec::new(alloc);
+    let of_switches = switches.len().saturating_mul(ROWS_OF_SWITCH);
+    let of_meters = meters.len().saturating_mul(ROWS_OF_METER);
+    let mut rows = Vec::with_capacity(alloc, of_switches.saturating_add(of_meters))?;
     push_device(alloc, &mut rows, nameplate)?;
     push_positions(alloc, &mut rows, nameplate, switches, true)?;
     push_positions(alloc, &mut rows, nameplate, switches, false)?;
