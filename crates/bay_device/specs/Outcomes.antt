@@ -12,6 +12,7 @@ use Rattle.bay_device.specs.Hearing.{Done, AllHeard, after_indications}
 use Rattle.bay_device.specs.declared.due.Due.{Due}
 use Rattle.bay_device.specs.declared.event.Event.{Event}
 use Rattle.bay_device.specs.declared.event.Event.TheVariants.{Open, Recv, Close, Contact, Input, Measure, BadMeasure, Lost, Scan}
+use Rattle.bay_device.specs.declared.event.Scanned.{Scanned}
 use Rattle.bay_device.specs.declared.event.Sent.{Sent}
 use Rattle.bay_device.specs.declared.event.Step.{Step}
 use Rattle.bay_device.specs.declared.event.Why.{Why}
@@ -74,11 +75,17 @@ doubt_outcome now k field s (Some id) =
 abbrev pub lost_outcome : ℕ → State → Outcome
 lost_outcome now s = quiet (ended_at now s) (lost_taken now (device_at now s))
 
+-- the answer of a scan, which tells its steps
+abbrev pub scan_step : Scanned → Step
+scan_step scanned = record (quiet_step scanned.ended) { scan = Some scanned.steps }
+
 abbrev pub scan_outcome : ℕ → State → Outcome
 scan_outcome now s = record {
   answer =
-      Ok (record (quiet_step (ended_at now s))
-      { scan = Some (ran_at now (device_at now s)).steps });
+      Ok (scan_step (record {
+        ended = ended_at now s;
+        steps = (ran_at now (device_at now s)).steps;
+      }));
   after = after_scan now (device_at now s);
 }
 

@@ -3,9 +3,10 @@ use Rattle.std.specs.Prelude.{ℕ, ◌≡◌, List, [], ◌∷◌, Option, Some,
 use Rattle.bay_connection.specs.Talk.{Talk, indications, left_by}
 use Rattle.bay_device.specs.Device.{State}
 use Rattle.bay_device.specs.Hearing.{after_indications}
-use Rattle.bay_device.specs.Outcomes.{Outcome, connection_at, nothing_done, outcome, place_of, quiet_step, recv_done, recv_outcome}
+use Rattle.bay_device.specs.Outcomes.{Outcome, connection_at, nothing_done, outcome, place_of, quiet_step, recv_done, recv_outcome, scan_step}
 use Rattle.bay_device.specs.declared.event.Event.{Event}
 use Rattle.bay_device.specs.declared.event.Event.TheVariants.{Open, Recv, Close, Contact, Input, Measure, BadMeasure, Lost, Scan}
+use Rattle.bay_device.specs.declared.event.Scanned.{Scanned}
 use Rattle.bay_device.specs.declared.event.Sent.{Sent}
 use Rattle.bay_device.specs.declared.event.Step.{Step}
 use Rattle.bay_device.specs.declared.fault.StepFault.{StepFault}
@@ -25,6 +26,11 @@ pub record IsQuiet (answer : Result (Option Sent) StepFault) (new : State) (o : 
     : Type 0 where
   pub answered : quiet_answer answer ≡ o.answer
   pub left : new ≡ o.after
+
+-- what a scan tells is the answer of an event that sends nothing else
+abbrev pub scan_answer : Result Scanned StepFault → Result Step StepFault
+scan_answer (Ok scanned) = Ok (scan_step scanned)
+scan_answer (Err fault) = Err fault
 
 -- An event at a moment is answered so, and leaves this: there is a choice with which that is its
 -- outcome.

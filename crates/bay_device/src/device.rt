@@ -1,5 +1,5 @@
 // The device that is handed out: one bay, stepped by events.
-ghost use Rattle.std.specs.Prelude.{◌≡◌, ◌+◌, ◌<◌, ◌≤◌, ◌++◌, [], codes, None, Some, All, length, slice_get, option_map, position, replicate, IfOk, IfSome, IsSome, OnErr, is_none, is_some};
+ghost use Rattle.std.specs.Prelude.{◌≡◌, ◌+◌, ◌<◌, ◌≤◌, ◌++◌, [], codes, None, Ok, Option, Some, All, ℕ, length, slice_get, option_map, position, replicate, IfOk, IfSome, IsSome, MatchResult, OnErr, is_err, is_none, is_some};
 ghost use Rattle.bay_control.specs.Backing.{AreBacked};
 ghost use Rattle.bay_services.specs.Accepted.{AreNamedAlike};
 ghost use Rattle.bay_services.specs.Bay.{Bay};
@@ -14,20 +14,21 @@ ghost use Rattle.bay_device.specs.Device.{bay_of};
 ghost use Rattle.bay_device.specs.Entries.{Leading};
 ghost use Rattle.bay_device.specs.Fresh.{FreshAt};
 ghost use Rattle.bay_device.specs.LookUps.{switch_place, input_place, meter_place, enabled_of, operating_in, position_of, switches_text};
-ghost use Rattle.bay_device.specs.Meaning.{HaltsAt, MeansAt, Runs};
+ghost use Rattle.bay_device.specs.Meaning.{HaltsAt, MeansAt, Runs, is_refused};
 ghost use Rattle.bay_device.specs.Operates.{AllOperate, AreOperates};
-ghost use Rattle.bay_device.specs.Outcomes.{associations, connection_at, event_outcome, outcome, recv_after, without_connection};
+ghost use Rattle.bay_device.specs.Outcomes.{associations, connection_at, event_outcome, outcome, recv_after, refusal_of, without_connection};
 ghost use Rattle.bay_device.specs.Outcomes as spec;
 ghost use Rattle.bay_device.specs.Report.{IsReport};
 ghost use Rattle.bay_device.specs.StateView.{state_view};
-ghost use Rattle.bay_device.specs.Steps.{EachStep, IsOutcome, Hears, IsWithoutOctets, Receives, Steps};
+ghost use Rattle.bay_device.specs.Steps.{EachStep, IsOutcome, Hears, IsWithoutOctets, Receives, Steps, quiet_answer, scan_answer};
 ghost use Rattle.bay_device.specs.Told.{AreTalks, Telling, told_all};
 ghost use Rattle.bay_tree.specs.declared.leaf.Leaf.TheVariants as leaf;
+ghost use Rattle.bay_device.specs.declared.event.Event.{Event};
 ghost use Rattle.bay_device.specs.declared.event.Event.TheVariants.{Open, Recv, Close, Contact, Input, Measure, BadMeasure, Lost, Scan};
 
 use crate::connections::Connections;
 use crate::due::forget;
-use crate::event::{Event, LAST_MOMENT, Sent, Step, Why, place_of};
+use crate::event::{Event, LAST_MOMENT, Scanned, Sent, Step, Why, place_of};
 use crate::fault::StepFault;
 use crate::message::Made;
 use crate::octets::drain;
@@ -235,7 +236,7 @@ impl Device {
     }
 
     // The switch at a place reports a position.
-    fn contact(&mut self, now: u64, switch: usize, position: Dbpos) -> Result<Step, StepFault>
+    fn contact_step(&mut self, now: u64, switch: usize, position: Dbpos) -> Result<Step, StepFault>
         ensures { IsOutcome (event_outcome None now (Contact switch position) self.old) result
             self.new }
     {
@@ -284,15 +285,25 @@ impl Device {
     }
 
     // The program runs once.
-    fn scan(&mut self, now: u64) -> Result<Step, StepFault>
-        ensures gives { IsOutcome (event_outcome None now Scan self.old) result self.new }
-        ensures halts { HaltsAt now Scan self.old result self.new }
+    fn do_scan(&mut self, now: u64) -> Scanned
+        ensures gives { IsOutcome (event_outcome None now Scan self.old)
+            (Ok (spec.scan_step result)) self.new }
+        ensures halts { HaltsAt now Scan self.old (Ok (spec.scan_step result)) self.new }
     {
         let ended = self.state.advance(now);
         let steps = self.state.scan(now);
+        Scanned { ended, steps }
+    }
+
+    // The program runs once, as a step.
+    fn scan_step(&mut self, now: u64) -> Result<Step, StepFault>
+        ensures gives { IsOutcome (event_outcome None now Scan self.old) result self.new }
+        ensures halts { HaltsAt now Scan self.old result self.new }
+    {
+        let scanned = self.do_scan(now);
         Ok(Step {
-            scan: Some(steps),
-            ..self.quiet(ended)
+            scan: Some(scanned.steps),
+            ..self.quiet(scanned.ended)
         })
     }
 
@@ -305,10 +316,12 @@ impl Device {
         self.connections.are_eight();
     }
 
-    // Does one event at a moment.
-    fn do_event(&mut self, now: u64, event: Event<'_>) -> Result<Step, StepFault>
-        ensures steps { Steps now event.entry self.old result self.new }
-        ensures halts { HaltsAt now event.entry self.old result self.new }
+    // Refuses a moment that is too large, or before that of the last event.
+    fn admit(&self, now: u64) -> Result<(), StepFault>
+        ensures outcome { (choice : Option ℕ) (event : Event) → MatchResult result
+            (λ _. outcome choice now event self.now ≡ event_outcome choice now event self.now)
+            (λ fault. outcome choice now event self.now ≡ refusal_of fault self.now) }
+        ensures refused { is_err result ≡ is_refused now self.now }
     {
         if now > LAST_MOMENT {
             return Err(StepFault::MomentTooLarge);
@@ -316,6 +329,15 @@ impl Device {
         if now < self.state.moment {
             return Err(StepFault::TimeWentBack);
         }
+        Ok(())
+    }
+
+    // Does one event at a moment.
+    fn do_event(&mut self, now: u64, event: Event<'_>) -> Result<Step, StepFault>
+        ensures steps { Steps now event.entry self.old result self.new }
+        ensures halts { HaltsAt now event.entry self.old result self.new }
+    {
+        self.admit(now)?;
         match event {
             Event::Open { association } => self.open(now, association),
             Event::Recv {
@@ -323,7 +345,7 @@ impl Device {
                 octets,
             } => self.recv(now, association, octets),
             Event::Close { association } => self.close(now, association),
-            Event::Contact { switch, position } => self.contact(now, switch, position),
+            Event::Contact { switch, position } => self.contact_step(now, switch, position),
             Event::Input { input, value } => self.take_input(now, input, value),
             Event::Measure {
                 meter,
@@ -332,7 +354,7 @@ impl Device {
             } => self.measure(now, meter, field, value),
             Event::BadMeasure { meter, field } => self.bad_measure(now, meter, field),
             Event::Lost => self.lose(now),
-            Event::Scan => self.scan(now),
+            Event::Scan => self.scan_step(now),
         }
     }
 
@@ -378,6 +400,29 @@ impl Device {
     {
         self.is_sound();
         self.do_event(now, event)
+    }
+
+    /// Handles a position that the switch at an index, counted from 0, reports, as `step` does.
+    /// Returns the report of the end of what was operating, which is all that the step sends.
+    pub fn contact(
+        &mut self,
+        now: u64,
+        switch: usize,
+        position: Dbpos,
+    ) -> Result<Option<Sent>, StepFault>
+        ensures { IsOutcome (outcome None now (Contact switch position) self.old)
+            (quiet_answer result) self.new }
+    {
+        self.admit(now)?;
+        self.state.contact(now, switch, position)
+    }
+
+    /// Runs the program once, as `step` does.
+    pub fn scan(&mut self, now: u64) -> Result<Scanned, StepFault>
+        ensures { IsOutcome (outcome None now Scan self.old) (scan_answer result) self.new }
+    {
+        self.admit(now)?;
+        Ok(self.do_scan(now))
     }
 
     /// Handles a list of events in order and returns their answers. If an allocation for the

@@ -93,6 +93,16 @@ pub enum Why {
     Memory,
 }
 
+/// The result of an accepted scan.
+#[derive(Drop)]
+pub struct Scanned {
+    /// The report of the end of what was operating, for the client that asked for it with enhanced
+    /// security.
+    pub ended: Option<Sent>,
+    /// The number of instructions that the program executed, including HALT.
+    pub steps: u32,
+}
+
 /// The result of an accepted event.
 #[derive(Drop)]
 pub struct Step {

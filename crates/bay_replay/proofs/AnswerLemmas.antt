@@ -1,10 +1,12 @@
 -- What is done at a line of the trace.
 use Rattle.bay_io.specs.Calls.{WriteCall}
-use Rattle.std.proofs.Common.{◌≡◌, ℕ, ◌<◌, nat_lt, Bool, true, false, cond, List, Option, None, Some, option_map, is_none, if◌then◌else◌, Result, Ok, Err, IsErr, arith, refl, sym, ap, subst, ◌∙◌}
+use Rattle.std.proofs.Common.{◌≡◌, ℕ, ◌<◌, nat_lt, Bool, true, false, cond, List, Option, None, Some, option_map, is_none, if◌then◌else◌, Result, Ok, Err, IsErr, arith, refl, sym, ap, ap₂, subst, ◌∙◌}
 use Rattle.std.proofs.lemmas.Bool.Decides.{nat_tests}
 use Rattle.bay_device.specs.Device.{State}
 use Rattle.bay_device.specs.Outcomes.{Outcome, outcome}
 use Rattle.bay_device.specs.declared.event.Event.{Event}
+use Rattle.bay_device.specs.declared.event.Step.{Step}
+use Rattle.bay_device.specs.declared.fault.StepFault.{StepFault}
 use Rattle.bay_io.specs.Sent.{Finishes, Puts}
 use Rattle.bay_io.specs.Watched.{Writing}
 use Rattle.bay_io.specs.declared.outbox.WriteFault.{WriteFault}
@@ -34,6 +36,21 @@ Does-same contents asks old now event other before new after e d =
           same
           d.text;
       left_is = d.left_is ∙ ap (λ (o : Outcome). o.after) same;
+    }
+
+-- an event is done where the text of its answer is put
+pub Does-put : {W : Type 0} (contents : W → Option (List ℕ)) (asks : W → WriteCall → W → Type 0)
+    (old : Writing W) (now : ℕ) (event : Event) (before : State) (new : Writing W) (after : State)
+    (choice : Option ℕ) (answer : Result Step StepFault)
+    → answer ≡ (outcome choice now event before).answer
+    → after ≡ (outcome choice now event before).after
+    → Puts contents asks old (step_text now answer after) new
+    → Does contents asks old now event before new after
+Does-put contents asks old now event before new after choice answer answered left put =
+    record {
+      choice = choice;
+      text = subst (λ t. Puts contents asks old t new) (ap₂ (step_text now) answered left) put;
+      left_is = left;
     }
 
 -- ---- what is taken for a line

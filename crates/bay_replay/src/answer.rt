@@ -1,19 +1,22 @@
 // What is printed for a line of the trace.
 ghost use Rattle.std.specs.Prelude.{◌≡◌};
+ghost use Rattle.bay_device.specs.declared.event.Event.TheVariants.{Scan};
 ghost use Rattle.bay_replay.specs.Answering.{Answers, Does};
 ghost use Rattle.bay_replay.specs.LineAnswers.{line_answer, named_answer};
-ghost use Rattle.bay_trace.specs.Trace.{trace_line_of};
+ghost use Rattle.bay_trace.specs.Placing.{placed_event};
+ghost use Rattle.bay_trace.specs.Trace.{contact, trace_line_of};
 ghost use Rattle.bay_trace.specs.TraceView.{named_view};
 
 use bay_device::device::Device;
 use bay_device::event::Event;
 use bay_io::calls::Sink;
 use bay_io::writer::WatchedWriter;
-use bay_report::lines::{put_step, put_unreadable};
+use bay_report::lines::{put_contact, put_scanned, put_step, put_unreadable};
 use bay_report::output::NO_MEMORY;
 use bay_trace::octets::LineOctets;
-use bay_trace::placing::{placed_event, take_octets};
+use bay_trace::placing::{placed_event, placed_switch, take_octets};
 use bay_trace::trace::{NamedEvent, TraceLine, read_trace_line};
+use bay_tree::leaf::Dbpos;
 use std::alloc::AllocError;
 
 // Does an event, and writes what is printed for it.
@@ -30,9 +33,33 @@ fn answer_event<W: Sink>(
     put_step(writer, device, moment, &answer);
 }
 
-// Does an event, and writes what is printed for it. Returns true if the replay ends there because
-// there is no memory for the event's octets.
-fn answer_named<W: Sink>(
+// Takes the position of the switch with this id, and writes what is printed for it.
+fn answer_contact<W: Sink>(
+    writer: &mut WatchedWriter<W>,
+    device: &mut Device,
+    moment: u64,
+    id: &str,
+    position: Dbpos,
+)
+    ensures { Does W.contents W.does writer.old moment
+        (placed_event device.old (contact id.now position)) device.old writer.new device.new }
+{
+    let switch = placed_switch(device, id);
+    let answer = device.contact(moment, switch, position);
+    put_contact(writer, moment, &answer);
+}
+
+// Runs the program once, and writes what is printed for it.
+fn answer_scan<W: Sink>(writer: &mut WatchedWriter<W>, device: &mut Device, moment: u64)
+    ensures { Does W.contents W.does writer.old moment Scan device.old writer.new device.new }
+{
+    let answer = device.scan(moment);
+    put_scanned(writer, device, moment, &answer);
+}
+
+// Does an event of any kind, and writes what is printed for it. Returns true if the replay ends
+// there because there is no memory for the event's octets.
+fn answer_any<W: Sink>(
     writer: &mut WatchedWriter<W>,
     device: &mut Device,
     octets: &mut LineOctets,
@@ -54,6 +81,34 @@ fn answer_named<W: Sink>(
             writer.put(NO_MEMORY);
             true
         }
+    }
+}
+
+// Does an event, and writes what is printed for it. Returns true if the replay ends there because
+// there is no memory for the event's octets. Contacts and scans, of which most lines tell, are
+// answered without lists.
+fn answer_named<W: Sink>(
+    writer: &mut WatchedWriter<W>,
+    device: &mut Device,
+    octets: &mut LineOctets,
+    moment: u64,
+    event: NamedEvent<'_>,
+) -> bool
+    ensures { Answers W.contents W.does writer.old
+        (λ choice. named_answer choice moment (named_view event.entry)
+        (record { device = device.old; room = octets.old.room })) writer.new
+        (record { device = device.new; room = octets.new.room }) result }
+{
+    match event {
+        NamedEvent::Contact { id, position } => {
+            answer_contact(writer, device, moment, id, position);
+            false
+        }
+        NamedEvent::Scan => {
+            answer_scan(writer, device, moment);
+            false
+        }
+        _ => answer_any(writer, device, octets, moment, event),
     }
 }
 

@@ -2,11 +2,13 @@
 ghost use Rattle.std.specs.Prelude.{◌≡◌, ◌≤◌, ◌*◌, ◌∷◌, [], ◌++◌, codes, length, slice_get};
 ghost use Rattle.std.specs.Fmt.{decimal};
 ghost use Rattle.hex.specs.Hex.{encode_lower};
+ghost use Rattle.bay_device.specs.Device.{State};
+ghost use Rattle.bay_device.specs.Steps.{quiet_answer, scan_answer};
 ghost use Rattle.bay_io.specs.Sent.{Puts};
 ghost use Rattle.bay_report.specs.Lines.{scan_text, ran_text, send_text, sends_text, ended_text, order_text, command_line, command_text, commands_text, why_text, closing_text, closed_text, refusal_line, done_text, step_text, unreadable_text};
 
 use bay_device::device::Device;
-use bay_device::event::{Sent, Step, Why};
+use bay_device::event::{Scanned, Sent, Step, Why};
 use bay_device::fault::StepFault;
 use bay_io::calls::Sink;
 use bay_io::writer::WatchedWriter;
@@ -224,6 +226,40 @@ pub fn put_step<W: Sink>(
     match answer {
         Err(fault) => put_refusal(writer, moment, fault.code()),
         Ok(step) => put_done(writer, device, moment, step),
+    }
+}
+
+/// Writes what is printed for a contact, given its answer.
+pub fn put_contact<W: Sink>(
+    writer: &mut WatchedWriter<W>,
+    moment: u64,
+    answer: &Result<Option<Sent>, StepFault>,
+)
+    ensures { (s : State) → Puts W.contents W.does writer.old
+        (step_text moment (quiet_answer answer.now) s) writer.new }
+{
+    match answer {
+        Err(fault) => put_refusal(writer, moment, fault.code()),
+        Ok(ended) => put_ended(writer, moment, ended),
+    }
+}
+
+/// Writes what is printed for a scan, given its answer and the device after it.
+pub fn put_scanned<W: Sink>(
+    writer: &mut WatchedWriter<W>,
+    device: &Device,
+    moment: u64,
+    answer: &Result<Scanned, StepFault>,
+)
+    ensures { Puts W.contents W.does writer.old
+        (step_text moment (scan_answer answer.now) device.now) writer.new }
+{
+    match answer {
+        Err(fault) => put_refusal(writer, moment, fault.code()),
+        Ok(scanned) => {
+            put_ended(writer, moment, &scanned.ended);
+            put_scan(writer, device, moment, scanned.steps);
+        }
     }
 }
 

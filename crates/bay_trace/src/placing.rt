@@ -1,5 +1,6 @@
 // What a line of the trace tells of, as an event of a device: by its place, with its octets.
-ghost use Rattle.std.specs.Prelude.{◌≡◌};
+ghost use Rattle.std.specs.Prelude.{◌≡◌, length, unwrap_or};
+ghost use Rattle.bay_device.specs.LookUps.{switch_place};
 ghost use Rattle.bay_trace.specs.Placing.{AreOctets, Takes, anywhere};
 ghost use Rattle.bay_trace.specs.Placing as spec;
 ghost use Rattle.bay_trace.specs.TraceView.{named_view};
@@ -20,6 +21,15 @@ pub fn take_octets(octets: &mut LineOctets, event: &NamedEvent<'_>) -> Result<()
     }
 }
 
+/// Returns the index of the switch with this id in the device. An unknown id has an index at which
+/// there is nothing.
+pub fn placed_switch(device: &Device, id: &str) -> usize
+    ensures { result
+        ≡ unwrap_or (switch_place device.now id.now) (length device.now.switches) }
+{
+    device.switch(id).unwrap_or(device.switch_count())
+}
+
 /// Resolves the names of an event to their indices in the device. An unknown name becomes an index
 /// at which there is nothing.
 pub fn placed_event<'a>(device: &Device, octets: &'a [u8], event: NamedEvent<'_>) -> Event<'a>
@@ -34,7 +44,7 @@ pub fn placed_event<'a>(device: &Device, octets: &'a [u8], event: NamedEvent<'_>
         },
         NamedEvent::Close { association } => Event::Close { association },
         NamedEvent::Contact { id, position } => Event::Contact {
-            switch: device.switch(id).unwrap_or(device.switch_count()),
+            switch: placed_switch(device, id),
             position,
         },
         NamedEvent::Input { name, value } => Event::Input {

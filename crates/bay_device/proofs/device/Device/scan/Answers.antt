@@ -1,43 +1,14 @@
-use Rattle.std.proofs.Common.{ℕ, Some, Ok, Result, subst, ap, ap₂, ◌∙◌}
-use Rattle.bay_device.specs.Device.{State, device_at, ran_at, after_scan}
-use Rattle.bay_device.specs.Meaning.{Halts}
-use Rattle.bay_device.specs.Outcomes.{quiet_step, scan_outcome}
-use Rattle.bay_device.specs.StateView.{state_view}
-use Rattle.bay_device.specs.Steps.{IsOutcome}
-use Rattle.bay_device.specs.declared.event.Step.{Step}
-use Rattle.bay_device.specs.declared.fault.StepFault.{StepFault}
+use Rattle.std.proofs.Common.{None, ap, sym}
+use Rattle.std.proofs.lemmas.Result.{err_from_is_err_and}
+use Rattle.bay_device.specs.Outcomes.{Outcome}
+use Rattle.bay_device.specs.declared.event.Event.TheVariants.{Scan}
 use Rattle.bay_device.proofs.device.Device.scan.Goals as goal
 
-abbrev told : Step → ℕ → Result Step StepFault
-told step steps = Ok (record step { scan = Some steps })
-
-pub returns-clause-gives : goal.returns-clause-gives
-returns-clause-gives c =
-    let now = c.args.now in
-    let inside = c.self.inside in
-    let cs = inside.connections.value in
-    let s : State = state_view cs inside.state.value in
-    let new : State = state_view cs c.scan-steps.new.self in
-    let after = rw c.deref_mut.ensures.value at c.advance-ended.ensures.after cs in
-    subst (λ (t : State). IsOutcome (scan_outcome now t)
-    (told c.quiet.result c.scan-steps.result) new) c.self.view_is (record {
-      answered =
-          ap₂ told (c.quiet.ensures ∙ ap quiet_step
-          (rw c.deref_mut.ensures.value at c.advance-ended.ensures.sent cs))
-          ((rw c.deref_mut-2.ensures.value at c.scan-steps.ensures.steps cs)
-          ∙ ap (λ (t : State). (ran_at now t).steps) after);
-      left = (rw c.deref_mut-2.ensures.value at c.scan-steps.ensures.after cs)
-          ∙ ap (after_scan now) after;
-    })
-
-pub returns-clause-halts : goal.returns-clause-halts
-returns-clause-halts c is on_time =
-    let now = c.args.now in
-    let cs = c.self.inside.connections.value in
-    let new : State = state_view cs c.scan-steps.new.self in
-    let h : Halts now (device_at now c.args.self.now) c.scan-steps.result new =
-    subst (λ (t : State). Halts now (device_at now t) c.scan-steps.result new) c.self.view_is
-    (subst (λ (t : State). Halts now t c.scan-steps.result new)
-    (rw c.deref_mut.ensures.value at c.advance-ended.ensures.after cs)
-    (rw c.deref_mut-2.ensures.value at c.scan-steps.ensures.halts cs)) in
-    record { halts = h.halts; within = h.within }
+pub returns-in_err-admit : goal.returns-in_err-admit
+returns-in_err-admit c =
+    let p = err_from_is_err_and c.from_residual.result c.from_residual.ensures.1 in
+    let refused = c.in_err-admit.ensures.outcome None Scan in
+    record {
+      answered = rw (p.1, p.2) (sym (ap (λ (o : Outcome). o.answer) refused));
+      left = sym (ap (λ (o : Outcome). o.after) refused);
+    }

@@ -3,7 +3,7 @@ use Rattle.bay_replay.specs.LineAnswers.{Replaying, heard, unread}
 use Rattle.bay_replay.proofs.AnswerLemmas.{Does-same, memory-said}
 use Rattle.bay_trace.specs.Placing.{placed_event}
 use Rattle.bay_trace.specs.TraceView.{named_view}
-use Rattle.bay_replay.proofs.answer.answer_named.Goals as goal
+use Rattle.bay_replay.proofs.answer.answer_any.Goals as goal
 
 pub returns-in-Err : goal.returns-in-Err
 returns-in-Err g c =
