@@ -1,4 +1,4 @@
-use Rattle.std.proofs.Common.{ℕ, Some, Ok, Option, Result, subst, ap, ap₂, ◌∙◌}
+use Rattle.std.proofs.Common.{ℕ, Ok, Option, Result, subst, ap, ap₂, ◌∙◌}
 use Rattle.bay_device.specs.Device.{State, device_at, ran_at, after_scan}
 use Rattle.bay_device.specs.Meaning.{Halts}
 use Rattle.bay_device.specs.Outcomes.{scan_outcome, scan_step}

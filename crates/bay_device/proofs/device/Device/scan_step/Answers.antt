@@ -1,6 +1,6 @@
-use Rattle.std.proofs.Common.{◌≡◌, None, Ok, Result, Some, subst, ap, sym}
+use Rattle.std.proofs.Common.{None, Ok, Result, Some, subst, ap, sym}
 use Rattle.bay_device.specs.Meaning.{HaltsAt}
-use Rattle.bay_device.specs.Outcomes.{event_outcome, scan_step}
+use Rattle.bay_device.specs.Outcomes.{event_outcome}
 use Rattle.bay_device.specs.Steps.{IsOutcome}
 use Rattle.bay_device.specs.declared.event.Event.TheVariants.{Scan}
 use Rattle.bay_device.specs.declared.event.Scanned.{Scanned}
