@@ -1,10 +1,10 @@
 // What is printed for a line of the trace.
-ghost use Rattle.std.specs.Prelude.{◌≡◌};
+ghost use Rattle.std.specs.Prelude.{◌≡◌, Some};
 ghost use Rattle.bay_device.specs.declared.event.Event.TheVariants.{Scan};
 ghost use Rattle.bay_replay.specs.Answering.{Answers, Does};
 ghost use Rattle.bay_replay.specs.LineAnswers.{line_answer, named_answer};
 ghost use Rattle.bay_trace.specs.Placing.{placed_event};
-ghost use Rattle.bay_trace.specs.Trace.{contact, trace_line_of};
+ghost use Rattle.bay_trace.specs.Trace.{at_moment, contact, scan, trace_line_of};
 ghost use Rattle.bay_trace.specs.TraceView.{named_view};
 
 use bay_device::device::Device;
@@ -15,7 +15,7 @@ use bay_report::lines::{put_contact, put_scanned, put_step, put_unreadable};
 use bay_report::output::NO_MEMORY;
 use bay_trace::octets::LineOctets;
 use bay_trace::placing::{placed_event, placed_switch, take_octets};
-use bay_trace::trace::{NamedEvent, TraceLine, read_trace_line};
+use bay_trace::trace::{NamedEvent, TraceLine, read_trace_line, scan_digits};
 use bay_tree::leaf::Dbpos;
 use std::alloc::AllocError;
 
@@ -49,12 +49,20 @@ fn answer_contact<W: Sink>(
     put_contact(writer, moment, &answer);
 }
 
-// Runs the program once, and writes what is printed for it.
-fn answer_scan<W: Sink>(writer: &mut WatchedWriter<W>, device: &mut Device, moment: u64)
+// Runs the program once, and writes what is printed for it. The digits of the moment are copied from
+// the line.
+fn answer_scan<W: Sink>(
+    writer: &mut WatchedWriter<W>,
+    device: &mut Device,
+    line: &[u8],
+    moment: u64,
+)
+    requires { trace_line_of line.now ≡ Some (at_moment moment scan) }
     ensures { Does W.contents W.does writer.old moment Scan device.old writer.new device.new }
 {
+    let digits = scan_digits(line);
     let answer = device.scan(moment);
-    put_scanned(writer, device, moment, &answer);
+    put_scanned(writer, device, moment, digits, &answer);
 }
 
 // Does an event of any kind, and writes what is printed for it. Returns true if the replay ends
@@ -84,16 +92,18 @@ fn answer_any<W: Sink>(
     }
 }
 
-// Does an event, and writes what is printed for it. Returns true if the replay ends there because
-// there is no memory for the event's octets. Contacts and scans, of which most lines tell, are
-// answered without lists.
+// Does the event of a line, and writes what is printed for it. Returns true if the replay ends there
+// because there is no memory for the event's octets. Contacts and scans, of which most lines tell,
+// are answered without lists.
 fn answer_named<W: Sink>(
     writer: &mut WatchedWriter<W>,
     device: &mut Device,
     octets: &mut LineOctets,
+    line: &[u8],
     moment: u64,
     event: NamedEvent<'_>,
 ) -> bool
+    requires { trace_line_of line.now ≡ Some (at_moment moment (named_view event.entry)) }
     ensures { Answers W.contents W.does writer.old
         (λ choice. named_answer choice moment (named_view event.entry)
         (record { device = device.old; room = octets.old.room })) writer.new
@@ -105,7 +115,7 @@ fn answer_named<W: Sink>(
             false
         }
         NamedEvent::Scan => {
-            answer_scan(writer, device, moment);
+            answer_scan(writer, device, line, moment);
             false
         }
         _ => answer_any(writer, device, octets, moment, event),
@@ -133,7 +143,7 @@ pub fn answer_line<W: Sink>(
         }
         Some(TraceLine::Blank) => false,
         Some(TraceLine::At { moment, event }) => {
-            answer_named(writer, device, octets, moment, event)
+            answer_named(writer, device, octets, line, moment, event)
         }
     }
 }

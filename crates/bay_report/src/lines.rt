@@ -1,5 +1,5 @@
 // The lines that are printed for an event.
-ghost use Rattle.std.specs.Prelude.{◌≡◌, ◌≤◌, ◌*◌, ◌∷◌, [], ◌++◌, codes, length, slice_get};
+ghost use Rattle.std.specs.Prelude.{◌≡◌, ◌≤◌, ◌*◌, ◌∷◌, [], ◌++◌, codes, length, slice_get, IfSome};
 ghost use Rattle.std.specs.Fmt.{decimal};
 ghost use Rattle.hex.specs.Hex.{encode_lower};
 ghost use Rattle.bay_device.specs.Device.{State};
@@ -18,11 +18,29 @@ use bay_services::answer::Command;
 // The number of octets that are written as digits at a time.
 const CHUNK: usize = 256;
 
-// Writes the line of a scan.
-fn put_scan<W: Sink>(writer: &mut WatchedWriter<W>, device: &Device, moment: u64, steps: u32)
+// Writes a moment, as its digits where these are at hand.
+fn put_moment<W: Sink>(writer: &mut WatchedWriter<W>, moment: u64, digits: Option<&[u8]>)
+    requires { IfSome digits (λ d. d.now ≡ decimal moment) }
+    ensures { Puts W.contents W.does writer.old (decimal moment) writer.new }
+{
+    match digits {
+        Some(digits) => writer.put(digits),
+        None => writer.put_number(moment),
+    }
+}
+
+// Writes the line of a scan. The digits of its moment may be at hand.
+fn put_scan<W: Sink>(
+    writer: &mut WatchedWriter<W>,
+    device: &Device,
+    moment: u64,
+    digits: Option<&[u8]>,
+    steps: u32,
+)
+    requires { IfSome digits (λ d. d.now ≡ decimal moment) }
     ensures { Puts W.contents W.does writer.old (scan_text moment steps device.now) writer.new }
 {
-    writer.put_number(moment);
+    put_moment(writer, moment, digits);
     writer.put(b" scan steps=");
     writer.put_number(u64::from(steps));
     writer.put(device.releases());
@@ -33,7 +51,7 @@ fn put_ran<W: Sink>(writer: &mut WatchedWriter<W>, device: &Device, moment: u64,
     ensures { Puts W.contents W.does writer.old (ran_text moment scan device.now) writer.new }
 {
     match scan {
-        Some(steps) => put_scan(writer, device, moment, steps),
+        Some(steps) => put_scan(writer, device, moment, None, steps),
         None => {}
     }
 }
@@ -244,13 +262,16 @@ pub fn put_contact<W: Sink>(
     }
 }
 
-/// Writes what is printed for a scan, given its answer and the device after it.
+/// Writes what is printed for a scan, given its answer and the device after it. Where the digits of
+/// its moment are at hand they are copied.
 pub fn put_scanned<W: Sink>(
     writer: &mut WatchedWriter<W>,
     device: &Device,
     moment: u64,
+    digits: Option<&[u8]>,
     answer: &Result<Scanned, StepFault>,
 )
+    requires { IfSome digits (λ d. d.now ≡ decimal moment) }
     ensures { Puts W.contents W.does writer.old
         (step_text moment (scan_answer answer.now) device.now) writer.new }
 {
@@ -258,7 +279,7 @@ pub fn put_scanned<W: Sink>(
         Err(fault) => put_refusal(writer, moment, fault.code()),
         Ok(scanned) => {
             put_ended(writer, moment, &scanned.ended);
-            put_scan(writer, device, moment, scanned.steps);
+            put_scan(writer, device, moment, digits, scanned.steps);
         }
     }
 }

@@ -11,8 +11,7 @@ use Rattle.std.specs.List.{join_with_byte, slice_split}
 use Rattle.std.specs.Str.{all_ascii_digits, bytes_eq}
 use Rattle.std.specs.Str.Parse.{digits_value}
 use Rattle.bay_base.specs.Decimals.{read_number}
-use Rattle.bay_trace.specs.Digits.{octets_of}
-use Rattle.bay_trace.specs.Trace.{NamedData, association_event_of, association_of, at_moment, bad_measure, connects, contact, disconnects, event_of, field_of, input, is_association_verb, is_space, lost, measure, measure_of, name_of, named_of, only_word, position_of, read_integer, receives, scan, told_of, trace_line_of, truth_of, words_line}
+use Rattle.bay_trace.specs.Trace.{NamedData, association_event_of, at_moment, contact, event_of, input, is_association_verb, is_space, lost, measure_of, name_of, named_of, only_word, position_of, scan, trace_line_of, truth_of, words_line}
 
 -- ---- which words tell of a scan
 
@@ -35,11 +34,8 @@ none : None ≢ Some scan
 none e = cc
 
 no-measure : (id : List ℕ) (words : List (List ℕ)) → measure_of id words ≢ Some scan
-no-measure id [] = none
-no-measure id (field ∷ told) =
-    bound _ (field_of field) (λ f. bound (told_of id f) (only_word told)
-    (λ word. either (bytes_eq word (codes "bad")) (Some (bad_measure id f)) _ (λ e. cc)
-    (mapped (measure id f) (read_integer word) (λ x e. cc))))
+no-measure id [] e = cc
+no-measure id (field ∷ told) e = grind (arith, e)
 
 no-named : (verb name : List ℕ) (values : List (List ℕ)) → named_of verb name values ≢ Some scan
 no-named verb name values =
@@ -51,15 +47,7 @@ no-named verb name values =
 
 no-association : (verb word : List ℕ) (values : List (List ℕ))
     → association_event_of verb (word ∷ values) ≢ Some scan
-no-association verb word values =
-    either (bytes_eq verb (codes "open")) _ _ (mapped connects number (λ x e. cc))
-    (either (bytes_eq verb (codes "close")) _ _ (mapped disconnects number (λ x e. cc))
-    (either (bytes_eq verb (codes "recv")) _ _
-    (bound _ (association_of word) (λ a.
-    mapped (receives a) (option_and_then octets_of (only_word values)) (λ x e. cc))) none))
-  where
-    number : Option ℕ
-    number = option_and_then association_of (only_word (word ∷ values))
+no-association verb word values e = grind (arith, e)
 
 alone : (ws : List (List ℕ)) → event_of ws ≡ Some scan → ws ≡ codes "scan" ∷ []
 alone [] e = absurd cc
@@ -71,7 +59,9 @@ alone (verb ∷ []) e = by-test (bytes_eq verb (codes "scan")) refl
   where
     by-test : (v : Bool) → bytes_eq verb (codes "scan") ≡ v → verb ∷ [] ≡ codes "scan" ∷ []
     by-test true is = ap (λ w. w ∷ []) ((bytes_eq-Decides verb (codes "scan")).0 is)
-    by-test false is = absurd (either (bytes_eq verb (codes "lost")) (Some lost) None (λ f. cc) none (rw is at e))
+    by-test false is =
+        absurd (either (bytes_eq verb (codes "lost")) (Some lost) None (λ f. cc) none
+        (rw is at e))
 
 -- ---- the digits of its moment
 

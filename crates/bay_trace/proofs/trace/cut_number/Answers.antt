@@ -7,16 +7,20 @@ few place n l less = few-digits (17 - place) (place + 1) n l (omega (arith, less
 
 pub overflow_mul-number : goal.overflow_mul-number
 overflow_mul-number c =
-    omega (arith, few c.loop-place.place c.loop-place.number c.loop-place.invariant.within (omega arith))
+    let less =
+    few c.loop-place.place c.loop-place.number c.loop-place.invariant.within (omega arith) in
+    omega (arith, less)
 
 pub overflow_add-number : goal.overflow_add-number
 overflow_add-number c =
-    let less = few c.loop-place.place c.loop-place.number c.loop-place.invariant.within (omega arith) in
+    let less =
+    few c.loop-place.place c.loop-place.number c.loop-place.invariant.within (omega arith) in
     grind (arith, less, c.from.ensures)
 
 pub returns-then-octet-eq32 : goal.returns-then-octet-eq32
 returns-then-octet-eq32 c =
-    let less = few c.loop-place.place c.loop-place.number c.loop-place.invariant.within (omega arith) in
+    let less =
+    few c.loop-place.place c.loop-place.number c.loop-place.invariant.within (omega arith) in
     behind-space c.loop-place.number c.loop-place.place _ (omega (arith, less)) (omega arith)
     c.if-octet-eq32.true
     ∙ sym c.loop-place.invariant.read
