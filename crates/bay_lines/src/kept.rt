@@ -1,5 +1,6 @@
 // Octets that are kept, at most so many.
 ghost use Rattle.std.specs.Prelude.{◌≡◌, ◌+◌, ◌≤◌, ◌++◌, [], length, drop, nat_le, IfOk, if◌then◌else◌};
+ghost use Rattle.bay_lines.specs.Puts.{PutsWhole, text_of};
 
 use std::alloc::{AllocError, Global};
 use std::marker::Model;
@@ -47,6 +48,20 @@ impl<const MOST: usize> BoundedBuffer<MOST> {
             return false;
         }
         self.octets.extend_from_slice(octets).is_ok()
+    }
+
+    /// Adds the parts of a text up to the first that does not fit, and returns whether all of them
+    /// fitted. Does not allocate.
+    pub fn put_parts(&mut self, parts: &[&[u8]]) -> bool
+        ensures { PutsWhole MOST self.old (text_of parts.now) self.new result }
+    {
+        prove!(self.as_slice().len() <= MOST);
+        for part in parts {
+            if !self.put(part) {
+                return false;
+            }
+        }
+        true
     }
 
     /// Drops the first `count` octets.

@@ -7,6 +7,5 @@ pub mod KeyLemmas
 pub mod LawLemmas
 pub mod ReleaseLemmas
 pub mod SupervisionLemmas
-pub mod TellingLemmas
 pub mod UseLemmas
 pub mod WatchLemmas

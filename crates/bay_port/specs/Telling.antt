@@ -1,8 +1,8 @@
 -- What a process is told of a turn.
-use Rattle.std.specs.Prelude.{◌≡◌, ℕ, ◌+◌, nat_le, Bool, false, true, List, [], ◌∷◌, ◌++◌, codes, length, slice_get, Option, None, Some, if◌then◌else◌}
-use Rattle.std.specs.Borrow.{Bor}
+use Rattle.std.specs.Prelude.{ℕ, ◌+◌, nat_le, Bool, false, List, [], ◌++◌, codes, length, slice_get, Option, None, Some, if◌then◌else◌}
 use Rattle.std.specs.Fmt.{decimal}
 use Rattle.bay_device.specs.Device.{State}
+use Rattle.bay_lines.specs.Puts as puts
 use Rattle.bay_nodes.specs.declared.switch.Switch.{Switch}
 use Rattle.bay_port.specs.Watching.{Watched}
 use Rattle.bay_report.specs.Lines.{commands_text, refusal_line}
@@ -66,11 +66,5 @@ abbrev pub fits_in : List ℕ → List ℕ → Bool
 fits_in queue text = nat_le (length queue + length text) 65536
 
 -- a text was put into a queue, where the queue had room for all of it
-pub record PutsWhole (old text new : List ℕ) (answer : Bool) : Type 0 where
-  pub fits : answer ≡ fits_in old text
-  pub after : answer ≡ true → new ≡ old ++ text
-
--- parts of a text, one after the other
-abbrev pub text_of : List (Bor (List ℕ)) → List ℕ
-text_of [] = []
-text_of (part ∷ parts) = part.now ++ text_of parts
+abbrev pub PutsWhole : List ℕ → List ℕ → List ℕ → Bool → Type 0
+PutsWhole = puts.PutsWhole 65536

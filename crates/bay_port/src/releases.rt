@@ -6,7 +6,7 @@ ghost use Rattle.bay_port.specs.Releases.{nothing_told, release_line, release_pa
 ghost use Rattle.bay_port.specs.Releases as spec;
 ghost use Rattle.bay_port.specs.Telling.{PutsWhole};
 
-use crate::telling::{QUEUE, Queue, put_parts};
+use crate::telling::{QUEUE, Queue};
 use bay_device::device::Device;
 use std::marker::Model;
 
@@ -81,7 +81,7 @@ fn put_release_line(queue: &mut Queue, id: &str, release: Release) -> bool
 {
     let opens: &[u8] = if release.0 { b"1" } else { b"0" };
     let closes: &[u8] = if release.1 { b"1" } else { b"0" };
-    put_parts(queue, &[id.as_bytes(), b"=", opens, closes, b"\n"])
+    queue.put_parts(&[id.as_bytes(), b"=", opens, closes, b"\n"])
 }
 
 // Appends the line of the release of the switch at a place, if there is one.
@@ -91,7 +91,7 @@ fn put_release(queue: &mut Queue, device: &Device, place: usize, release: Releas
 {
     match device.id(place) {
         Some(id) => put_release_line(queue, id, release),
-        None => put_parts(queue, &[]),
+        None => queue.put_parts(&[]),
     }
 }
 
@@ -104,12 +104,12 @@ fn put_change(queue: &mut Queue, device: &Device, place: usize, last: Option<Rel
     match device.ena(place) {
         Some(release) => {
             if is_same(last, release) {
-                put_parts(queue, &[])
+                queue.put_parts(&[])
             } else {
                 put_release(queue, device, place, release)
             }
         }
-        None => put_parts(queue, &[]),
+        None => queue.put_parts(&[]),
     }
 }
 
@@ -140,6 +140,6 @@ pub fn put_releases(queue: &mut Queue, device: &Device, told: &mut Option<ToldRe
             told.learn(device);
             is_put
         }
-        None => put_parts(queue, &[]),
+        None => queue.put_parts(&[]),
     }
 }

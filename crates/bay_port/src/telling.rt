@@ -1,7 +1,7 @@
 // What a process is told of a turn is put into its queue.
 ghost use Rattle.std.specs.Prelude.{◌≡◌, slice_get};
 ghost use Rattle.bay_report.specs.Lines.{command_line, command_text, commands_text, refusal_line};
-ghost use Rattle.bay_port.specs.Telling.{PutsWhole, alive_text, greeting, over_line, over_text, refusal_text, text_of, told_text};
+ghost use Rattle.bay_port.specs.Telling.{PutsWhole, alive_text, greeting, over_line, over_text, refusal_text, told_text};
 ghost use Rattle.bay_port.specs.Telling as spec;
 
 use crate::watching::Watched;
@@ -18,34 +18,18 @@ pub const QUEUE: usize = 65_536;
 /// The octets still to be sent.
 pub type Queue = BoundedBuffer<QUEUE>;
 
-/// Appends the parts of a text. Returns false if there is not room for all of them.
-pub fn put_parts(queue: &mut Queue, parts: &[&[u8]]) -> bool
-    ensures { PutsWhole queue.old (text_of parts.now) queue.new result }
-{
-    prove!(queue.as_slice().len() <= QUEUE);
-    for part in parts {
-        if !queue.put(part) {
-            return false;
-        }
-    }
-    true
-}
-
 // Appends the line of a refusal with this number.
 fn put_refusal_line(queue: &mut Queue, moment: u64, code: u8) -> bool
     ensures { PutsWhole queue.old (refusal_line moment code) queue.new result }
 {
     let mut moments = Buffer::new();
     let mut codes = Buffer::new();
-    put_parts(
-        queue,
-        &[
-            moments.format(moment).as_bytes(),
-            b" refused ",
-            codes.format(code).as_bytes(),
-            b"\n",
-        ],
-    )
+    queue.put_parts(&[
+        moments.format(moment).as_bytes(),
+        b" refused ",
+        codes.format(code).as_bytes(),
+        b"\n",
+    ])
 }
 
 // Appends the line of a refusal, if there was one.
@@ -54,7 +38,7 @@ fn put_refusal(queue: &mut Queue, moment: u64, refused: Option<u8>) -> bool
 {
     match refused {
         Some(code) => put_refusal_line(queue, moment, code),
-        None => put_parts(queue, &[]),
+        None => queue.put_parts(&[]),
     }
 }
 
@@ -67,15 +51,12 @@ fn put_command_line(queue: &mut Queue, moment: u64, id: &str, operation: Operati
         Operation::Close => b" on\n",
     };
     let mut moments = Buffer::new();
-    put_parts(
-        queue,
-        &[
-            moments.format(moment).as_bytes(),
-            b" command ",
-            id.as_bytes(),
-            order,
-        ],
-    )
+    queue.put_parts(&[
+        moments.format(moment).as_bytes(),
+        b" command ",
+        id.as_bytes(),
+        order,
+    ])
 }
 
 // Appends the line of a command.
@@ -84,7 +65,7 @@ fn put_command(queue: &mut Queue, device: &Device, moment: u64, command: Command
 {
     match device.id(command.switch) {
         Some(id) => put_command_line(queue, moment, id, command.operation),
-        None => put_parts(queue, &[]),
+        None => queue.put_parts(&[]),
     }
 }
 
@@ -117,15 +98,12 @@ fn put_over_line(queue: &mut Queue, moment: u64, id: &str) -> bool
     ensures { PutsWhole queue.old (over_line moment id.now) queue.new result }
 {
     let mut moments = Buffer::new();
-    put_parts(
-        queue,
-        &[
-            moments.format(moment).as_bytes(),
-            b" over ",
-            id.as_bytes(),
-            b"\n",
-        ],
-    )
+    queue.put_parts(&[
+        moments.format(moment).as_bytes(),
+        b" over ",
+        id.as_bytes(),
+        b"\n",
+    ])
 }
 
 // Appends that the operate of the switch at an index is over.
@@ -135,7 +113,7 @@ fn put_over_of(queue: &mut Queue, device: &Device, moment: u64, switch: usize) -
 {
     match device.id(switch) {
         Some(id) => put_over_line(queue, moment, id),
-        None => put_parts(queue, &[]),
+        None => queue.put_parts(&[]),
     }
 }
 
@@ -146,7 +124,7 @@ pub fn put_over(queue: &mut Queue, device: &Device, moment: u64, over: Option<us
 {
     match over {
         Some(switch) => put_over_of(queue, device, moment, switch),
-        None => put_parts(queue, &[]),
+        None => queue.put_parts(&[]),
     }
 }
 
@@ -155,10 +133,10 @@ pub fn put_alive(queue: &mut Queue, moment: u64, lives: bool) -> bool
     ensures { PutsWhole queue.old (alive_text moment lives) queue.new result }
 {
     if !lives {
-        return put_parts(queue, &[]);
+        return queue.put_parts(&[]);
     }
     let mut moments = Buffer::new();
-    put_parts(queue, &[moments.format(moment).as_bytes(), b" alive\n"])
+    queue.put_parts(&[moments.format(moment).as_bytes(), b" alive\n"])
 }
 
 /// Appends how a process is greeted, if it is supervised. Returns false if there is not room for
@@ -172,21 +150,18 @@ pub fn put_greeting(
     ensures { PutsWhole queue.old (greeting moment device.now watch.now) queue.new result }
 {
     let Some(watch) = watch else {
-        return put_parts(queue, &[]);
+        return queue.put_parts(&[]);
     };
     let mut moments = Buffer::new();
     let mut limits = Buffer::new();
-    put_parts(
-        queue,
-        &[
-            moments.format(moment).as_bytes(),
-            b" process ",
-            limits.format(watch.limit_ms()).as_bytes(),
-            b" ",
-            device.domain().as_bytes(),
-            b" ",
-            device.revision().as_bytes(),
-            b"\n",
-        ],
-    )
+    queue.put_parts(&[
+        moments.format(moment).as_bytes(),
+        b" process ",
+        limits.format(watch.limit_ms()).as_bytes(),
+        b" ",
+        device.domain().as_bytes(),
+        b" ",
+        device.revision().as_bytes(),
+        b"\n",
+    ])
 }

@@ -1,13 +1,13 @@
 -- The line of a trace that tells of an event which a device was given, as a record of a session has
 -- it.
-use Rattle.std.specs.Prelude.{◌≡◌, ℕ, ◌+◌, ◌<◌, ◌^◌, nat_le, Bool, true, List, [], ◌∷◌, ◌++◌, codes, drop, length, Some}
-use Rattle.std.specs.Borrow.{Bor}
+use Rattle.std.specs.Prelude.{◌≡◌, ℕ, ◌+◌, ◌<◌, ◌^◌, Bool, List, ◌++◌, codes, drop, length, Some}
 use Rattle.std.specs.Fmt.{decimal}
 use Rattle.std.specs.List.{position_or_len}
 use Rattle.hex.specs.Hex.{IsBytes, encode_lower}
 use Rattle.bay_device.specs.Device.{State}
 use Rattle.bay_device.specs.declared.event.Event.{Event}
 use Rattle.bay_device.specs.declared.event.Event.TheVariants.{Open, Recv, Close, Contact, Input, Measure, BadMeasure, Lost, Scan}
+use Rattle.bay_lines.specs.Puts as puts
 use Rattle.bay_trace.specs.Placing.{anywhere, placed_event}
 use Rattle.bay_trace.specs.Trace.{NamedData, at_moment, is_space, trace_line_of}
 
@@ -61,16 +61,6 @@ pub record IsReadAs (s : State) (line : List ℕ) (now : ℕ) (event : Event) : 
 
 -- ---- room
 
--- 73,728 octets have room for a text too
-abbrev pub fits_in : List ℕ → List ℕ → Bool
-fits_in lines text = nat_le (length lines + length text) 73728
-
--- a text was put behind lines, where there was room for all of it
-pub record PutsWhole (old text new : List ℕ) (answer : Bool) : Type 0 where
-  pub fits : answer ≡ fits_in old text
-  pub after : answer ≡ true → new ≡ old ++ text
-
--- parts of a text, one after the other
-abbrev pub text_of : List (Bor (List ℕ)) → List ℕ
-text_of [] = []
-text_of (part ∷ parts) = part.now ++ text_of parts
+-- a text was put behind lines, where 73,728 octets had room for all of it
+abbrev pub PutsWhole : List ℕ → List ℕ → List ℕ → Bool → Type 0
+PutsWhole = puts.PutsWhole 73728

@@ -4,7 +4,7 @@ ghost use Rattle.std.specs.Fmt.{decimal};
 ghost use Rattle.hex.specs.Hex.{encode_lower};
 ghost use Rattle.bay_device.specs.Device.{State};
 ghost use Rattle.bay_device.specs.declared.event.Event.{Event as AnyEvent};
-ghost use Rattle.bay_trace.specs.Recording.{IsReadAs, IsRecordable, PutsWhole, behind_moment, event_line, text_of};
+ghost use Rattle.bay_trace.specs.Recording.{IsReadAs, IsRecordable, PutsWhole, behind_moment, event_line};
 
 use bay_device::event::Event;
 use bay_lines::kept::BoundedBuffer;
@@ -18,19 +18,6 @@ pub type Lines = BoundedBuffer<ROOM>;
 
 // The hexadecimal digits.
 const DIGITS: &[u8; 16] = b"0123456789abcdef";
-
-// Appends the parts of a text. Returns false if there is not room for all of them.
-fn put_parts(lines: &mut Lines, parts: &[&[u8]]) -> bool
-    ensures { PutsWhole lines.old (text_of parts.now) lines.new result }
-{
-    prove!(lines.as_slice().len() <= ROOM);
-    for part in parts {
-        if !lines.put(part) {
-            return false;
-        }
-    }
-    true
-}
 
 // Appends octets as hexadecimal digits. Returns false if there is not room for all of them.
 fn put_digits(lines: &mut Lines, octets: &[u8]) -> bool
@@ -67,9 +54,9 @@ fn put_received(lines: &mut Lines, moment: &[u8], association: u16, octets: &[u8
 {
     let mut numbers = Buffer::new();
     let number = numbers.format(association).as_bytes();
-    put_parts(lines, &[moment, b" recv ", number, b" "])
+    lines.put_parts(&[moment, b" recv ", number, b" "])
         && put_digits(lines, octets)
-        && put_parts(lines, &[b"\n"])
+        && lines.put_parts(&[b"\n"])
 }
 
 /// Appends the line of an event at a moment. A switch, an input or a meter is told of in the words
@@ -82,35 +69,29 @@ pub fn put_event(lines: &mut Lines, now: u64, event: Event<'_>, said: &[u8]) -> 
     let mut numbers = Buffer::new();
     let moment = moments.format(now).as_bytes();
     match event {
-        Event::Open { association } => put_parts(
-            lines,
-            &[
-                moment,
-                b" open ",
-                numbers.format(association).as_bytes(),
-                b"\n",
-            ],
-        ),
+        Event::Open { association } => lines.put_parts(&[
+            moment,
+            b" open ",
+            numbers.format(association).as_bytes(),
+            b"\n",
+        ]),
         Event::Recv {
             association,
             octets,
         } => put_received(lines, moment, association, octets),
-        Event::Close { association } => put_parts(
-            lines,
-            &[
-                moment,
-                b" close ",
-                numbers.format(association).as_bytes(),
-                b"\n",
-            ],
-        ),
-        Event::Lost => put_parts(lines, &[moment, b" lost\n"]),
-        Event::Scan => put_parts(lines, &[moment, b" scan\n"]),
+        Event::Close { association } => lines.put_parts(&[
+            moment,
+            b" close ",
+            numbers.format(association).as_bytes(),
+            b"\n",
+        ]),
+        Event::Lost => lines.put_parts(&[moment, b" lost\n"]),
+        Event::Scan => lines.put_parts(&[moment, b" scan\n"]),
         Event::Contact { .. }
         | Event::Input { .. }
         | Event::Measure { .. }
         | Event::BadMeasure { .. } => {
-            put_parts(lines, &[moment, b" ", words_behind(said), b"\n"])
+            lines.put_parts(&[moment, b" ", words_behind(said), b"\n"])
         }
     }
 }

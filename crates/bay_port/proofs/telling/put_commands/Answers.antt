@@ -2,13 +2,13 @@ use Rattle.std.proofs.Common.{ap}
 use Rattle.std.proofs.lemmas.List.{drop_all}
 use Rattle.bay_report.proofs.ReportLemmas.{commands-turn}
 use Rattle.bay_report.specs.Lines.{commands_text}
-use Rattle.bay_port.proofs.TellingLemmas.{puts-failed, puts-next, puts-nothing, puts-within}
+use Rattle.bay_lines.proofs.PutLemmas.{puts-failed, puts-next, puts-nothing, puts-within}
 use Rattle.bay_port.proofs.telling.put_commands.Goals as goal
 
 pub returns-then-not-put_command : goal.returns-then-not-put_command
 returns-then-not-put_command c =
     c.loop-command.invariant.goes _ _
-    (puts-failed _ _ _ _ _ c.put_command.ensures.fits
+    (puts-failed _ _ _ _ _ _ c.put_command.ensures.fits
     (commands-turn c.args.moment c.args.device.now c.args.commands.now
     c.loop-command.command-index _ c.loop-command-test.true) _ c.if-not-put_command.true)
 
@@ -16,10 +16,10 @@ pub loop-command-preserved : goal.loop-command-preserved
 loop-command-preserved c =
     let fit = c.if-not-put_command.false in
     record {
-      within = puts-within _ _ _ _ c.put_command.ensures.fits fit
+      within = puts-within _ _ _ _ _ c.put_command.ensures.fits fit
           (rw fit (c.put_command.ensures.after fit));
       goes = λ new answer rest. c.loop-command.invariant.goes _ _
-          (puts-next _ _ _ _ _ c.put_command.ensures.fits
+          (puts-next _ _ _ _ _ _ c.put_command.ensures.fits
           (commands-turn c.args.moment c.args.device.now c.args.commands.now
           c.loop-command.command-index _ c.loop-command-test.true) _ _ _ fit
           (rw fit (c.put_command.ensures.after fit)) rest);
@@ -28,6 +28,6 @@ loop-command-preserved c =
 pub returns : goal.returns
 returns c =
     c.loop-command.invariant.goes _ _
-    (puts-nothing _ _ c.loop-command.invariant.within
+    (puts-nothing _ _ _ c.loop-command.invariant.within
     (ap (commands_text c.args.moment c.args.device.now)
     (drop_all _ c.args.commands.now c.loop-command-test.false)))
