@@ -82,10 +82,8 @@ scan_step scanned = record (quiet_step scanned.ended) { scan = Some scanned.step
 abbrev pub scan_outcome : ℕ → State → Outcome
 scan_outcome now s = record {
   answer =
-      Ok (scan_step (record {
-        ended = ended_at now s;
-        steps = (ran_at now (device_at now s)).steps;
-      }));
+      Ok (record (quiet_step (ended_at now s))
+      { scan = Some (ran_at now (device_at now s)).steps });
   after = after_scan now (device_at now s);
 }
 
