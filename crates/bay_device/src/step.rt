@@ -89,6 +89,7 @@ impl DeviceState {
     }
 
     /// Ends what has expired at a time, and reports the end of an expired execution.
+    #[inline(always)]
     pub fn advance(&mut self, now: u64) -> Option<Sent>
         ensures sent { (connections : List (Option Talk))
             → result ≡ ended_at now (state_view connections self.old) }
@@ -106,6 +107,7 @@ impl DeviceState {
     }
 
     /// Takes the position of the switch at an index, and reports the execution that it ends.
+    #[inline(always)]
     pub fn take_contact(&mut self, now: u64, switch: usize, position: Dbpos) -> Option<Sent>
         requires { switch < length self.old.bay.switches }
         ensures sent { (connections : List (Option Talk))
@@ -208,6 +210,7 @@ impl DeviceState {
 
     /// Runs the program once on the current positions, inputs and measured values. Returns the
     /// number of its steps.
+    #[inline(always)]
     pub fn scan(&mut self, now: u64) -> u32
         ensures after { (connections : List (Option Talk))
             → state_view connections self.new ≡ after_scan now (state_view connections self.old) }

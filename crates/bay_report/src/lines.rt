@@ -30,6 +30,7 @@ fn put_moment<W: Sink>(writer: &mut WatchedWriter<W>, moment: u64, digits: Optio
 }
 
 // Writes the line of a scan. The digits of its moment may be at hand.
+#[inline(always)]
 fn put_scan<W: Sink>(
     writer: &mut WatchedWriter<W>,
     device: &Device,
