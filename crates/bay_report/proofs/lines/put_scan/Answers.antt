@@ -10,6 +10,6 @@ returns g c =
     Puts-as _
     (sym (append_assoc (decimal c.args.moment ++ codes " scan steps=" ++ decimal c.args.steps)
     (switches_text d 0 d.switches) (codes "\n")))
-    (Puts-then (Puts-then (Puts-then (c.put_number.ensures) (c.put.ensures)) (Puts-as _
-    (ap decimal c.from.ensures) c.put_number-2.ensures)) (Puts-as _ c.releases.ensures
+    (Puts-then (Puts-then (Puts-then (c.put_moment.ensures) (c.put.ensures)) (Puts-as _
+    (ap decimal c.from.ensures) c.put_number.ensures)) (Puts-as _ c.releases.ensures
     c.put-2.ensures))
