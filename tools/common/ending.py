@@ -25,7 +25,7 @@ OF_TOOLS = {'acceptance': (0, 1, 2, 3), 'asn1': (0, 2, 3), 'audit': (0, 1, 2, 3,
             'join': (0, 2, 3), 'log': (0, 2, 3), 'modbus': (0, 1, 2, 3), 'panel': (0, 2, 3),
             'release': (0, 1, 2, 3), 'rules': (0, 1, 2, 3), 'scl': (0, 1, 2, 3),
             'simulate': (0, 1, 2, 3), 'station': (0, 2, 3), 'timeline': (0, 1, 2, 3),
-            'trace': (0, 2, 3), 'trusted': (0, 1, 2, 3)}
+            'trace': (0, 2, 3), 'trusted': (0, 1, 2, 3), 'wrong_definitions': (0, 1, 2, 3, 4)}
 
 
 class Failed(Exception):

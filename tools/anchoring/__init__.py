@@ -1,0 +1,1 @@
+"""Changes of definitions: which there are, and what each of them breaks."""
