@@ -1,10 +1,11 @@
 """The table of answers, as `tools/wrong_definitions --out` keeps it: by a change's name its lines
-before and after with what it comes to, the commit and the date."""
+before and after with what it comes to, the last commit of the crates and the date."""
 import dataclasses
 import datetime
 import json
 import pathlib
 
+from common.ending import Failed
 from measuring.stamps import output_of
 
 from .trying import Answer
@@ -14,13 +15,16 @@ Table = dict[str, dict]
 
 def kept(path: pathlib.Path | None) -> Table:
     """The table of a file, or an empty one."""
-    return json.loads(path.read_text(encoding='utf-8')) if path and path.exists() else {}
+    try:
+        return json.loads(path.read_text(encoding='utf-8')) if path and path.exists() else {}
+    except ValueError as error:
+        raise Failed(f'{path}: it is no table of answers') from error
 
 
 def row(before: str, after: str, answer: Answer) -> dict:
     """A row: the lines of a change, and its answer."""
     return {'before': before, 'after': after, **dataclasses.asdict(answer),
-            'commit': output_of('git', 'rev-parse', '--short', 'HEAD'),
+            'commit': output_of('git', 'log', '-1', '--format=%h', '--', 'crates'),
             'date': str(datetime.datetime.now(datetime.UTC).date())}
 
 

@@ -27,7 +27,7 @@ FACT = re.compile(r'[≡≢≤<→×⊎]|(?:^|[( ])(?:All|Contains|(?:Is|Are|Has
 @dataclasses.dataclass(frozen=True)
 class Change:
     """A place in a definition's file, what stands there instead, and what that needs of the
-    library's prelude."""
+    library's prelude; of a fact that is left out its name, and those of all of its record."""
     definition: Definition
     kind: str
     start: int
@@ -35,6 +35,8 @@ class Change:
     new: str
     needs: str = ''
     number: int = 0
+    name: str = ''
+    names: frozenset[str] = frozenset()
 
     @property
     def id(self) -> str:
@@ -138,14 +140,22 @@ class Changer:
                 yield self.change('arguments', one[0], other[1], second + between + first)
 
     def operands(self, tokens: list[Token]) -> Iterator[Change]:
-        """An operand of `&&` or `×`, left out."""
+        """An operand of `&&` or `×`, left out; an equality that no `if` asks, negated."""
         for place, it in enumerate(tokens):
-            if it.text in ('&&', '×'):
-                breaks = BREAKS | {it.text} | (RELATIONS if it.text == '&&' else set())
-                first, last = begin_of(tokens, place, breaks), end_of(tokens, place, breaks)
-                if not first or tokens[first - 1].text != it.text:
-                    yield self.change('conjunct', tokens[first].start, tokens[place + 1].start, '')
-                yield self.change('conjunct', tokens[place - 1].end, tokens[last - 1].end, '')
+            if it.text not in ('&&', '×', '=='):
+                continue
+            breaks = BREAKS | ({'×'} if it.text == '×' else {'&&'} | RELATIONS)
+            first, last = begin_of(tokens, place, breaks), end_of(tokens, place, breaks)
+            before = tokens[first - 1].text if first else ''
+            if it.text == '==':
+                start, end = tokens[first].start, tokens[last - 1].end
+                if before != 'if':
+                    new = f'not ({self.whole[start:end]})'
+                    yield self.change('equality', start, end, new, 'not')
+                continue
+            if before != it.text:
+                yield self.change('conjunct', tokens[first].start, tokens[place + 1].start, '')
+            yield self.change('conjunct', tokens[place - 1].end, tokens[last - 1].end, '')
 
     def arms(self) -> Iterator[Change]:
         """What an arm says, in the place of what the next one says."""
@@ -167,13 +177,15 @@ class Changer:
 
     def facts(self) -> Iterator[Change]:
         """A fact of a record, left out, where no later field names it."""
-        for place, part in enumerate(self.parts if self.is_record else ()):
-            name = self.text[part.begin:part.start].split()[-2]
-            later = ' '.join(self.text[it.start:it.end] for it in self.parts[place + 1:])
+        fields = self.parts if self.is_record else []
+        names = [self.text[it.begin:it.start].split()[-2] for it in fields]
+        for place, (name, part) in enumerate(zip(names, fields)):
+            later = ' '.join(self.text[it.start:it.end] for it in fields[place + 1:])
             said = self.text[part.start:part.end]
             if FACT.search(said) and not re.search(rf'\b{re.escape(name)}\b', later):
                 end = min(part.end + 1, len(self.text))
-                yield self.change('conjunct', part.begin, end, '')
+                change = self.change('fact', part.begin, end, '')
+                yield dataclasses.replace(change, name=name, names=frozenset(names))
 
 
 def is_atom(it: Token) -> bool:

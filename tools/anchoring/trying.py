@@ -7,14 +7,16 @@ import tempfile
 
 from common.rooms import KEPT, LIBRARY, copy_of
 from tracing.calls import CRATES
-from tracing.refusals import place_of
+from tracing.inner import crates_below
+from tracing.refusals import NAMED, place_of
 
 from .changes import Change, text_of
+from .written import without_fact
 
 BROKEN, PROVES, UNREAD, UNKNOWN = 'broken', 'proves', 'not read', 'no answer'
 SAID = re.compile(r'^(note: )?(?:\./)?((?:src|specs|proofs)/\S+?):(\d+):\d+: (.*)$', re.M)
 # What a text says that names what went; in a proof that says little of what can be proved.
-NAMES = re.compile(r'has no field|is not in scope|has no `|was not admitted')
+NAMES = re.compile(r'has no field|is not a field|is not in scope|has no `|was not admitted')
 UNBUILT = re.compile(r'^rt: the library (\w+) did not build', re.M)
 FAILED = re.compile(r'^fn \w+::(\S+): (?:not proved|no proof)', re.M)
 
@@ -64,7 +66,8 @@ class Said:
     def at(self) -> str:
         """The call with its clause at which it stands, or nothing where it is a lemma's."""
         call, clause = place_of(self.crate, self.file, self.line)
-        label = clause.label or clause.kind if clause else ''
+        named = NAMED.search(self.text)
+        label = named[1] if named else clause.label or clause.kind if clause else ''
         return '/'.join(it for it in (call.title, label) if it) if call else ''
 
 
@@ -105,7 +108,8 @@ def answer_in(crate: str, status: int, printed: str, through: tuple[str, ...]) -
         return None
     if unread:
         return Answer(UNREAD, through, broken, unread.file, unread.text)
-    return Answer(BROKEN if status == 1 else UNKNOWN, through, broken, at, goal)
+    is_sure = status == 1 and through[0] in crates_below(broken)
+    return Answer(BROKEN if is_sure else UNKNOWN, through, broken, at, goal)
 
 
 def checked(folder: pathlib.Path, seconds: int) -> tuple[int, str]:
@@ -119,15 +123,24 @@ def checked(folder: pathlib.Path, seconds: int) -> tuple[int, str]:
     return done.returncode, done.stdout
 
 
+def place_in(room: pathlib.Path, change: Change) -> None:
+    """Puts a change into a copy; with a fact goes what gives it in proofs."""
+    path = change.definition.path
+    (room / 'crates' / path.relative_to(CRATES)).write_text(change.applied(text_of(path)),
+                                                            encoding='utf-8')
+    for proof in room.glob('crates/*/proofs/**/*.antt') if change.name else ():
+        text = proof.read_text(encoding='utf-8')
+        if all(it in text for it in change.names):
+            proof.write_text(without_fact(text, change.name, change.names), encoding='utf-8')
+
+
 def tried(change: Change, others: list[str], seconds: int) -> Answer:
     """What a change comes to in its crate, and if that is proved in others, one after the other."""
-    path = change.definition.path
     looked: tuple[str, ...] = ()
     with tempfile.TemporaryDirectory(prefix='wrong-definitions-') as name:
         room = pathlib.Path(name)
         copy_of(CRATES, room, {LIBRARY, KEPT})
-        (room / 'crates' / path.relative_to(CRATES)).write_text(
-            change.applied(text_of(path)), encoding='utf-8')
+        place_in(room, change)
         for crate in (change.definition.crate, *others):
             looked += (crate,)
             status, printed = checked(room / 'crates' / crate, seconds)

@@ -87,6 +87,28 @@ def parts(text: str, name: str) -> list[Part]:
     return fields(text) if 'record' in head else equations(text, name)
 
 
+def without_fact(text: str, name: str, names: frozenset[str]) -> str:
+    """A file of proofs without what gives a fact of a record, wherever all fields of it are
+    given: `record { a = x; b = y }`."""
+    tokens, gone = tokens_in(silenced(text)), []
+    for place, it in enumerate(tokens[1:], 1):
+        if it.text == '{' and tokens[place - 1].text == 'record':
+            last, heads = behind_group(tokens, place) - 1, [place + 1]
+            at = place + 1
+            while at < last:
+                if tokens[at].text == ';':
+                    heads.append(at + 1)
+                at = behind_group(tokens, at)
+            given = {tokens[head].text: head for head in heads if head < last}
+            if set(given) == names and (not gone or tokens[given[name]].start >= gone[-1][1]):
+                head = given[name]
+                behind = min(it for it in (*heads, last) if it > head)
+                gone.append((tokens[head].start, tokens[behind].start))
+    for start, end in reversed(gone):
+        text = text[:start] + text[end:]
+    return text
+
+
 def split_type(text: str) -> list[str]:
     """The types of the arguments that a part of a type stands for: of `(a k : ℕ)` two, of one in
     braces none, since a call does not write it."""

@@ -13,7 +13,7 @@ from anchoring.anchors import kept, keep, merged, row
 from anchoring.changes import PRELUDE, Change, Changer, changes_of, lines_of, text_of
 from anchoring.headline import citing, reached
 from anchoring.trying import BROKEN, PROVES, UNKNOWN, UNREAD, Answer, answer_in, title_of
-from anchoring.written import types_of
+from anchoring.written import types_of, without_fact
 from common.rooms import KEPT, LIBRARY, copy_of
 from tests.tool import Tools
 from tracing.calls import CRATES, calls_of
@@ -57,6 +57,10 @@ class Kinds(unittest.TestCase):
             'f b = if not (g (if b then 1 else 2)) then 3 else 4',
             'f b = if g (if not (b) then 1 else 2) then 3 else 4'])
         self.assertEqual(changed('abbrev pub f : Bool → Bool\nf b = not b', 'test'), ['f b = b'])
+        text = 'abbrev pub f : ℕ → Bool\nf n = if n == 1 then g n && n.a == 2 else n == (3 + n)'
+        self.assertEqual(changed(text, 'equality'), [
+            'f n = if n == 1 then g n && not (n.a == 2) else n == (3 + n)',
+            'f n = if n == 1 then g n && n.a == 2 else not (n == (3 + n))'])
 
     def test_an_arm_says_what_the_next_one_says(self):
         text = ('abbrev pub f : Option ℕ → ℕ → ℕ\nf None n = n\nf (Some m) n =\n    g m\n'
@@ -81,12 +85,20 @@ class Kinds(unittest.TestCase):
     def test_a_fact_of_a_record_is_left_out(self):
         text = ('pub record F (n : ℕ) : Type 0 where\n  pub next : ℕ\n  pub after : next ≡ n\n'
                 '  pub is : All (λ m.\n      m ≡ n) l')
-        self.assertEqual(changed(text, 'conjunct', 'F'), ['', ''])
+        self.assertEqual(changed(text, 'fact', 'F'), ['', ''])
         definition = Definition('bay_control', DECISIONS, 'F', 4, '', text)
         whole = HEAD + text + '\n'
         found = [it.applied(whole) for it in Changer(definition, whole).changes()]
         self.assertIn(whole.replace('  pub after : next ≡ n\n', ''), found)
         self.assertIn(whole.partition('  pub is')[0] + '\n', found)
+
+    def test_what_gives_a_fact_goes_with_it(self):
+        names = frozenset({'a', 'b'})
+        text = ('one = record { a = f (record { c = 1; b = 2 }); b = 2 }\n'
+                'two = record {\n  b = (let x = 1; x); -- b\n  a = record { b = 3; a = 4; };\n}\n')
+        self.assertEqual(without_fact(text, 'b', names), 'one = record { a = f (record { c = 1; '
+                         'b = 2 }); }\ntwo = record {\n  a = record { a = 4; };\n}\n')
+        self.assertEqual(without_fact(text, 'c', frozenset({'c'})), text)
 
     def test_data_and_types_are_left(self):
         self.assertEqual(changed('pub data f : Type 0 where\n  A : (a b : ℕ) → f', 'number'), [])
@@ -129,7 +141,8 @@ class Texts(unittest.TestCase):
             self.assertLess(definition.line - 2, first, it.id)
             self.assertLess(last, definition.line + definition.text.count('\n') + 1, it.id)
             self.assertNotEqual(before, after, it.id)
-            self.assertEqual(*([line for line in of if '--' in line] for of in (before, after)), it.id)
+            comments = [[line for line in of if '--' in line] for of in (before, after)]
+            self.assertEqual(*comments, it.id)
 
 
 class Reached(unittest.TestCase):
@@ -150,45 +163,48 @@ class Reached(unittest.TestCase):
 class Answers(unittest.TestCase):
     """What `rt check` printed, read as an answer."""
 
+    def answer(self, *lines: str, status: int = 1, crate: str = 'bay_control') -> Answer | None:
+        """The answer of a check of a crate for a change of bay_control."""
+        return answer_in(crate, status, '\n'.join(lines) + '\n', ('bay_control',))
+
     def test_a_clause_of_the_code(self):
         call = next(it for it in calls_of('bay_control') if it.title == 'Controls::operate')
-        clause = call.clauses[0]
         file = call.path.relative_to(CRATES / 'bay_control')
-        printed = ('proofs/One.antt:3:1: error: `one`: has no field `x`\n'
-                   f'{file}:{clause.line}:5: error: a goal\nlogic=not-proved functions=1\n')
-        self.assertEqual(
-            answer_in('bay_control', 1, printed, ('bay_control',)),
-            Answer(BROKEN, ('bay_control',), 'bay_control',
-                   f'Controls::operate/{clause.label or clause.kind}', 'a goal'))
+        for label, goal in ((call.clauses[0].label, 'a goal'), ('after', '`returns-clause-after`')):
+            found = self.answer('proofs/One.antt:3:1: error: `one`: has no field `x`',
+                                f'{file}:{call.clauses[0].line}:5: error: {goal}')
+            self.assertEqual(found, Answer(BROKEN, ('bay_control',), 'bay_control',
+                                           f'Controls::operate/{label}', goal))
 
     def test_a_lemma(self):
-        printed = ('src/laws.rt:3:1: warning: unused\nnote: ./proofs/One.antt:3:1: no proof\n'
-                   'fn bay_control::laws::calls_lead: not proved\nlogic=not-proved functions=1\n')
-        found = answer_in('bay_control', 1, printed, ('bay_control',))
+        found = self.answer('src/laws.rt:3:1: warning: unused',
+                            'note: ./proofs/One.antt:3:1: no proof',
+                            'fn bay_control::laws::calls_lead: not proved')
         self.assertEqual(found.told,
                          'broken by bay_control, calls_lead by proofs/One.antt: no proof')
         self.assertEqual([title_of(it) for it in ('a::B::c', 'a::c', 'c')], ['B::c', 'c', 'c'])
 
     def test_only_names_that_went(self):
-        printed = 'proofs/One.antt:3:1: error: `one`: has no field `x`\nlogic=not-proved\n'
-        self.assertEqual(answer_in('bay_control', 1, printed, ()).goal,
-                         '`one`: has no field `x` (a proof names what went)')
+        found = self.answer('proofs/One.antt:3:1: error: `one`: has no field `x`')
+        self.assertEqual(found.goal, '`one`: has no field `x` (a proof names what went)')
 
-    def test_a_library_between(self):
-        printed = ('proofs/One.antt:3:1: error: a goal\nlogic=not-proved functions=1\n'
-                   'rt: the library bay_services did not build, so nothing above it was checked\n')
-        self.assertEqual(answer_in('bay_device', 1, printed, ('bay_device',)).crate, 'bay_services')
+    def test_a_library_that_is_built_first(self):
+        for name, verdict in (('bay_services', BROKEN), ('bay_tree', UNKNOWN)):
+            found = self.answer('proofs/One.antt:3:1: error: a goal', f'rt: the library {name} did '
+                                'not build, so nothing above it was checked', crate='bay_device')
+            self.assertEqual((found.crate, found.verdict), (name, verdict))
 
     def test_what_is_not_read(self):
         for said in ('specs/Decisions.antt:3:1: error: `f`: the type differs',
                      'src/laws.rt:3:1: error: `x`: has no field `y`'):
-            printed = f'{said}\nproofs/One.antt:3:1: error: a goal\nlogic=not-proved\n'
-            self.assertEqual(answer_in('bay_control', 1, printed, ()).verdict, UNREAD)
+            found = self.answer(said, 'proofs/One.antt:3:1: error: a goal')
+            self.assertEqual(found.verdict, UNREAD)
 
     def test_no_goal(self):
-        self.assertEqual(answer_in('bay_control', 3, 'rattle: no verdict: steps\n', ()),
-                         Answer(UNKNOWN, (), 'bay_control', '', 'rattle: no verdict: steps'))
-        self.assertIsNone(answer_in('bay_control', 0, 'logic=proved\n', ()))
+        self.assertEqual(self.answer('rattle: no verdict: steps', status=3),
+                         Answer(UNKNOWN, ('bay_control',), 'bay_control', '',
+                                'rattle: no verdict: steps'))
+        self.assertIsNone(self.answer('logic=proved', status=0))
         self.assertEqual(Answer(PROVES, ('a', 'b')).told, 'still proves in a, b')
 
 
@@ -235,6 +251,11 @@ class Tool(Tools):
     def test_a_crate_that_is_not_reached(self):
         found = self.call_tool('wrong_definitions', '--crate', 'bay_net')
         self.assertEqual((found.status, found.error.count('\n')), (2, 1))
+
+    def test_a_file_that_is_no_table(self):
+        found = self.call_tool('wrong_definitions', '--out', self.file('odd', 'x'), '--most', 0)
+        self.assertEqual((found.status, found.error),
+                         (3, f'wrong_definitions: {self.folder}/odd: it is no table of answers\n'))
 
     def test_the_table_is_of_changes_that_are_there(self):
         table = kept(TOOLS / 'anchoring' / 'anchors.json')
