@@ -103,7 +103,7 @@ fn answer_named<W: Sink>(
     moment: u64,
     event: NamedEvent<'_>,
 ) -> bool
-    requires { trace_line_of line.now ≡ Some (at_moment moment (named_view event.entry)) }
+    requires { trace_line_of line.now ≡ Some (at_moment moment (named_view event)) }
     ensures { Answers W.contents W.does writer.old
         (λ choice. named_answer choice moment (named_view event.entry)
         (record { device = device.old; room = octets.old.room })) writer.new
