@@ -1,9 +1,9 @@
 -- What backs an operate in small runs, and what does not.
-use Rattle.std.proofs.Common.{◌≡◌, ℕ, ◌<◌, ◌+◌, true, false, List, [], ◌∷◌, ◌++◌, refl, ap, sym, ◌∙◌, subst, ◌⊎◌, inl, inr, ⊎_elim, arith}
+use Rattle.std.proofs.Common.{◌≡◌, ◌≢◌, ℕ, ◌<◌, ◌+◌, true, false, Option, None, Some, List, [], ◌∷◌, ◌++◌, refl, ap, sym, ◌∙◌, subst, ◌⊎◌, inl, inr, ⊎_elim, arith}
 use Rattle.std.specs.Prelude.{All}
-use Rattle.bay_control.specs.Acts.{Entry}
-use Rattle.bay_control.specs.Backing.{grants, undoes}
-use Rattle.bay_example_laws.specs.Selects.{IsBackedBehind, cancelled, operated, selected_by}
+use Rattle.bay_control.specs.Acts.{Closed, Entry, Opened, Select}
+use Rattle.bay_control.specs.Backing.{choice_of, grants, undoes}
+use Rattle.bay_example_laws.specs.Selects.{IsBackedBehind, IsMatchedBehind, accepted, cancelled, operated, refused, selected_by, selected_with}
 use Rattle.bay_example_laws.proofs.SplitLemmas.{none-there, one-there, two-there}
 use Rattle.bay_control.specs.declared.request.Choice.{Choice}
 
@@ -28,6 +28,12 @@ over-backs-none choice h =
 
 pub nothing-backs : (choice : Choice) → IsBackedBehind choice 1999 [] → ⊥
 nothing-backs choice h = none-there h.earlier h.between h.select h.split
+
+pub refused-backs-none : (choice : Choice) → IsBackedBehind choice 1999 (refused ∷ []) → ⊥
+refused-backs-none choice h =
+    let same : h.select ≡ refused = one-there refused h.earlier h.between h.select h.split in
+    let own : false ≡ true = subst (λ (e : Entry). grants 1 0 e ≡ true) same h.granted in
+    absurd cc
 
 pub another-backs-none : (choice : Choice) → IsBackedBehind choice 1999 (selected_by 2 ∷ []) → ⊥
 another-backs-none choice h =
@@ -56,3 +62,68 @@ cancelled-backs-none choice h = undone choice cancelled refl refl h
 pub used-backs-none : (choice : Choice)
     → IsBackedBehind choice 1999 (selected_by 1 ∷ operated choice ∷ []) → ⊥
 used-backs-none choice h = undone choice (operated choice) refl refl h
+
+pub closed-backs-none : (choice : Choice)
+    → IsBackedBehind choice 1999 (selected_by 1 ∷ accepted (Closed 1) ∷ []) → ⊥
+closed-backs-none choice h = undone choice (accepted (Closed 1)) refl refl h
+
+pub opened-backs-none : (choice : Choice)
+    → IsBackedBehind choice 1999 (selected_by 1 ∷ accepted (Opened 1) ∷ []) → ⊥
+opened-backs-none choice h = undone choice (accepted (Opened 1)) refl refl h
+
+pub taken-backs-none : (choice : Choice)
+    → IsBackedBehind choice 1999 (selected_by 1 ∷ selected_by 2 ∷ []) → ⊥
+taken-backs-none choice h = undone choice (selected_by 2) refl refl h
+
+pub moved-backs-none : (choice : Choice)
+    → IsBackedBehind choice 1999 (selected_by 1 ∷ accepted (Select 1 1) ∷ []) → ⊥
+moved-backs-none choice h = undone choice (accepted (Select 1 1)) refl refl h
+
+-- ---- enhanced security
+
+pub matched-backs : (choice : Choice) → IsMatchedBehind choice (selected_with choice ∷ [])
+matched-backs choice = record {
+  earlier = [];
+  select = selected_with choice;
+  between = [];
+  split = refl;
+  granted = refl;
+  stands = λ k d lt. absurd (omega arith);
+  in_time = omega arith;
+  matched = λ e. record { last = λ k d lt. absurd (omega arith); same = refl };
+}
+
+-- the select that backs asked for what is operated
+asks-for : (choice : Choice) (before : List Entry) (select : Entry)
+    → (h : IsMatchedBehind choice before) → h.select ≡ select → choice_of select.act ≡ Some choice
+asks-for choice before select h is =
+    subst (λ (e : Entry). choice_of e.act ≡ Some choice) is (h.matched refl).same
+
+pub other-backs-none : (asked choice : Choice) → asked ≢ choice
+    → IsMatchedBehind choice (selected_with asked ∷ []) → ⊥
+other-backs-none asked choice differs h =
+    let is : h.select ≡ selected_with asked =
+    one-there (selected_with asked) h.earlier h.between h.select h.split in
+    let same : Some asked ≡ Some choice =
+    asks-for choice (selected_with asked ∷ []) (selected_with asked) h is in
+    differs cc
+
+pub plain-backs-none : (choice : Choice) → IsMatchedBehind choice (selected_by 1 ∷ []) → ⊥
+plain-backs-none choice h =
+    let is : h.select ≡ selected_by 1 =
+    one-there (selected_by 1) h.earlier h.between h.select h.split in
+    let no : None ≡ Some choice = asks-for choice (selected_by 1 ∷ []) (selected_by 1) h is in
+    absurd cc
+
+pub earlier-backs-none : (asked choice : Choice) → asked ≢ choice
+    → IsMatchedBehind choice (selected_with choice ∷ selected_with asked ∷ []) → ⊥
+earlier-backs-none asked choice differs h =
+    let before : List Entry = selected_with choice ∷ selected_with asked ∷ [] in
+    ⊎_elim (λ (is : (h.select ≡ selected_with choice) × (h.between ≡ selected_with asked ∷ [])).
+    let no : true ≡ false =
+    subst (λ (es : List Entry). All (λ (e : Entry). grants 1 0 e ≡ false) es) is.1
+    (h.matched refl).last 0 (selected_with asked) (omega arith) in absurd cc)
+    (λ (is : (h.select ≡ selected_with asked) × (h.earlier ≡ selected_with choice ∷ [])).
+    let same : Some asked ≡ Some choice =
+    asks-for choice before (selected_with asked) h is.0 in differs cc)
+    (two-there (selected_with choice) (selected_with asked) h.earlier h.between h.select h.split)

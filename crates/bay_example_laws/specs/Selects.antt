@@ -1,7 +1,7 @@
 -- Small runs of selects and operates of one switch.
-use Rattle.std.specs.Prelude.{ℕ, true, List, [], ◌∷◌}
-use Rattle.bay_nodes.specs.declared.switch.Control.TheVariants.{Sbo}
-use Rattle.bay_control.specs.Acts.{Act, Entry, Select, Cancel, Operate}
+use Rattle.std.specs.Prelude.{ℕ, false, true, List, [], ◌∷◌}
+use Rattle.bay_nodes.specs.declared.switch.Control.TheVariants.{Sbo, SboEnhanced}
+use Rattle.bay_control.specs.Acts.{Act, Entry, Select, SelectWith, Cancel, Operate}
 use Rattle.bay_control.specs.Backing.{IsBacked}
 use Rattle.bay_control.specs.declared.control.SwitchControl.{SwitchControl}
 use Rattle.bay_control.specs.declared.request.Choice.{Choice}
@@ -22,9 +22,24 @@ IsBackedBehind choice now before = IsBacked one_switch 1 0 choice now before
 abbrev pub selected_by : ℕ → Entry
 selected_by a = accepted (Select a 0)
 
+-- one that was refused
+abbrev pub refused : Entry
+refused = record (selected_by 1) { is_accepted = false }
+
 -- a cancel, and an operate, of the switch by association 1
 abbrev pub cancelled : Entry
 cancelled = accepted (Cancel 1 0)
 
 abbrev pub operated : Choice → Entry
 operated choice = accepted (Operate 1 0 choice)
+
+-- one switch with enhanced security, and a select with value of it by association 1
+abbrev pub enhanced_switch : List SwitchControl
+enhanced_switch = record { model = SboEnhanced; sbo_timeout_ms = 2000; travel_ms = 500 } ∷ []
+
+abbrev pub selected_with : Choice → Entry
+selected_with choice = accepted (SelectWith 1 0 choice)
+
+-- association 1 operates that switch within the time, behind these acts
+abbrev pub IsMatchedBehind : Choice → List Entry → Type 0
+IsMatchedBehind choice before = IsBacked enhanced_switch 1 0 choice 1999 before

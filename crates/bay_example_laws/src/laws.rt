@@ -1,6 +1,7 @@
 // Laws of small runs. Each function does nothing, and its contract is the law.
 ghost use Rattle.std.specs.Prelude.{◌≢◌, ◌+◌, ℕ, true, List, [], ◌∷◌, Ok, Err, Some, None};
 ghost use Rattle.bay_tree.specs.declared.row.Row.{Row};
+ghost use Rattle.bay_control.specs.Acts.{Closed, Opened, Select};
 ghost use Rattle.bay_control.specs.declared.request.Choice.{Choice};
 ghost use Rattle.bay_device.specs.Commands.{CommandedAt};
 ghost use Rattle.bay_device.specs.Device.{State};
@@ -12,10 +13,12 @@ ghost use Rattle.bay_device.specs.declared.event.Step.{Step};
 ghost use Rattle.bay_device.specs.declared.fault.StepFault.{StepFault};
 ghost use Rattle.bay_example_laws.specs.Commands.{TellsOpen, operating, released};
 ghost use Rattle.bay_example_laws.specs.Scans.{contact_past, halting, lost_past, nothing, scan_past, with_code, with_slot};
-ghost use Rattle.bay_example_laws.specs.Selects.{IsBackedBehind, cancelled, operated, selected_by};
+ghost use Rattle.bay_example_laws.specs.Selects.{IsBackedBehind, IsMatchedBehind, accepted, cancelled, operated, refused, selected_by, selected_with};
 
 /// What backs an operate: its own select, for less than the two seconds that it stands. No select
-/// backs none, another association's backs none, nor does one that is over, cancelled or used up.
+/// backs none, another association's or a refused one backs none, nor does one that is over,
+/// cancelled or used up, whose association was closed or opened since, or behind which another
+/// association or another switch was selected.
 pub fn a_select_backs_its_own_operate()
     ensures backed { (choice : Choice)
         → IsBackedBehind choice 1999 (selected_by 1 ∷ []) }
@@ -28,6 +31,27 @@ pub fn a_select_backs_its_own_operate()
         → IsBackedBehind choice 1999 (selected_by 1 ∷ cancelled ∷ []) → ⊥ }
     ensures used { (choice : Choice)
         → IsBackedBehind choice 1999 (selected_by 1 ∷ operated choice ∷ []) → ⊥ }
+    ensures refused { (choice : Choice) → IsBackedBehind choice 1999 (refused ∷ []) → ⊥ }
+    ensures closed { (choice : Choice)
+        → IsBackedBehind choice 1999 (selected_by 1 ∷ accepted (Closed 1) ∷ []) → ⊥ }
+    ensures opened { (choice : Choice)
+        → IsBackedBehind choice 1999 (selected_by 1 ∷ accepted (Opened 1) ∷ []) → ⊥ }
+    ensures taken { (choice : Choice)
+        → IsBackedBehind choice 1999 (selected_by 1 ∷ selected_by 2 ∷ []) → ⊥ }
+    ensures moved { (choice : Choice)
+        → IsBackedBehind choice 1999 (selected_by 1 ∷ accepted (Select 1 1) ∷ []) → ⊥ }
+{}
+
+/// With enhanced security a select with value backs an operate that asks for what it asked for. One
+/// for another position or by another originator backs none, nor does one without value, nor one
+/// behind which another was granted.
+pub fn a_select_with_value_backs_what_it_asked_for()
+    ensures backed { (choice : Choice) → IsMatchedBehind choice (selected_with choice ∷ []) }
+    ensures other { (asked choice : Choice) → asked ≢ choice
+        → IsMatchedBehind choice (selected_with asked ∷ []) → ⊥ }
+    ensures plain { (choice : Choice) → IsMatchedBehind choice (selected_by 1 ∷ []) → ⊥ }
+    ensures earlier { (asked choice : Choice) → asked ≢ choice
+        → IsMatchedBehind choice (selected_with choice ∷ selected_with asked ∷ []) → ⊥ }
 {}
 
 /// A command to open is issued by a device with a fresh scan that has released it, and by none that
