@@ -17,7 +17,7 @@ use Rattle.il_scan.specs.Scans.{held_first}
 pub keeps-never : IsRule halting (at_all_times Never)
 keeps-never p is machine now slots timers image reached young leaves = refl
 
-silent : Process
+abbrev silent : Process
 silent = record { position = λ k. Bad; input = λ k. false; measure = λ k field. pos 0 }
 
 is-silent : IsProcess silent
