@@ -17,7 +17,7 @@ nothing-ends [] rest is = absurd cc
 nothing-ends (x ∷ content) rest is = absurd cc
 
 no-end : (content rest : List ℕ) → 65 ∷ [] ≡ (content ++ 10 ∷ []) ++ rest → ⊥
-no-end [] rest is = let no : 65 ≡ 10 = cc in omega (arith, no)
+no-end [] rest is = let no : ◌≡◌ {A = ℕ} 65 10 = cc in omega (arith, no)
 no-end (x ∷ content) rest is =
     let behind : [] ≡ (content ++ 10 ∷ []) ++ rest = cc in nothing-ends content rest behind
 
