@@ -5,7 +5,7 @@ import unittest
 
 from tests.test_crates import CRATES, TOP
 
-LONGEST = 600
+LONGEST = 620
 ITEM = re.compile(r'\s*(pub(?:\(\w+\))? )?(?:const fn|unsafe fn|fn|struct|enum|const|static|type) '
                   r'(?!_)\w+')
 ATTRIBUTE = re.compile(r'\s*#!?\[')
