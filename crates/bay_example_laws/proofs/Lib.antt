@@ -1,4 +1,5 @@
 pub mod BackingLemmas
 pub mod CommandLemmas
+pub mod OperateLemmas
 pub mod ScanLemmas
 pub mod SplitLemmas

@@ -1,9 +1,9 @@
--- A device that has just released switch 0 to open, and what is told of a command to open it.
-use Rattle.std.specs.Prelude.{◌≡◌, ◌≢◌, true, false, [], ◌∷◌, None, Some}
+-- A device that has just released switch 0 to open, and what is told of a command to it.
+use Rattle.std.specs.Prelude.{ℕ, ◌≡◌, ◌≢◌, Bool, true, false, List, [], ◌∷◌, ◌++◌, None, Some, codes}
 use Rattle.bay_tree.specs.declared.leaf.Leaf.TheVariants as leaf
 use Rattle.bay_nodes.specs.Names.{opening_of}
 use Rattle.bay_nodes.specs.declared.switch.Control.TheVariants.{Direct}
-use Rattle.bay_nodes.specs.declared.switch.Operation.TheVariants.{Open}
+use Rattle.bay_nodes.specs.declared.switch.Operation.TheVariants.{Open, Close}
 use Rattle.bay_services.specs.declared.answer.Command.{Command}
 use Rattle.bay_device.specs.Device.{State}
 use Rattle.bay_device.specs.declared.event.Step.{Step}
@@ -12,9 +12,13 @@ use Rattle.bay_device.specs.declared.event.Step.{Step}
 abbrev pub opens : Command
 opens = record { switch = 0; operation = Open }
 
+-- it is told to close
+abbrev pub closes : Command
+closes = record { switch = 0; operation = Close }
+
 -- the step tells this alone, and answers
-pub record TellsOpen (step : Step) : Type 0 where
-  pub commands : step.commands ≡ opens ∷ []
+pub record Tells (command : Command) (step : Step) : Type 0 where
+  pub commands : step.commands ≡ command ∷ []
   pub sent : step.sent ≢ []
 
 -- a scan at moment 5, which counts for a second, has set EnaOpn of switch 0, and no switch operates
@@ -36,4 +40,12 @@ operating s = record (released s) {
     selection = None;
     execution = Some (record { switch = 0; start = 5; operation = Open });
   };
+}
+
+-- as `released`, but the two values of this node CILO hold these, by the names that PROTOCOL gives
+abbrev pub interlocked : List ℕ → Bool → Bool → State → State
+interlocked node opn cls s = record (released s) {
+  rows = record { name = node ++ codes "$ST$EnaOpn$stVal"; leaf = Some (leaf.Truth opn) }
+      ∷ record { name = node ++ codes "$ST$EnaCls$stVal"; leaf = Some (leaf.Truth cls) }
+      ∷ [];
 }

@@ -1,5 +1,7 @@
 -- Small runs that the relations of the headline tell apart. `Selects`: for `IsBacked`; `Commands`:
--- for `CommandedAt`; `Scans`: for `HasScan`, `HaltsAt` and `MeansAt`.
+-- for `CommandedAt`; `Operates`: for `AreOperates` and `AllOperate`; `Scans`: for `HasScan`,
+-- `HaltsAt` and `MeansAt`.
 pub mod Commands
+pub mod Operates
 pub mod Scans
 pub mod Selects

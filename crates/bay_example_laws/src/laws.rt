@@ -1,17 +1,22 @@
 // Laws of small runs. Each function does nothing, and its contract is the law.
-ghost use Rattle.std.specs.Prelude.{◌≢◌, ◌+◌, ℕ, true, List, [], ◌∷◌, Ok, Err, Some, None};
+ghost use Rattle.std.specs.Prelude.{◌≡◌, ◌≢◌, ◌+◌, ℕ, Bool, true, false, List, [], ◌∷◌, Ok, Err, Some, None, codes};
+ghost use Rattle.std.specs.Borrow.{Bor};
 ghost use Rattle.bay_tree.specs.declared.row.Row.{Row};
 ghost use Rattle.bay_control.specs.Acts.{Closed, Opened, Select};
 ghost use Rattle.bay_control.specs.declared.request.Choice.{Choice};
+ghost use Rattle.bay_services.specs.Bay.{Bay};
 ghost use Rattle.bay_device.specs.Commands.{CommandedAt};
 ghost use Rattle.bay_device.specs.Device.{State};
 ghost use Rattle.bay_device.specs.Fresh.{HasScan, IsSameProcess};
 ghost use Rattle.bay_device.specs.Meaning.{HaltsAt, MeansAt};
+ghost use Rattle.bay_device.specs.Operates.{AllOperate, AreOperates, AreRepliedAt};
+ghost use Rattle.bay_device.specs.Outcomes.{first_talk};
 ghost use Rattle.bay_device.specs.declared.event.Event.{Event};
-ghost use Rattle.bay_device.specs.declared.event.Event.TheVariants.{Scan};
+ghost use Rattle.bay_device.specs.declared.event.Event.TheVariants.{Close, Open, Recv, Scan};
 ghost use Rattle.bay_device.specs.declared.event.Step.{Step};
 ghost use Rattle.bay_device.specs.declared.fault.StepFault.{StepFault};
-ghost use Rattle.bay_example_laws.specs.Commands.{TellsOpen, operating, released};
+ghost use Rattle.bay_example_laws.specs.Commands.{Tells, closes, interlocked, opens, operating, released};
+ghost use Rattle.bay_example_laws.specs.Operates.{IsAccepted, IsOther, IsRefused, telling};
 ghost use Rattle.bay_example_laws.specs.Scans.{contact_past, halting, lost_past, nothing, scan_past, with_code, with_slot};
 ghost use Rattle.bay_example_laws.specs.Selects.{IsBackedBehind, IsMatchedBehind, accepted, cancelled, operated, refused, selected_by, selected_with};
 
@@ -58,22 +63,94 @@ pub fn a_select_with_value_backs_what_it_asked_for()
 /// differs in one thing: its scan is missing, too old or stale, its process is lost, the switch is
 /// not released, or another operates.
 pub fn a_command_needs_each_of_its_parts()
-    ensures commanded { (s t : State) (event : Event) (step : Step) → TellsOpen step
+    ensures commanded { (s t : State) (event : Event) (step : Step) → Tells opens step
         → CommandedAt 5 event (released s) (Ok step) t }
-    ensures unscanned { (s t : State) (event : Event) (step : Step) → TellsOpen step
+    ensures unscanned { (s t : State) (event : Event) (step : Step) → Tells opens step
         → CommandedAt 5 event (record (released s) { last_scan = None }) (Ok step) t → ⊥ }
-    ensures old { (s t : State) (event : Event) (step : Step) → TellsOpen step
+    ensures old { (s t : State) (event : Event) (step : Step) → Tells opens step
         → CommandedAt 1006 event (released s) (Ok step) t → ⊥ }
-    ensures stale { (s t : State) (event : Event) (step : Step) → TellsOpen step
+    ensures stale { (s t : State) (event : Event) (step : Step) → Tells opens step
         → CommandedAt 5 event (record (released s) { is_stale = true }) (Ok step) t → ⊥ }
-    ensures lost { (s t : State) (event : Event) (step : Step) → TellsOpen step
+    ensures lost { (s t : State) (event : Event) (step : Step) → Tells opens step
         → CommandedAt 5 event (record (released s) { is_lost = true }) (Ok step) t → ⊥ }
-    ensures blocked { (s t : State) (event : Event) (step : Step) → TellsOpen step
+    ensures blocked { (s t : State) (event : Event) (step : Step) → Tells opens step
         → CommandedAt 5 event (record (released s) { rows = [] }) (Ok step) t → ⊥ }
-    ensures busy { (s t : State) (event : Event) (step : Step) → TellsOpen step
+    ensures busy { (s t : State) (event : Event) (step : Step) → Tells opens step
         → CommandedAt 5 event (operating s) (Ok step) t → ⊥ }
-    ensures silent { (s t : State) (event : Event) (step : Step) → TellsOpen step
+    ensures silent { (s t : State) (event : Event) (step : Step) → Tells opens step
         → CommandedAt 5 event (released s) (Ok (record step { sent = [] })) t → ⊥ }
+{}
+
+/// Each operation needs its own value: EnaCls of the switch releases a close whatever EnaOpn holds,
+/// and EnaOpn an open whatever EnaCls holds. A value that is FALSE releases nothing, nor do the two
+/// of another switch. CILO1 is the node of switch 0.
+pub fn a_close_needs_its_own_release()
+    ensures close { (opn : Bool) (s t : State) (event : Event) (step : Step) → Tells closes step
+        → CommandedAt 5 event (interlocked (codes "CILO1") opn true s) (Ok step) t }
+    ensures open { (cls : Bool) (s t : State) (event : Event) (step : Step) → Tells opens step
+        → CommandedAt 5 event (interlocked (codes "CILO1") true cls s) (Ok step) t }
+    ensures no_close { (opn : Bool) (s t : State) (event : Event) (step : Step) → Tells closes step
+        → CommandedAt 5 event (interlocked (codes "CILO1") opn false s) (Ok step) t → ⊥ }
+    ensures no_open { (cls : Bool) (s t : State) (event : Event) (step : Step) → Tells opens step
+        → CommandedAt 5 event (interlocked (codes "CILO1") false cls s) (Ok step) t → ⊥ }
+    ensures other_close { (s t : State) (event : Event) (step : Step) → Tells closes step
+        → CommandedAt 5 event (interlocked (codes "CILO2") true true s) (Ok step) t → ⊥ }
+    ensures other_open { (s t : State) (event : Event) (step : Step) → Tells opens step
+        → CommandedAt 5 event (interlocked (codes "CILO2") true true s) (Ok step) t → ⊥ }
+{}
+
+/// A command is told for octets that asked for it, on an association that is open, with a response
+/// that accepts it; it is neither left out nor told twice, nor is another told. No other event
+/// tells one. The association is one that has just been opened.
+pub fn a_command_is_of_octets_that_asked_for_it()
+    ensures accepted { (now : ℕ) (names : Bay) (octets : Bor (List ℕ)) (step : Step)
+        → IsAccepted now names octets step → AreOperates now (Recv 1 octets) names
+        (Some (first_talk 1) ∷ []) (telling (opens ∷ []) step) }
+    ensures left_out { (now : ℕ) (names : Bay) (octets : Bor (List ℕ)) (step : Step)
+        → IsAccepted now names octets step → AreOperates now (Recv 1 octets) names
+        (Some (first_talk 1) ∷ []) (telling [] step) → ⊥ }
+    ensures doubled { (now : ℕ) (names : Bay) (octets : Bor (List ℕ)) (step : Step)
+        → IsAccepted now names octets step → AreOperates now (Recv 1 octets) names
+        (Some (first_talk 1) ∷ []) (telling (opens ∷ opens ∷ []) step) → ⊥ }
+    ensures exchanged { (now : ℕ) (names : Bay) (octets : Bor (List ℕ)) (step : Step)
+        → IsAccepted now names octets step → AreOperates now (Recv 1 octets) names
+        (Some (first_talk 1) ∷ []) (telling (closes ∷ []) step) → ⊥ }
+    ensures silent { (now : ℕ) (names : Bay) (octets : Bor (List ℕ)) (step : Step)
+        → AreRepliedAt now (Recv 1 octets) names (Some (first_talk 1) ∷ [])
+        (record (telling (opens ∷ []) step) { sent = [] }) → ⊥ }
+    ensures unasked { (now : ℕ) (names : Bay) (octets : Bor (List ℕ)) (step : Step)
+        → octets.now ≡ [] → AreRepliedAt now (Recv 1 octets) names
+        (Some (first_talk 1) ∷ []) (telling (opens ∷ []) step) → ⊥ }
+    ensures refused { (now : ℕ) (names : Bay) (octets : Bor (List ℕ)) (step : Step)
+        → IsRefused now names step → AreRepliedAt now (Recv 1 octets) names
+        (Some (first_talk 1) ∷ []) (telling (opens ∷ []) step) → ⊥ }
+    ensures closed { (now : ℕ) (names : Bay) (octets : Bor (List ℕ)) (step : Step)
+        → AreRepliedAt now (Recv 1 octets) names (None ∷ []) (telling (opens ∷ []) step) → ⊥ }
+    ensures elsewhere { (now : ℕ) (event : Event) (names : Bay) (s : State) (step : Step)
+        → IsOther event
+        → AreRepliedAt now event names s.connections (telling (opens ∷ []) step) → ⊥ }
+    ensures nothing { (now : ℕ) (event : Event) (names : Bay) (s : State) (step : Step)
+        → IsOther event → AreOperates now event names s.connections (telling [] step) }
+{}
+
+/// In a run a command is told for octets of an association that an event before them opened; not
+/// for those of one that none opened, or that was closed since.
+pub fn a_command_is_of_an_association_that_was_opened()
+    ensures opened { (now : ℕ) (names : Bay) (octets : Bor (List ℕ)) (step : Step)
+        → IsAccepted now names octets step
+        → AllOperate names (None ∷ []) ((now, Open 1) ∷ (now, Recv 1 octets) ∷ [])
+        (Ok (telling [] step) ∷ Ok (telling (opens ∷ []) step) ∷ []) }
+    ensures unopened { (now : ℕ) (names : Bay) (octets : Bor (List ℕ)) (step : Step)
+        → AllOperate names (None ∷ []) ((now, Scan) ∷ (now, Recv 1 octets) ∷ [])
+        (Ok (telling [] step) ∷ Ok (telling (opens ∷ []) step) ∷ []) → ⊥ }
+    ensures refused { (now : ℕ) (names : Bay) (octets : Bor (List ℕ)) (fault : StepFault)
+        (step : Step)
+        → AllOperate names (None ∷ []) ((now, Open 1) ∷ (now, Recv 1 octets) ∷ [])
+        (Err fault ∷ Ok (telling (opens ∷ []) step) ∷ []) → ⊥ }
+    ensures closed { (now : ℕ) (names : Bay) (octets : Bor (List ℕ)) (step : Step)
+        → AllOperate names (Some (first_talk 1) ∷ [])
+        ((now, Close 1) ∷ (now, Recv 1 octets) ∷ [])
+        (Ok (telling [] step) ∷ Ok (telling (opens ∷ []) step) ∷ []) → ⊥ }
 {}
 
 /// A scan of a moment stands behind a command up to its age, also behind a contact that changed
