@@ -1,5 +1,5 @@
 -- What backs an operate in small runs, and what does not.
-use Rattle.std.proofs.Common.{◌≡◌, ◌≢◌, ℕ, ◌<◌, ◌+◌, true, false, Option, None, Some, List, [], ◌∷◌, ◌++◌, refl, ap, sym, ◌∙◌, subst, ◌⊎◌, inl, inr, ⊎_elim, arith}
+use Rattle.std.proofs.Common.{◌≡◌, ◌≢◌, ◌<◌, ◌+◌, true, false, None, Some, List, [], ◌∷◌, refl, subst, ◌⊎◌, ⊎_elim, arith}
 use Rattle.std.specs.Prelude.{All}
 use Rattle.bay_control.specs.Acts.{Closed, Entry, Opened, Select}
 use Rattle.bay_control.specs.Backing.{choice_of, grants, undoes}

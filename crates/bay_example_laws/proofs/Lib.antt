@@ -1,5 +1,6 @@
 pub mod BackingLemmas
 pub mod CommandLemmas
+pub mod FreshLemmas
 pub mod OperateLemmas
 pub mod ScanLemmas
 pub mod SplitLemmas

@@ -1,18 +1,16 @@
 -- Scans that stand behind a command, and those that don't; a program of HALT alone.
-use Rattle.std.proofs.Common.{◌≡◌, ◌≢◌, ℕ, zero, suc, ◌<◌, ◌≤◌, ◌+◌, true, false, List, [], ◌∷◌, Option, Ok, Err, Some, None, refl, ap, sym, subst, ⊎_elim, arith}
+use Rattle.std.proofs.Common.{◌≡◌, ◌≢◌, ℕ, ◌≤◌, ◌+◌, true, false, List, [], ◌∷◌, Option, Ok, Err, Some, None, refl, ap, subst, ⊎_elim, arith}
 use Rattle.std.specs.Prelude.{All, IsSomeAnd}
 use Rattle.il_image.specs.Machine.{Ending, Halted, Unfinished, act, run_from}
 use Rattle.il_image.specs.Opcodes.{opcode_of}
 use Rattle.il_image.specs.Places.{is_place}
 use Rattle.il_image.specs.Reading.{instr_at, instr_from}
-use Rattle.il_image.specs.declared.value.Value.{Value}
 use Rattle.il_image.specs.declared.value.Value.TheVariants.{Truth}
 use Rattle.il_compile.specs.Meaning.{Memory}
 use Rattle.bay_device.specs.Device.{State}
 use Rattle.bay_device.specs.Fresh.{HasScan, IsSameProcess, Past}
 use Rattle.bay_device.specs.Meaning.{Halts, HaltsAt, MeansAt, memory_of}
-use Rattle.bay_device.specs.declared.event.Event.{Event}
-use Rattle.bay_device.specs.declared.event.Event.TheVariants.{Contact, Lost, Scan}
+use Rattle.bay_device.specs.declared.event.Event.TheVariants.{Contact, Scan}
 use Rattle.bay_device.specs.declared.event.Step.{Step}
 use Rattle.bay_device.specs.declared.fault.StepFault.{StepFault}
 use Rattle.bay_tree.specs.declared.row.Row.{Row}

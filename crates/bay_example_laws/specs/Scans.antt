@@ -1,12 +1,14 @@
 -- Events at moment 0, and a device with a program of few octets.
-use Rattle.std.specs.Prelude.{ℕ, true, List, [], ◌∷◌, Ok}
+use Rattle.std.specs.Prelude.{ℕ, Bool, true, List, [], ◌∷◌, Result, Ok}
 use Rattle.bay_tree.specs.declared.leaf.Dbpos.TheVariants.{Off}
 use Rattle.il_image.specs.declared.value.Value.TheVariants.{Truth}
 use Rattle.il_check.specs.Program.{Checked}
 use Rattle.bay_device.specs.Device.{State}
-use Rattle.bay_device.specs.Fresh.{Past}
+use Rattle.bay_device.specs.Fresh.{Past, is_heard}
+use Rattle.bay_device.specs.declared.event.Event.{Event}
 use Rattle.bay_device.specs.declared.event.Event.TheVariants.{Contact, Lost, Scan}
 use Rattle.bay_device.specs.declared.event.Step.{Step}
+use Rattle.bay_device.specs.declared.fault.StepFault.{StepFault}
 
 -- a scan that was done, and the device behind it
 abbrev pub scan_past : State → Step → Past
@@ -19,6 +21,11 @@ contact_past s step = record { now = 0; event = Contact 0 Off; answer = Ok step;
 -- the loss of the process
 abbrev pub lost_past : State → Step → Past
 lost_past s step = record { now = 0; event = Lost; answer = Ok step; after = s }
+
+-- whether the process is heard behind its loss and this event
+abbrev pub is_heard_behind : Event → Result Step StepFault → State → Step → Bool
+is_heard_behind event answer s step =
+    is_heard (record { now = 0; event = event; answer = answer; after = s } ∷ lost_past s step ∷ [])
 
 -- the device with this code, without switches, points, variables and timers
 abbrev pub with_code : List ℕ → State → State

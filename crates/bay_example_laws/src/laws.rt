@@ -1,23 +1,25 @@
 // Laws of small runs. Each function does nothing, and its contract is the law.
-ghost use Rattle.std.specs.Prelude.{◌≡◌, ◌≢◌, ◌+◌, ℕ, Bool, true, false, List, [], ◌∷◌, Ok, Err, Some, None, codes};
+ghost use Rattle.std.specs.Prelude.{◌≡◌, ◌≢◌, ◌+◌, ℕ, ℤ, Bool, true, false, List, [], ◌∷◌, Ok, Err, Some, None, codes};
 ghost use Rattle.std.specs.Borrow.{Bor};
+ghost use Rattle.bay_base.specs.declared.point.MeterField.{MeterField};
+ghost use Rattle.bay_tree.specs.declared.leaf.Dbpos.{Dbpos};
 ghost use Rattle.bay_tree.specs.declared.row.Row.{Row};
 ghost use Rattle.bay_control.specs.Acts.{Closed, Opened, Select};
 ghost use Rattle.bay_control.specs.declared.request.Choice.{Choice};
 ghost use Rattle.bay_services.specs.Bay.{Bay};
 ghost use Rattle.bay_device.specs.Commands.{CommandedAt};
 ghost use Rattle.bay_device.specs.Device.{State};
-ghost use Rattle.bay_device.specs.Fresh.{HasScan, IsSameProcess};
+ghost use Rattle.bay_device.specs.Fresh.{Came, FreshAt, HasScan, IsSameProcess, Past};
 ghost use Rattle.bay_device.specs.Meaning.{HaltsAt, MeansAt};
 ghost use Rattle.bay_device.specs.Operates.{AllOperate, AreOperates, AreRepliedAt};
 ghost use Rattle.bay_device.specs.Outcomes.{first_talk};
 ghost use Rattle.bay_device.specs.declared.event.Event.{Event};
-ghost use Rattle.bay_device.specs.declared.event.Event.TheVariants.{Close, Open, Recv, Scan};
+ghost use Rattle.bay_device.specs.declared.event.Event.TheVariants.{BadMeasure, Close, Contact, Input, Lost, Measure, Open, Recv, Scan};
 ghost use Rattle.bay_device.specs.declared.event.Step.{Step};
 ghost use Rattle.bay_device.specs.declared.fault.StepFault.{StepFault};
 ghost use Rattle.bay_example_laws.specs.Commands.{Tells, closes, interlocked, opens, operating, released};
 ghost use Rattle.bay_example_laws.specs.Operates.{IsAccepted, IsOther, IsRefused, telling};
-ghost use Rattle.bay_example_laws.specs.Scans.{contact_past, halting, lost_past, nothing, scan_past, with_code, with_slot};
+ghost use Rattle.bay_example_laws.specs.Scans.{contact_past, halting, is_heard_behind, lost_past, nothing, scan_past, with_code, with_slot};
 ghost use Rattle.bay_example_laws.specs.Selects.{IsBackedBehind, IsMatchedBehind, accepted, cancelled, operated, refused, selected_by, selected_with};
 
 /// What backs an operate: its own select, for less than the two seconds that it stands. No select
@@ -167,6 +169,43 @@ pub fn a_scan_stands_until_something_changes()
         → HasScan age age (contact_past t step ∷ scan_past s step ∷ []) → ⊥ }
     ensures lost { (s t : State) (step : Step) (age : ℕ)
         → HasScan age age (lost_past t step ∷ scan_past s step ∷ []) → ⊥ }
+{}
+
+/// A lost process is heard again by a contact, an input, a measured value or a doubt of one that is
+/// accepted: not by one that is refused, by a client or by a scan.
+pub fn a_loss_lasts_until_the_process_is_heard()
+    ensures contact { (k : ℕ) (position : Dbpos) (s : State) (step : Step)
+        → is_heard_behind (Contact k position) (Ok step) s step ≡ true }
+    ensures input { (k : ℕ) (value : Bool) (s : State) (step : Step)
+        → is_heard_behind (Input k value) (Ok step) s step ≡ true }
+    ensures measure { (k : ℕ) (field : MeterField) (value : ℤ) (s : State) (step : Step)
+        → is_heard_behind (Measure k field value) (Ok step) s step ≡ true }
+    ensures doubt { (k : ℕ) (field : MeterField) (s : State) (step : Step)
+        → is_heard_behind (BadMeasure k field) (Ok step) s step ≡ true }
+    ensures refused { (event : Event) (fault : StepFault) (s : State) (step : Step)
+        → is_heard_behind event (Err fault) s step ≡ false }
+    ensures client { (a : ℕ) (octets : Bor (List ℕ)) (s : State) (step : Step)
+        → is_heard_behind (Open a) (Ok step) s step ≡ false
+        × is_heard_behind (Recv a octets) (Ok step) s step ≡ false
+        × is_heard_behind (Close a) (Ok step) s step ≡ false }
+    ensures scan { (s : State) (step : Step) → is_heard_behind Scan (Ok step) s step ≡ false }
+    ensures again { (s : State) (step : Step)
+        → is_heard_behind Lost (Ok step) s step ≡ false }
+{}
+
+/// A command of a device that came this far says that such a scan is behind it, no older than the
+/// device allows; a step without one, or a refused event, says nothing. A device that was just
+/// loaded has no such command.
+pub fn a_command_says_that_a_scan_is_behind_it()
+    ensures says { (now : ℕ) (event : Event) (s t : State) (step : Step) (past : List Past)
+        → Tells opens step → Came past s → FreshAt now event s (Ok step) t
+        → HasScan now s.scan_max_age_ms past }
+    ensures silent { (now : ℕ) (event : Event) (s t : State) (step : Step)
+        → FreshAt now event s (Ok (telling [] step)) t }
+    ensures refused { (now : ℕ) (event : Event) (s t : State) (fault : StepFault)
+        → FreshAt now event s (Err fault) t }
+    ensures loaded { (now : ℕ) (event : Event) (s t : State) (step : Step)
+        → Tells opens step → Came [] s → FreshAt now event s (Ok step) t → ⊥ }
 {}
 
 /// The scan of a program of HALT alone takes one step; neither none nor two, no refusal is its
