@@ -36,7 +36,7 @@ class Answer:
         """It in words."""
         looked = ', '.join(self.through)
         if self.verdict == PROVES:
-            return f'still proves in {looked}'
+            return f'still proves in {looked}' if looked else 'no law rests on it'
         if self.verdict == BROKEN:
             return f'broken by {self.crate}, {self.at}: {self.goal}'
         return f'{self.verdict}: {self.goal}'
@@ -123,15 +123,18 @@ def checked(folder: pathlib.Path, seconds: int) -> tuple[int, str]:
     return done.returncode, done.stdout
 
 
-def place_in(room: pathlib.Path, change: Change) -> None:
-    """Puts a change into a copy; with a fact goes what gives it in proofs."""
-    path = change.definition.path
-    (room / 'crates' / path.relative_to(CRATES)).write_text(change.applied(text_of(path)),
-                                                            encoding='utf-8')
+def place_in(room: pathlib.Path, change: Change) -> list[pathlib.Path]:
+    """Puts a change into a copy; with a fact goes what gives it in proofs. Returns the files that
+    it wrote."""
+    path = room / 'crates' / change.definition.path.relative_to(CRATES)
+    path.write_text(change.applied(text_of(change.definition.path)), encoding='utf-8')
+    written = [path]
     for proof in room.glob('crates/*/proofs/**/*.antt') if change.name else ():
         text = proof.read_text(encoding='utf-8')
         if all(it in text for it in change.names):
             proof.write_text(without_fact(text, change.name, change.names), encoding='utf-8')
+            written.append(proof)
+    return written
 
 
 def tried(change: Change, others: list[str], seconds: int) -> Answer:

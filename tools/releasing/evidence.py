@@ -2,6 +2,7 @@
 import dataclasses
 import datetime
 import hashlib
+import json
 import os
 import pathlib
 import re
@@ -9,6 +10,7 @@ import subprocess
 import time
 
 from common.ending import Failed
+from measuring.costs import FIGURES
 from measuring.stamps import machine, output_of
 
 TOP = pathlib.Path(__file__).resolve().parent.parent.parent
@@ -62,10 +64,17 @@ def run(words: list[str], place: pathlib.Path, log: pathlib.Path) -> Run:
     return Run(status, (time.monotonic() - begun) / 60, passed, failed)
 
 
-def kept(log: pathlib.Path) -> Run:
-    """What a log of an earlier run says; its minutes are not known."""
+def measured_minutes() -> float:
+    """The minutes of a gate of this commit that `tools/gate_table` measured, or 0."""
+    runs = json.loads(FIGURES.read_text(encoding='utf-8')).get('runs', [])
+    commit = output_of('git', 'rev-parse', '--short', 'HEAD')
+    return next((it['minutes'] for it in reversed(runs) if it['commit'] == commit), 0.0)
+
+
+def kept(log: pathlib.Path, minutes: float = 0.0) -> Run:
+    """What a log of an earlier run says, which took so many minutes, or 0 for nobody knows."""
     passed, failed = counted(log.read_text(encoding='utf-8', errors='replace'))
-    return Run(0 if passed and not failed else 1, 0.0, passed, failed)
+    return Run(0 if passed and not failed else 1, minutes, passed, failed)
 
 
 def sums(folder: pathlib.Path) -> str:

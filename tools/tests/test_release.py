@@ -4,6 +4,7 @@ import shutil
 import subprocess
 import sys
 import unittest
+from unittest import mock
 
 TOOLS = pathlib.Path(__file__).resolve().parent.parent
 sys.path.insert(0, str(TOOLS))
@@ -76,6 +77,16 @@ class Evidence(Tools):
         for words in ('exit 0', 'echo "7 passed, 1 failed"', 'echo "7 passed, 0 failed"; exit 1'):
             found = evidence.run(['sh', '-c', words], self.folder, self.folder / 'log')
             self.assertFalse(found.is_good, words)
+
+    def test_a_log_of_an_earlier_run(self):
+        log = pathlib.Path(self.file('log', '7 passed, 0 failed\n'))
+        self.assertEqual(evidence.kept(log, 3.4), evidence.Run(0, 3.4, 7, 0))
+        figures = pathlib.Path(self.file('figures.json', '{"runs": [{"commit": "a", "minutes": 1}, '
+                                         '{"commit": "b", "minutes": 2}]}'))
+        with mock.patch.object(evidence, 'FIGURES', figures):
+            for commit, minutes in (('a', 1), ('b', 2), ('c', 0)):
+                with mock.patch.object(evidence, 'output_of', return_value=commit):
+                    self.assertEqual(evidence.measured_minutes(), minutes)
 
     def test_sums(self):
         self.file('a', 'x')

@@ -14,7 +14,7 @@ from tests.tool import Tools
 from tracing import inner, lacking, shown, standards
 from tracing.calls import TOP, Source, all_calls, crates, quiet
 from tracing.definitions import Reader, scope_of_call, unfound
-from tracing.edits import edits_of, laws_about, refused_of
+from tracing.edits import broken, edits_of, laws_about, refused_of
 from tracing.marked import block, inline
 from tracing.lacking import key_of
 from tracing.promises import PAGES, Promise, Resolver, borne_by, promises, registered
@@ -193,9 +193,8 @@ class Promises(unittest.TestCase):
             for clause in call.clauses:
                 self.assertEqual(unfound(scope_of_call(call), clause.text), [], call.title)
 
-    def check_reasons(self, reasons, has):
-        """Each row has something or a reason, and each reason is of a row that has nothing."""
-        without = [it for it in promises() if not has(borne_by(it))]
+    def check_reasons(self, reasons, without):
+        """Each row that has nothing has a reason, and each reason is of such a row."""
         for it in without:
             self.assertTrue(lacking.reason(reasons, it),
                             f'{told_of(it)}: {lacking.key_of(borne_by(it))}')
@@ -203,10 +202,28 @@ class Promises(unittest.TestCase):
         self.assertEqual(set(reasons) - needed, set())
 
     def test_each_row_has_a_law_or_a_reason(self):
-        self.check_reasons(lacking.NO_LAW, laws_about)
+        self.check_reasons(lacking.NO_LAW,
+                           [it for it in promises() if not laws_about(borne_by(it))])
 
     def test_each_row_has_an_edit_or_a_reason(self):
-        self.check_reasons(lacking.NO_EDIT, refused_of)
+        self.check_reasons(lacking.NO_EDIT,
+                           [it for it in promises() if it.id and not refused_of(it)])
+
+    def test_each_edit_breaks_promises_that_there_are(self):
+        edits = {it.key for crate in crates() for it in edits_of(crate)}
+        self.assertEqual(set(broken()), edits)
+        known = {it.id for it in promises()} - {''}
+        for name, ids in broken().items():
+            self.assertTrue(ids and set(ids) <= known and len(set(ids)) == len(ids), name)
+
+    def test_an_edit_is_below_what_bears_its_promises(self):
+        below = {it.id: {crate for call in borne_by(it).calls
+                         for crate in (call.crate, *inner.all_below(call.crate))}
+                 for it in promises() if it.id}
+        for name, ids in broken().items():
+            for it in ids:
+                self.assertIn(name.partition('/')[0], below[it] or {name.partition('/')[0]},
+                              f'{name} {it}')
 
     def test_each_row_has_a_case_or_a_reason(self):
         for it in promises():

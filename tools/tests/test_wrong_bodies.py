@@ -7,7 +7,7 @@ TOOLS = pathlib.Path(__file__).resolve().parent.parent
 sys.path.insert(0, str(TOOLS))
 from tests.tool import Tools, loaded
 from tracing.calls import calls_of
-from tracing.refusals import answers_in, kept
+from tracing.refusals import TRIED, answers_in, kept
 
 CRATES = TOOLS.parent / 'crates'
 
@@ -77,6 +77,7 @@ class Answers(unittest.TestCase):
                'error: a goal\nmust-fail bay_device/two.edit: refused, as it must be: '
                'note: proofs/x/Answers.antt:3:1: none\n'
                'must-fail bay_device/three.edit: NOT REFUSED\n')
+        self.assertEqual([bool(it) for it in TRIED.findall(log)], [True, True, False])
         found = {name: (it.call, it.clause, it.goal) for name, it in answers_in(log).items()}
         self.assertEqual(found, {'bay_device/one': ('Device::step', 'steps', 'error: a goal'),
                                  'bay_device/two': ('', '', 'none')})

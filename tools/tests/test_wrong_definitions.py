@@ -6,18 +6,21 @@ import pathlib
 import re
 import sys
 import unittest
+from unittest import mock
 
 TOOLS = pathlib.Path(__file__).resolve().parent.parent
 sys.path.insert(0, str(TOOLS))
 from anchoring.anchors import kept, keep, merged, row
 from anchoring.changes import PRELUDE, Change, Changer, changes_of, lines_of, text_of
 from anchoring.headline import citing, reached
+from anchoring.laws import Room, answer_of, laws_on
 from anchoring.trying import BROKEN, PROVES, UNKNOWN, UNREAD, Answer, answer_in, title_of
 from anchoring.written import types_of, without_fact
 from common.rooms import KEPT, LIBRARY, copy_of
 from tests.tool import Tools
 from tracing.calls import CRATES, calls_of
 from tracing.definitions import Definition, definitions_in
+from tracing.inner import all_below
 
 DECISIONS = CRATES / 'bay_control' / 'specs' / 'Decisions.antt'
 HEAD = 'use Rattle.std.specs.Prelude.{ℕ, Bool}\n\n-- 5 and "true"\n'
@@ -208,6 +211,44 @@ class Answers(unittest.TestCase):
         self.assertEqual(Answer(PROVES, ('a', 'b')).told, 'still proves in a, b')
 
 
+class Laws(Tools):
+    """The laws that rest on a definition, how they are checked, and what is read of it."""
+
+    def test_the_nearest_law_comes_first(self):
+        backed = definitions_in(DECISIONS.with_name('Backing.antt'))['IsBacked']
+        (crate, laws), *further = laws_on(backed)
+        self.assertEqual((crate, laws[0].title), (
+            'bay_example_laws', 'a_select_with_value_backs_what_it_asked_for'))
+        self.assertEqual(further[0][0], 'bay_control')
+
+    def test_crates_up_to_the_law_are_sources(self):
+        self.assertEqual(all_below('bay_output'), ('bay_io', 'bay_lines'))
+        with mock.patch('anchoring.laws.copy_of'), mock.patch('anchoring.laws.kit',
+                                                              return_value='/kit'):
+            room = Room(self.folder)
+            for it in all_below('bay_example_laws'):
+                room.library(it).mkdir(parents=True)
+            words = room.words('bay_control', 'bay_example_laws')
+        taken = {kind: [it.partition('=')[0].partition(':')[0] for flag, it in
+                        itertools.pairwise(words) if flag == kind] for kind in ('--lib', '--extern')}
+        self.assertEqual(taken['--lib'], ['bay_control', 'bay_services', 'bay_device'])
+        self.assertLessEqual({'std', 'toml', 'bay_tree', 'bay_ber'}, set(taken['--extern']))
+        self.assertFalse(set(taken['--lib']) & set(taken['--extern']))
+
+    def test_what_is_read(self):
+        goal = './proofs/One.antt:3:1: error: `one`: two types differ\n'
+        clause = ('./proofs/laws/a_law/Answers.antt:4:5: error: 1 declaration that depends on `one`, '
+                  'which was not admitted, was not checked: returns-clause-over\n')
+        for printed, at in ((goal + clause, 'a_law/over'), (goal, 'proofs/One.antt')):
+            self.assertEqual(answer_of('bay_example_laws', 1, printed, ('bay_example_laws',)),
+                             Answer(BROKEN, ('bay_example_laws',), 'bay_example_laws', at,
+                                    '`one`: two types differ'))
+        spoilt = answer_of('a', 1, '/x/crates/low/specs/Y.antt:3:1: error: no field\n' + goal, ())
+        self.assertEqual((spoilt.verdict, spoilt.crate, spoilt.at), (UNREAD, 'low', 'specs/Y.antt'))
+        self.assertEqual(answer_of('a', -1, 'it took long', ()).verdict, UNKNOWN)
+        self.assertIsNone(answer_of('a', 0, goal, ()))
+
+
 class Tables(Tools):
     """The table of answers."""
 
@@ -258,10 +299,10 @@ class Tool(Tools):
                          (3, f'wrong_definitions: {self.folder}/odd: it is no table of answers\n'))
 
     def test_the_table_is_of_changes_that_are_there(self):
-        table = kept(TOOLS / 'anchoring' / 'anchors.json')
         there = lines_of(change for it in reached() for change in changes_of(it))
-        self.assertEqual([name for name, it in table.items()
-                          if there.get(name) != (it['before'], it['after'])], [])
+        for table in ('anchors.json', 'laws.json'):
+            self.assertEqual([name for name, it in kept(TOOLS / 'anchoring' / table).items()
+                              if there.get(name) != (it['before'], it['after'])], [])
 
 
 if __name__ == '__main__':

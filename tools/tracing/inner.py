@@ -4,7 +4,7 @@ import collections
 import functools
 import re
 
-from .calls import TOP, Call, Clause, all_calls
+from .calls import TOP, Call, Clause, all_calls, crates
 from .promises import Promise, borne_by, promises
 
 STANDS_ON = re.compile(r'^(\w+)(?: staticlib)?:(.*)$', re.M)
@@ -21,6 +21,15 @@ def crates_below(crate: str) -> set[str]:
     """A crate and those that crates.txt names for it."""
     listed = dict(STANDS_ON.findall((TOP / 'crates.txt').read_text(encoding='utf-8')))
     return {crate, *listed.get(crate, '').split()}
+
+
+@functools.cache
+def all_below(crate: str) -> tuple[str, ...]:
+    """The crates of the repository that a crate stands on, each behind those that it stands on."""
+    found: dict[str, None] = {}
+    for it in (name for name in crates() if name in crates_below(crate) - {crate}):
+        found.update(dict.fromkeys((*all_below(it), it)))
+    return tuple(found)
 
 
 def is_called(call: Call, body: str) -> bool:

@@ -43,15 +43,19 @@ NO_LAW = {
     'il_verify verify': OWN_WORDS + 'the image that stands before a lack of memory'}
 
 NO_EDIT = {
-    '': 'an overflow, or a place past an end, is a goal of its own in each proof',
-    'bay_ber BerFault::code': 'each is one match with an arm for each fault; each refusal of the '
-                              'cases has its number',
-    'bay_main Ended::of': 'each method is one match with an arm for each answer; bayctl_cases has '
-                          'each status',
+    'bay_device Device::step: sure': 'a choice that is taken without octets is one that no body can '
+                                     'make: the call has no allocator',
+    'bay_example_laws a_select_backs_its_own_operate': 'it is about definitions alone: '
+                                                       '`tools/wrong_definitions` changes these',
     'bay_rules conditions_have_truths': 'it is about conditions as they are read; the edits of '
                                         'reading are at `read_rules`',
     'bay_serve Server::new': 'its clause has the whole value, a device and eight empty queues, and '
-                             'no edit is spent on it'}
+                             'no edit is spent on it',
+    'bay_serve_laws queues_stay_in_their_room': 'a queue is a buffer whose room is part of its '
+                                                'type, so no body can exceed it; the edits of '
+                                                'closings are at the turns',
+    'il_compile programs_have_a_meaning': 'it is about definitions alone: '
+                                          '`tools/wrong_definitions` changes these'}
 
 
 def key_of(borne: Borne) -> str:
@@ -69,3 +73,8 @@ def key_in(reasons: dict[str, str], borne: Borne) -> str:
 def reason(reasons: dict[str, str], promise: Promise) -> str:
     """Why a promise lacks something, or an empty text."""
     return reasons.get(key_in(reasons, borne_by(promise)), '')
+
+
+def no_edit(promise: Promise) -> str:
+    """Why a promise has no wrong body, or an empty text."""
+    return reason(NO_EDIT, promise) if promise.id else 'the rows that it sums up have them'

@@ -14,6 +14,8 @@ from .calls import CRATES, Call, Clause, calls_of
 TABLE = pathlib.Path(__file__).with_name('refusals.json')
 ANSWER = re.compile(r'^(?:\S+ )?must-fail (\w+)/([\w.-]+)\.edit: refused, as it must be'
                     r'(?: \([^)]*\))?: (?:note: )?(?:\./)?(\S+?):(\d+):\d+: (.*)$', re.M)
+# Each edit that was tried, with a word of its refusal, or without.
+TRIED = re.compile(r'^(?:\S+ )?must-fail \w+/[\w.-]+\.edit: (refused, as it must be)?', re.M)
 OF_CALLS = ('Answers', 'Invariants', 'Proof')
 # The prover names a goal by the way to it and the clause: `returns-in_err-answer-clause-after`.
 NAMED = re.compile(r'`[\w-]+-clause-(\w+)`')

@@ -11,7 +11,7 @@ from common.texts import counted
 from . import inner, lacking, refusals, shown, standards
 from .calls import CRATES, TOP, Call, crates
 from .definitions import NAMED, Declared, Named, Scope, below, cited, scope_of, scope_of_call
-from .edits import Edit, laws_about, refused_of
+from .edits import Edit, broken, laws_about, refused_of
 from .marked import inline, section
 from .promises import Borne, Promise, borne_by, promises
 
@@ -51,10 +51,10 @@ page.</p><ul>
 <li><b>Clauses.</b> What the prover has proved of the code of this call, for every argument.</li>
 <li><b>Laws.</b> A law has no code: it says in other words what the definitions come to, and is
 proved for every value. A row that names no law has here those that cite a definition of it.</li>
-<li><b>Wrong bodies.</b> Each is a change of a function to which one of the calls leads (of a law
-alone, a call that cites one of its definitions), with which the proof fails: that of these clauses,
-or of another of the function. First stand those that break one of these clauses, then the nearest.
-The gate tries some; <code>tools/wrong_bodies</code> tries the others.</li>
+<li><b>Wrong bodies.</b> Each is a change of the code that would break this promise, with which the
+proof fails: at the call and the clause that the prover names. First stand those that fail at a
+clause of this row, then those that break this row most directly, then those of other rows that
+break this one too. The gate tries some; <code>tools/wrong_bodies</code> tries the others.</li>
 <li><b>Cases.</b> They are run in each gate.</li></ul>'''
 
 
@@ -118,11 +118,12 @@ class Sheet:
     def edit(self, it: Edit) -> str:
         """A wrong body: what it is called, and what it changes."""
         where = '' if it.is_in_gate else ', outside the gate'
+        ids = ', '.join(f'<a href="#{known}">{known}</a>' for known in broken()[it.key])
         changed = ', '.join(dict.fromkeys(call.title for call in it.calls))
         lines = '\n'.join(f'- {old}\n+ {new}' for old, new in it.changes)
         return (f'<details><summary>{html.escape(it.name)} <span class="quiet">(in '
-                f'{html.escape(changed)}{where}; {self.source(it.path, 1)}; {breaks(it)})</span>'
-                f'</summary><pre>{html.escape(lines)}</pre></details>')
+                f'{html.escape(changed)}{where}; {self.source(it.path, 1)}; of {ids}; {breaks(it)})'
+                f'</span></summary><pre>{html.escape(lines)}</pre></details>')
 
     def part(self, heading: str, found: list[str], why: str) -> str:
         """A part of a promise, or why there is none."""
@@ -133,7 +134,7 @@ class Sheet:
         """A promise with all that bears it."""
         borne = self.borne[it]
         laws = [self.contract(law, borne) for law in self.laws[it]]
-        edits = [self.edit(edit) for edit in refused_of(borne)]
+        edits = [self.edit(edit) for edit in refused_of(it)]
         cases = ', '.join(f'{case.name} ({self.source(case.path, case.line)})'
                           for case in shown.cases_of(it))
         return ''.join((
@@ -144,7 +145,7 @@ class Sheet:
                       'laws carry it'),
             self.part('Laws' if borne.laws else 'Laws about the same definitions', laws,
                       lacking.reason(lacking.NO_LAW, it)),
-            self.part('Wrong bodies', edits, lacking.reason(lacking.NO_EDIT, it)),
+            self.part('Wrong bodies', edits, lacking.no_edit(it)),
             self.part('Cases', [f'<p>{cases}</p>'] if cases else [], shown.no_cases(it)),
             '</div>'))
 
@@ -276,7 +277,7 @@ class StandardSheet(Sheet):
 
 def breaks(edit: Edit) -> str:
     """What a wrong body breaks, by the prover's last answer."""
-    told = refusals.kept().get(f'{edit.crate}/{edit.path.stem}')
+    told = refusals.kept().get(edit.key)
     if told is None:
         return 'its answer is not kept yet'
     at = f'{told.call}: {told.clause}' if told.clause else told.call
