@@ -110,7 +110,7 @@ class Documents(unittest.TestCase):
         """The newest version of CHANGELOG is what the program and its cases say."""
         def found(path, pattern):
             return re.search(pattern, (TOP / path).read_text(encoding='utf-8'), re.MULTILINE)[1]
-        said = {found('CHANGELOG.md', r'^## (\S+)'),
+        said = {found('CHANGELOG.md', r'^## (\d\S*)'),
                 found('crates/bay_words/src/command.rt', r'const VERSION: &str = "([^"]*)"'),
                 found('crates/bayctl_cases/stdin', r'^bayctl (\d\S*)$')}
         self.assertEqual(len(said), 1, said)

@@ -45,7 +45,7 @@ class Copy(Tools):
 
     def copied(self, names: list[str], with_gate: bool) -> set[str]:
         """What stands in the copy of the crate."""
-        loaded('wrong_bodies').copy_of(self.crates, self.room, names, with_gate)
+        loaded('wrong_bodies').copy_of(self.crates, self.room, names, with_gate, {'rlib'})
         top = self.room / 'crates' / 'low'
         return {str(it.relative_to(top)) for it in top.rglob('*') if it.is_file()}
 

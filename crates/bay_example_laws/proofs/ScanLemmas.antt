@@ -1,6 +1,6 @@
 -- Scans that stand behind a command, and those that don't; a program of HALT alone.
 use Rattle.std.proofs.Common.{◌≡◌, ◌≢◌, ℕ, ◌≤◌, ◌+◌, true, false, List, [], ◌∷◌, Option, Ok, Err, Some, None, refl, ap, subst, ⊎_elim, arith}
-use Rattle.std.specs.Prelude.{All, IsSomeAnd}
+use Rattle.std.specs.Prelude.{All, IsOk, IsSomeAnd}
 use Rattle.il_image.specs.Machine.{Ending, Halted, Unfinished, act, run_from}
 use Rattle.il_image.specs.Opcodes.{opcode_of}
 use Rattle.il_image.specs.Places.{is_place}
@@ -15,7 +15,7 @@ use Rattle.bay_device.specs.declared.event.Step.{Step}
 use Rattle.bay_device.specs.declared.fault.StepFault.{StepFault}
 use Rattle.bay_tree.specs.declared.row.Row.{Row}
 use Rattle.bay_tree.specs.declared.leaf.Dbpos.TheVariants.{Off}
-use Rattle.bay_example_laws.specs.Scans.{contact_past, halting, lost_past, nothing, scan_past, with_code, with_slot}
+use Rattle.bay_example_laws.specs.Scans.{contact_past, halting, lost_past, nothing, refused_past, scan_past, with_code, with_slot}
 use Rattle.bay_example_laws.proofs.SplitLemmas.{all-one, none-there, one-there, two-there}
 
 pub recent-stands : (s : State) (step : Step) (age : ℕ) → HasScan age age (scan_past s step ∷ [])
@@ -41,6 +41,20 @@ old-falls s step age h =
 
 pub none-stands : (now age : ℕ) → HasScan now age [] → ⊥
 none-stands now age h = none-there h.since h.earlier h.scan h.split
+
+pub other-falls : (s : State) (step : Step) (age : ℕ)
+    → HasScan age age (contact_past s step ∷ []) → ⊥
+other-falls s step age h =
+    let is : h.scan ≡ contact_past s step =
+    one-there (contact_past s step) h.since h.earlier h.scan h.split in
+    let no : Contact 0 Off ≡ Scan = subst (λ (p : Past). p.event ≡ Scan) is h.scanned in absurd cc
+
+pub refused-falls : (s : State) (fault : StepFault) (age : ℕ)
+    → HasScan age age (refused_past s fault ∷ []) → ⊥
+refused-falls s fault age h =
+    let is : h.scan ≡ refused_past s fault =
+    one-there (refused_past s fault) h.since h.earlier h.scan h.split in
+    let no : false ≡ true = subst (λ (p : Past). IsOk p.answer) is h.done in absurd cc
 
 pub unchanged-stands : (s t : State) (step : Step) (age : ℕ) → IsSameProcess s t
     → HasScan age age (contact_past t step ∷ scan_past s step ∷ [])

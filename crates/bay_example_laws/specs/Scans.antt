@@ -1,5 +1,5 @@
 -- Events at moment 0, and a device with a program of few octets.
-use Rattle.std.specs.Prelude.{ℕ, Bool, true, List, [], ◌∷◌, Result, Ok}
+use Rattle.std.specs.Prelude.{ℕ, Bool, true, List, [], ◌∷◌, Result, Ok, Err}
 use Rattle.bay_tree.specs.declared.leaf.Dbpos.TheVariants.{Off}
 use Rattle.il_image.specs.declared.value.Value.TheVariants.{Truth}
 use Rattle.il_check.specs.Program.{Checked}
@@ -13,6 +13,10 @@ use Rattle.bay_device.specs.declared.fault.StepFault.{StepFault}
 -- a scan that was done, and the device behind it
 abbrev pub scan_past : State → Step → Past
 scan_past s step = record { now = 0; event = Scan; answer = Ok step; after = s }
+
+-- a scan that was refused
+abbrev pub refused_past : State → StepFault → Past
+refused_past s fault = record { now = 0; event = Scan; answer = Err fault; after = s }
 
 -- a contact that was accepted
 abbrev pub contact_past : State → Step → Past

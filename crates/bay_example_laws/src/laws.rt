@@ -19,7 +19,7 @@ ghost use Rattle.bay_device.specs.declared.event.Step.{Step};
 ghost use Rattle.bay_device.specs.declared.fault.StepFault.{StepFault};
 ghost use Rattle.bay_example_laws.specs.Commands.{Tells, closes, interlocked, opens, operating, released};
 ghost use Rattle.bay_example_laws.specs.Operates.{IsAccepted, IsOther, IsRefused, telling};
-ghost use Rattle.bay_example_laws.specs.Scans.{contact_past, halting, is_heard_behind, lost_past, nothing, scan_past, with_code, with_slot};
+ghost use Rattle.bay_example_laws.specs.Scans.{contact_past, halting, is_heard_behind, lost_past, nothing, refused_past, scan_past, with_code, with_slot};
 ghost use Rattle.bay_example_laws.specs.Selects.{IsBackedBehind, IsMatchedBehind, accepted, cancelled, operated, refused, selected_by, selected_with};
 
 /// What backs an operate: its own select, for less than the two seconds that it stands. No select
@@ -156,13 +156,18 @@ pub fn a_command_is_of_an_association_that_was_opened()
 {}
 
 /// A scan of a moment stands behind a command up to its age, also behind a contact that changed
-/// nothing; not past its age, not behind a change or a loss, and no run without a scan has one.
+/// nothing; not past its age, not behind a change or a loss, and no run without a scan that was done
+/// has one.
 pub fn a_scan_stands_until_something_changes()
     ensures recent { (s : State) (step : Step) (age : ℕ)
         → HasScan age age (scan_past s step ∷ []) }
     ensures old { (s : State) (step : Step) (age : ℕ)
         → HasScan (age + 1) age (scan_past s step ∷ []) → ⊥ }
     ensures missing { (now age : ℕ) → HasScan now age [] → ⊥ }
+    ensures other { (s : State) (step : Step) (age : ℕ)
+        → HasScan age age (contact_past s step ∷ []) → ⊥ }
+    ensures refused { (s : State) (fault : StepFault) (age : ℕ)
+        → HasScan age age (refused_past s fault ∷ []) → ⊥ }
     ensures unchanged { (s t : State) (step : Step) (age : ℕ) → IsSameProcess s t
         → HasScan age age (contact_past t step ∷ scan_past s step ∷ []) }
     ensures changed { (s t : State) (step : Step) (age : ℕ) → (IsSameProcess s t → ⊥)

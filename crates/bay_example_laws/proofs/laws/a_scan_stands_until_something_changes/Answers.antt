@@ -1,4 +1,4 @@
-use Rattle.bay_example_laws.proofs.ScanLemmas.{recent-stands, old-falls, none-stands, unchanged-stands, changed-falls, lost-falls}
+use Rattle.bay_example_laws.proofs.ScanLemmas.{recent-stands, old-falls, none-stands, other-falls, refused-falls, unchanged-stands, changed-falls, lost-falls}
 use Rattle.bay_example_laws.proofs.laws.a_scan_stands_until_something_changes.Goals as goal
 
 pub returns-clause-recent : goal.returns-clause-recent
@@ -9,6 +9,12 @@ returns-clause-old l = old-falls
 
 pub returns-clause-missing : goal.returns-clause-missing
 returns-clause-missing l = none-stands
+
+pub returns-clause-other : goal.returns-clause-other
+returns-clause-other l = other-falls
+
+pub returns-clause-refused : goal.returns-clause-refused
+returns-clause-refused l = refused-falls
 
 pub returns-clause-unchanged : goal.returns-clause-unchanged
 returns-clause-unchanged l = unchanged-stands
