@@ -8,7 +8,7 @@ import subprocess
 
 from common.texts import counted
 
-from . import inner, lacking, refusals, shown, standards
+from . import changed, inner, lacking, refusals, shown, standards
 from .calls import CRATES, TOP, Call, crates
 from .definitions import NAMED, Declared, Named, Scope, below, cited, scope_of, scope_of_call
 from .edits import Edit, broken, laws_about, refused_of
@@ -191,7 +191,8 @@ class Sheet:
         return (f'<div class="definition" id="{self.listed[it]}"><b>{html.escape(it.name)}</b> '
                 f'<span class="quiet">{kind} of {it.crate}, {self.source(it.path, it.line)}. '
                 f'{under}{inline(it.told)}</span>'
-                f'<pre>{self.linked(it.text, scope_of(it), it.name)}</pre></div>')
+                f'<pre>{self.linked(it.text, scope_of(it), it.name)}</pre>'
+                f'{changed.told_of(changed.name_of(it))}</div>')
 
     def crate(self, name: str, listed: list[Named]) -> str:
         """The definitions of a crate, under what the head of its `specs/Lib.antt` says of them."""
@@ -221,8 +222,9 @@ class Sheet:
             f'proof</title><style>{STYLE}</style><h1>From a promise to its proof</h1>{LEAD}'
             f'<p class="quiet">Commit {commit()}; {counts}.</p>{self.first()}<ul>{"".join(told)}'
             '<li><a href="#inner">Inner clauses</a></li>'
+            '<li><a href="#changed">Definitions that were changed</a></li>'
             '<li><a href="#definitions">Definitions</a></li></ul><details><summary>How to read '
-            f'clauses and definitions</summary>{how}</details>', *body, self.inner(),
+            f'clauses and definitions</summary>{how}</details>', *body, self.inner(), changed.held_by_no_law(),
             f'<h2 id="definitions">Definitions</h2><p>{", ".join(links)}</p>', *parts.values(),
             '</html>\n'))
 

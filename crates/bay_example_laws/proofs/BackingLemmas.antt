@@ -3,8 +3,8 @@ use Rattle.std.proofs.Common.{◌≡◌, ◌≢◌, ◌<◌, ◌+◌, true, fals
 use Rattle.std.specs.Prelude.{All}
 use Rattle.bay_control.specs.Acts.{Closed, Entry, Opened, Select}
 use Rattle.bay_control.specs.Backing.{choice_of, grants, undoes}
-use Rattle.bay_example_laws.specs.Selects.{IsBackedBehind, IsMatchedBehind, accepted, cancelled, operated, refused, selected_by, selected_with}
-use Rattle.bay_example_laws.proofs.SplitLemmas.{none-there, one-there, two-there}
+use Rattle.bay_example_laws.specs.Selects.{IsBackedBehind, IsMatchedBehind, accepted, cancelled, leaving, operated, refused, selected_by, selected_with}
+use Rattle.bay_example_laws.proofs.SplitLemmas.{all-step, none-there, one-there, two-there}
 use Rattle.bay_control.specs.declared.request.Choice.{Choice}
 
 pub own-backs : (choice : Choice) → IsBackedBehind choice 1999 (selected_by 1 ∷ [])
@@ -15,6 +15,32 @@ own-backs choice = record {
   split = refl;
   granted = refl;
   stands = λ k d lt. absurd (omega arith);
+  in_time = omega arith;
+  matched = λ e. absurd cc;
+}
+
+-- the select stands
+abbrev Stands : List Entry → Type 0
+Stands between = All (λ (e : Entry). undoes 1 0 e ≡ false) between
+
+step : (e : Entry) (es : List Entry) → undoes 1 0 e ≡ false → Stands es → Stands (e ∷ es)
+step = all-step (λ (e : Entry). undoes 1 0 e ≡ false)
+
+-- none of these undoes the select
+stays : (choice : Choice) → Stands (leaving choice)
+stays choice =
+    step _ _ refl (step _ _ refl (step _ _ refl (step _ _ refl (step _ _ refl (step _ _ refl
+    (step _ _ refl (step _ _ refl (λ k d lt. absurd (omega (arith, lt))))))))))
+
+pub left-backs : (choice : Choice)
+    → IsBackedBehind choice 1999 (selected_by 1 ∷ leaving choice)
+left-backs choice = record {
+  earlier = [];
+  select = selected_by 1;
+  between = leaving choice;
+  split = refl;
+  granted = refl;
+  stands = stays choice;
   in_time = omega arith;
   matched = λ e. absurd cc;
 }

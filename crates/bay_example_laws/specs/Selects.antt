@@ -1,7 +1,7 @@
 -- Small runs of selects and operates of one switch.
 use Rattle.std.specs.Prelude.{ℕ, false, true, List, [], ◌∷◌}
 use Rattle.bay_nodes.specs.declared.switch.Control.TheVariants.{Sbo, SboEnhanced}
-use Rattle.bay_control.specs.Acts.{Act, Entry, Select, SelectWith, Cancel, Operate}
+use Rattle.bay_control.specs.Acts.{Act, Entry, Opened, Closed, Select, SelectWith, Cancel, Operate}
 use Rattle.bay_control.specs.Backing.{IsBacked}
 use Rattle.bay_control.specs.declared.control.SwitchControl.{SwitchControl}
 use Rattle.bay_control.specs.declared.request.Choice.{Choice}
@@ -32,6 +32,14 @@ cancelled = accepted (Cancel 1 0)
 
 abbrev pub operated : Choice → Entry
 operated choice = accepted (Operate 1 0 choice)
+
+-- what leaves that select: acts of association 2 and of another switch, and a cancel that was refused
+abbrev pub leaving : Choice → List Entry
+leaving choice = accepted (Opened 2) ∷ accepted (Closed 2) ∷ accepted (Operate 2 0 choice)
+    ∷ accepted (Operate 1 1 choice) ∷ accepted (Cancel 2 0) ∷ accepted (Cancel 1 1)
+    ∷ record cancelled { is_accepted = false }
+    ∷ record (selected_by 2) { is_accepted = false }
+    ∷ []
 
 -- one switch with enhanced security, and a select with value of it by association 1
 abbrev pub enhanced_switch : List SwitchControl

@@ -20,15 +20,18 @@ ghost use Rattle.bay_device.specs.declared.fault.StepFault.{StepFault};
 ghost use Rattle.bay_example_laws.specs.Commands.{Tells, closes, interlocked, opens, operating, released};
 ghost use Rattle.bay_example_laws.specs.Operates.{IsAccepted, IsOther, IsRefused, telling};
 ghost use Rattle.bay_example_laws.specs.Scans.{contact_past, halting, is_heard_behind, lost_past, nothing, refused_past, scan_past, with_code, with_slot};
-ghost use Rattle.bay_example_laws.specs.Selects.{IsBackedBehind, IsMatchedBehind, accepted, cancelled, operated, refused, selected_by, selected_with};
+ghost use Rattle.bay_example_laws.specs.Selects.{IsBackedBehind, IsMatchedBehind, accepted, cancelled, leaving, operated, refused, selected_by, selected_with};
 
-/// What backs an operate: its own select, for less than the two seconds that it stands. No select
+/// What backs an operate: its own select, for less than the two seconds that it stands, also behind
+/// what others do, what is refused and what is done to another switch. No select
 /// backs none, another association's or a refused one backs none, nor does one that is over,
 /// cancelled or used up, whose association was closed or opened since, or behind which another
 /// association or another switch was selected.
 pub fn a_select_backs_its_own_operate()
     ensures backed { (choice : Choice)
         → IsBackedBehind choice 1999 (selected_by 1 ∷ []) }
+    ensures left { (choice : Choice)
+        → IsBackedBehind choice 1999 (selected_by 1 ∷ leaving choice) }
     ensures over { (choice : Choice)
         → IsBackedBehind choice 2000 (selected_by 1 ∷ []) → ⊥ }
     ensures missing { (choice : Choice) → IsBackedBehind choice 1999 [] → ⊥ }

@@ -1,8 +1,11 @@
-use Rattle.bay_example_laws.proofs.BackingLemmas.{own-backs, over-backs-none, nothing-backs, another-backs-none, cancelled-backs-none, used-backs-none, refused-backs-none, closed-backs-none, opened-backs-none, taken-backs-none, moved-backs-none}
+use Rattle.bay_example_laws.proofs.BackingLemmas.{own-backs, left-backs, over-backs-none, nothing-backs, another-backs-none, cancelled-backs-none, used-backs-none, refused-backs-none, closed-backs-none, opened-backs-none, taken-backs-none, moved-backs-none}
 use Rattle.bay_example_laws.proofs.laws.a_select_backs_its_own_operate.Goals as goal
 
 pub returns-clause-backed : goal.returns-clause-backed
 returns-clause-backed l = own-backs
+
+pub returns-clause-left : goal.returns-clause-left
+returns-clause-left l = left-backs
 
 pub returns-clause-over : goal.returns-clause-over
 returns-clause-over l = over-backs-none
