@@ -3,6 +3,8 @@ pub mod HoldLemmas
 pub mod IdLemmas
 pub mod ObeyLemmas
 pub mod OptionLemmas
+pub mod OrderLemmas
+pub mod ReleaseLemmas
 pub mod ReplayLemmas
 pub mod RestLemmas
 pub mod RuleLemmas
