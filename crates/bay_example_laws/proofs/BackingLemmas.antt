@@ -1,10 +1,12 @@
 -- What backs an operate in small runs, and what does not.
 use Rattle.std.proofs.Common.{◌≡◌, ◌≢◌, ◌<◌, ◌+◌, true, false, None, Some, List, [], ◌∷◌, refl, subst, ◌⊎◌, ⊎_elim, arith}
-use Rattle.std.specs.Prelude.{All}
+use Rattle.std.specs.Prelude.{All, not}
+use Rattle.std.proofs.lemmas.Bool.{not-true}
+use Rattle.std.proofs.lemmas.List.Sums.{AllPass-from_list_all}
 use Rattle.bay_control.specs.Acts.{Closed, Entry, Opened, Select}
 use Rattle.bay_control.specs.Backing.{choice_of, grants, undoes}
 use Rattle.bay_example_laws.specs.Selects.{IsBackedBehind, IsMatchedBehind, accepted, cancelled, leaving, operated, refused, selected_by, selected_with}
-use Rattle.bay_example_laws.proofs.SplitLemmas.{all-step, none-there, one-there, two-there}
+use Rattle.bay_example_laws.proofs.SplitLemmas.{none-there, one-there, two-there}
 use Rattle.bay_control.specs.declared.request.Choice.{Choice}
 
 pub own-backs : (choice : Choice) → IsBackedBehind choice 1999 (selected_by 1 ∷ [])
@@ -19,18 +21,10 @@ own-backs choice = record {
   matched = λ e. absurd cc;
 }
 
--- the select stands
-abbrev Stands : List Entry → Type 0
-Stands between = All (λ (e : Entry). undoes 1 0 e ≡ false) between
-
-step : (e : Entry) (es : List Entry) → undoes 1 0 e ≡ false → Stands es → Stands (e ∷ es)
-step = all-step (λ (e : Entry). undoes 1 0 e ≡ false)
-
 -- none of these undoes the select
-stays : (choice : Choice) → Stands (leaving choice)
-stays choice =
-    step _ _ refl (step _ _ refl (step _ _ refl (step _ _ refl (step _ _ refl (step _ _ refl
-    (step _ _ refl (step _ _ refl (λ k d lt. absurd (omega (arith, lt))))))))))
+stays : (choice : Choice) → All (λ (e : Entry). undoes 1 0 e ≡ false) (leaving choice)
+stays choice k d lt = not-true _
+    (AllPass-from_list_all (λ (e : Entry). not (undoes 1 0 e)) (leaving choice) refl k d lt)
 
 pub left-backs : (choice : Choice)
     → IsBackedBehind choice 1999 (selected_by 1 ∷ leaving choice)

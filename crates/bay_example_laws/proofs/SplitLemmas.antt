@@ -31,10 +31,6 @@ module _ {X : Type 0} where
       let alone : before ≡ [] = none-before f before behind it rest in
       inr (last, cc)
 
-  pub all-step : (P : X → Type 0) (x : X) (xs : List X) → P x → All P xs → All P (x ∷ xs)
-  all-step P x xs p ps zero d lt = p
-  all-step P x xs p ps (suc k) d lt = ps k d (omega (arith, lt))
-
   pub all-one : (P : X → Type 0) (x : X) → P x → All P (x ∷ [])
   all-one P x p zero d lt = p
   all-one P x p (suc k) d lt = absurd (omega arith)
