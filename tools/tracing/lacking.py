@@ -42,11 +42,11 @@ NO_LAW = {
                                  'it, where the code goes over it once',
     'il_verify verify': OWN_WORDS + 'the image that stands before a lack of memory'}
 
+DEFINITIONS = 'it is about definitions alone: `tools/wrong_definitions` changes these'
 NO_EDIT = {
     'bay_device Device::step: sure': 'a choice that is taken without octets is one that no body can '
                                      'make: the call has no allocator',
-    'bay_example_laws a_select_backs_its_own_operate': 'it is about definitions alone: '
-                                                       '`tools/wrong_definitions` changes these',
+    'bay_example_laws a_select_backs_its_own_operate': DEFINITIONS,
     'bay_rules conditions_have_truths': 'it is about conditions as they are read; the edits of '
                                         'reading are at `read_rules`',
     'bay_serve Server::new': 'its clause has the whole value, a device and eight empty queues, and '
@@ -54,8 +54,8 @@ NO_EDIT = {
     'bay_serve_laws queues_stay_in_their_room': 'a queue is a buffer whose room is part of its '
                                                 'type, so no body can exceed it; the edits of '
                                                 'closings are at the turns',
-    'il_compile programs_have_a_meaning': 'it is about definitions alone: '
-                                          '`tools/wrong_definitions` changes these'}
+    'bay_rule_laws the_last_scan_releases_a_command': DEFINITIONS,
+    'il_compile programs_have_a_meaning': DEFINITIONS}
 
 
 def key_of(borne: Borne) -> str:

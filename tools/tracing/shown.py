@@ -14,6 +14,7 @@ SHOWS = re.compile(r'^(?:#|//|== note) Shows (P-\d{3}(?:, P-\d{3})*)\.$')
 TITLE = re.compile(r'^(?:# (?!Shows )|== note (?!Shows )|== (?=report|eight|hostile|bay'
                    r'|tree|controls)|def |fn )(.*)$')
 ONE_LINE = 'no case can: each lack of memory of a load is told by the same line'
+OWN_RUNS = 'it speaks of definitions, on runs of its own'
 NONE = {
     'P-011': 'each run of each case shows it: none prints two commands of an event',
     'P-014': 'no program of cases keeps what led to its controls',
@@ -25,7 +26,8 @@ NONE = {
     'P-071': 'no case can: it speaks of every run',
     'P-082': 'each session of octets shows it',
     'P-124': 'no trial refuses memory to a server that begins',
-    'P-140': 'it speaks of definitions, on runs of its own'}
+    'P-140': OWN_RUNS,
+    'P-141': OWN_RUNS}
 
 
 @dataclasses.dataclass(frozen=True)
