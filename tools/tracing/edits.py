@@ -105,8 +105,9 @@ def is_refused_at(it: Edit, borne: Borne) -> bool:
 
 def refused_of(promise: Promise) -> list[Edit]:
     """The edits that would break a promise: first those that are refused at a clause of it, then
-    those of which it is the first promise."""
-    def order(it: Edit) -> tuple[bool, bool]:
-        return not is_refused_at(it, borne_by(promise)), broken()[it.key][0] != promise.id
+    those of which it is the first promise, and of these and the others those of the gate."""
+    def order(it: Edit) -> tuple[bool, bool, bool]:
+        return (not is_refused_at(it, borne_by(promise)), broken()[it.key][0] != promise.id,
+                not it.is_in_gate)
     return sorted((it for crate in crates() for it in edits_of(crate)
                    if promise.id in broken().get(it.key, ())), key=order)
