@@ -83,7 +83,7 @@ def news(server: Server) -> list[str]:
     return re.findall(r'(?m)^\d+ (process .*)$', server.printed())
 
 
-# Shows P-113, P-115.
+# Shows P-115.
 def waited(checks) -> None:
     """While a process is served three others come and go: one says nothing, one half a line, and
     one a line. Then the first one goes."""
@@ -122,7 +122,7 @@ def lines_of(process: socket.socket, count: int) -> list[str]:
     return octets.decode().splitlines()
 
 
-# Shows P-116.
+# Shows P-115, P-116.
 def told(checks) -> None:
     """A process is told all releases at first, and then each change; and none without the
     option."""

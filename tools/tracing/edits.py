@@ -7,8 +7,8 @@ import re
 
 from . import refusals
 from .calls import CRATES, Call, calls_of, crates
-from .definitions import Definition, Named, cited
-from .promises import Borne, Promise, borne_by, public_laws
+from .definitions import Definition, Named, below, cited
+from .promises import Borne, Promise, borne_by, promises, public_laws
 
 REGISTER = pathlib.Path(__file__).with_name('breaks.txt')
 PAIR = re.compile(r'^(file|old|new): ?(.*)$', re.M)
@@ -17,6 +17,8 @@ FOLDERS = ('must-fail', 'wrong-bodies')
 GENERAL = {CRATES / 'bay_base' / 'specs' / f'{it}.antt' for it in ('Exact', 'Options', 'Results')}
 DATA = re.compile(r'pub (?:record|data) \S+ : Type 0 where')
 CONSTANT = re.compile(r'\bconst (\w+):')
+# So many levels of definitions are what a law is about, and so many calls are named that obey them.
+LEVELS, OBEYING = 3, 3
 
 
 @dataclasses.dataclass(frozen=True)
@@ -75,6 +77,21 @@ def subject(named: set[Named]) -> set[Definition]:
     """The definitions among what is named, but for plain data and what holds of any result."""
     return {it for it in named if isinstance(it, Definition) and it.path not in GENERAL
             and not DATA.match(it.text)}
+
+
+@functools.cache
+def promised() -> tuple[Call, ...]:
+    """The calls with code that bear promises."""
+    return tuple(dict.fromkeys(call for it in promises() for call in borne_by(it).code))
+
+
+def obeying(laws: list[Call]) -> list[Call]:
+    """Which calls that bear promises obey most of what laws are about: a few."""
+    about = subject({it for law in laws for it in cited(law)})
+    for _ in range(LEVELS):
+        about |= subject({it for of in about for it in below(of)})
+    counts = {it: len(about & set(cited(it))) for it in promised()}
+    return sorted((it for it in counts if counts[it]), key=lambda it: -counts[it])[:OBEYING]
 
 
 def laws_about(borne: Borne) -> list[Call]:

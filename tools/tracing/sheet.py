@@ -11,7 +11,7 @@ from common.texts import counted
 from . import changed, inner, lacking, refusals, shown, standards
 from .calls import CRATES, TOP, Call, crates
 from .definitions import NAMED, Declared, Named, Scope, below, cited, scope_of, scope_of_call
-from .edits import Edit, broken, laws_about, refused_of
+from .edits import Edit, broken, laws_about, obeying, refused_of
 from .marked import inline, section
 from .promises import Borne, Promise, borne_by, promises
 
@@ -130,6 +130,11 @@ class Sheet:
         told = ''.join(found) or f'<p>none: {inline(why)}</p>'
         return f'<p class="kind">{heading}</p>{told}'
 
+    def obeyed(self, borne: Borne) -> str:
+        """Which calls obey the definitions that the laws of a promise are about."""
+        named = ', '.join(f'`{it.title}` of {it.crate}' for it in obeying(borne.laws))
+        return named and f'laws carry it; what obeys their definitions is {named}'
+
     def promise(self, it: Promise) -> str:
         """A promise with all that bears it."""
         borne = self.borne[it]
@@ -142,7 +147,7 @@ class Sheet:
             f'<p class="quiet">By: {inline(it.by)} '
             f'({self.source(it.page, it.line)})</p>',
             self.part('Clauses', [self.contract(call, borne) for call in borne.code],
-                      'laws carry it'),
+                      self.obeyed(borne) or it.by),
             self.part('Laws' if borne.laws else 'Laws about the same definitions', laws,
                       lacking.reason(lacking.NO_LAW, it)),
             self.part('Wrong bodies', edits, lacking.no_edit(it)),

@@ -24,7 +24,7 @@ NONE = {
     'P-058': ONE_LINE,
     'P-068': 'no program of cases calls it',
     'P-071': 'no case can: it speaks of every run',
-    'P-082': 'each session of octets shows it',
+    'P-082': 'no case looks at what is lent behind a later piece',
     'P-124': 'no trial refuses memory to a server that begins',
     'P-140': OWN_RUNS,
     'P-141': OWN_RUNS}

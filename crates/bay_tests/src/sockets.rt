@@ -93,7 +93,7 @@ fn waited(rt: &HostRuntime, readiness: &mut Readiness, most: u64) -> io::Result<
 // A wait ends where a socket is ready, and not before. A client that is silent for ten seconds from
 // its start on fails, and none behind its first octet. What the system does not take is not told as
 // sent, and the end of one client is no other's.
-// Shows P-126.
+// Shows P-122.
 #[test]
 fn clients_of_a_link(rt: HostRuntime) -> Result<(), Fail> {
     let clock = SetClock {

@@ -83,7 +83,7 @@ const ASKING: [Asking; 3] = [
     },
 ];
 
-// Shows P-122, P-125, P-126.
+// Shows P-122, P-125, P-126, P-129.
 #[test]
 fn clients_are_answered_and_closed(rt: HostRuntime) -> Result<(), Fail> {
     let whole = octets_of(rt.alloc(), &[CONFIRM, CONNECTED, IDENTITY])?;
