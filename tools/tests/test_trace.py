@@ -2,16 +2,18 @@
 with clauses whose definitions are found; has a law, an edit and a case, or a reason for none; and
 keeps its id."""
 import html
+import json
 import pathlib
 import re
 import sys
 import tempfile
 import unittest
+from unittest import mock
 
 TOOLS = pathlib.Path(__file__).resolve().parent.parent
 sys.path.insert(0, str(TOOLS))
 from tests.tool import Tools
-from tracing import inner, lacking, shown, standards
+from tracing import changed, inner, lacking, shown, standards
 from tracing.calls import TOP, Source, all_calls, crates, quiet
 from tracing.definitions import Reader, scope_of_call, unfound
 from tracing.edits import broken, edits_of, laws_about, refused_of
@@ -240,6 +242,40 @@ class Promises(unittest.TestCase):
     def test_each_edit_of_the_gate_changes_a_function(self):
         for it in (it for crate in crates() for it in edits_of(crate) if it.is_in_gate):
             self.assertTrue(it.calls, it.path)
+
+
+class Changed(Tools):
+    """What was changed of definitions, from the two tables."""
+
+    def setUp(self) -> None:
+        super().setUp()
+        def answer(verdict, at=''):
+            return {'verdict': verdict, 'crate': 'low', 'at': at, 'before': 'a', 'after': 'b'}
+        def table(name, rows):
+            return pathlib.Path(self.file(name, json.dumps(rows)))
+        laws = table('laws', {'low.X.f.sign-1': answer('broken', 'a_law/over'),
+                              'low.X.f.sign-2': answer('proves'), 'low.X.f.sign-3':
+                              answer('proves'), 'low.X.g.fact-1': answer('not read')})
+        citing = table('citing', {'low.X.f.sign-1': answer('proves'),
+                                  'low.X.f.sign-2': answer('broken', 'call/ok')})
+        for name, path in (('LAWS', laws), ('CITING', citing)):
+            patched = mock.patch.object(changed, name, path)
+            patched.start()
+            self.addCleanup(patched.stop)
+        changed.outcomes.cache_clear()
+        self.addCleanup(changed.outcomes.cache_clear)
+
+    def test_at_a_definition(self):
+        self.assertEqual(changed.told_of('low.X.f'), '<p class="quiet">Changed in 3 ways: 1 breaks '
+                         'a law, 1 breaks the code or a lemma, 1 breaks nothing that was looked at '
+                         '(a_law).</p>')
+        self.assertEqual(changed.told_of('low.X.g'), '')
+
+    def test_what_breaks_no_law(self):
+        found = changed.held_by_no_law()
+        self.assertIn('3 changes', found)
+        self.assertIn('low, call/ok', found)
+        self.assertNotIn('sign-1', found)
 
 
 class Standards(unittest.TestCase):

@@ -44,8 +44,7 @@ NO_LAW = {
 
 DEFINITIONS = 'it is about definitions alone: `tools/wrong_definitions` changes these'
 NO_EDIT = {
-    'bay_device Device::step: sure': 'a choice that is taken without octets is one that no body can '
-                                     'make: the call has no allocator',
+    'bay_device Device::step: sure': 'no body can choose without octets: the call has no allocator',
     'bay_example_laws a_select_backs_its_own_operate': DEFINITIONS,
     'bay_rules conditions_have_truths': 'it is about conditions as they are read; the edits of '
                                         'reading are at `read_rules`',

@@ -313,6 +313,7 @@ quiet-are-ordered first h t u past none more = (
   (λ command has. absurd (nothing-there u.told.commands command more has), tt),
 )
 
+-- of turns of which the last tells a command and has no octets
 pub unordered : (first : State) (h : Held) (t : DoneTurn) (told : Turn) (past : List Past)
     (command : Command) → Contains told.commands command
     → AreOrdered first h past (t ∷ turn_with silent told ∷ []) → ⊥
