@@ -229,7 +229,8 @@ class Sheet:
             '<li><a href="#inner">Inner clauses</a></li>'
             '<li><a href="#changed">Definitions that were changed</a></li>'
             '<li><a href="#definitions">Definitions</a></li></ul><details><summary>How to read '
-            f'clauses and definitions</summary>{how}</details>', *body, self.inner(), changed.held_by_no_law(),
+            f'clauses and definitions</summary>{how}</details>', *body, self.inner(),
+            changed.held_by_no_law(),
             f'<h2 id="definitions">Definitions</h2><p>{", ".join(links)}</p>', *parts.values(),
             '</html>\n'))
 
