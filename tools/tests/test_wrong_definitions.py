@@ -229,8 +229,9 @@ class Laws(Tools):
             for it in all_below('bay_example_laws'):
                 room.library(it).mkdir(parents=True)
             words = room.words('bay_control', 'bay_example_laws')
-        taken = {kind: [it.partition('=')[0].partition(':')[0] for flag, it in
-                        itertools.pairwise(words) if flag == kind] for kind in ('--lib', '--extern')}
+        taken = {kind: [it.partition('=')[0].partition(':')[0]
+                        for flag, it in itertools.pairwise(words) if flag == kind]
+                 for kind in ('--lib', '--extern')}
         self.assertEqual(taken['--lib'], ['bay_control', 'bay_services', 'bay_device'])
         self.assertLessEqual({'std', 'toml', 'bay_tree', 'bay_ber'}, set(taken['--extern']))
         self.assertFalse(set(taken['--lib']) & set(taken['--extern']))
