@@ -238,8 +238,8 @@ class Laws(Tools):
 
     def test_what_is_read(self):
         goal = './proofs/One.antt:3:1: error: `one`: two types differ\n'
-        clause = ('./proofs/laws/a_law/Answers.antt:4:5: error: 1 declaration that depends on `one`, '
-                  'which was not admitted, was not checked: returns-clause-over\n')
+        clause = ('./proofs/laws/a_law/Answers.antt:4:5: error: 1 declaration that depends on '
+                  '`one`, which was not admitted, was not checked: returns-clause-over\n')
         for printed, at in ((goal + clause, 'a_law/over'), (goal, 'proofs/One.antt')):
             self.assertEqual(answer_of('bay_example_laws', 1, printed, ('bay_example_laws',)),
                              Answer(BROKEN, ('bay_example_laws',), 'bay_example_laws', at,

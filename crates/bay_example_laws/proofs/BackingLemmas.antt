@@ -1,11 +1,12 @@
 -- What backs an operate in small runs, and what does not.
-use Rattle.std.proofs.Common.{◌≡◌, ◌≢◌, ◌<◌, ◌+◌, true, false, None, Some, List, [], ◌∷◌, refl, subst, ◌⊎◌, ⊎_elim, arith}
+use Rattle.std.proofs.Common.{ℕ, ◌≡◌, ◌≢◌, ◌<◌, ◌+◌, true, false, None, Some, List, [], ◌∷◌, refl, subst, ◌⊎◌, ⊎_elim, arith}
 use Rattle.std.specs.Prelude.{All, not}
 use Rattle.std.proofs.lemmas.Bool.{not-true}
 use Rattle.std.proofs.lemmas.List.Sums.{AllPass-from_list_all}
-use Rattle.bay_control.specs.Acts.{Closed, Entry, Opened, Select}
-use Rattle.bay_control.specs.Backing.{choice_of, grants, undoes}
-use Rattle.bay_example_laws.specs.Selects.{IsBackedBehind, IsMatchedBehind, accepted, cancelled, leaving, operated, refused, selected_by, selected_with}
+use Rattle.bay_control.specs.Acts.{Closed, Entry, Opened, Select, SelectWith}
+use Rattle.bay_control.specs.Backing.{IsBacked, choice_of, grants, undoes}
+use Rattle.bay_control.specs.declared.control.SwitchControl.{SwitchControl}
+use Rattle.bay_example_laws.specs.Selects.{IsBackedBehind, IsMatchedBehind, accepted, cancelled, enhanced_switch, leaving, one_switch, operated, refused, selected_by, selected_with}
 use Rattle.bay_example_laws.proofs.SplitLemmas.{none-there, one-there, two-there}
 use Rattle.bay_control.specs.declared.request.Choice.{Choice}
 
@@ -63,41 +64,42 @@ another-backs-none choice h =
     absurd cc
 
 -- what undoes a select, and is none, leaves nothing that backs
-undone : (choice : Choice) (f : Entry) → undoes 1 0 f ≡ true → grants 1 0 f ≡ false
-    → IsBackedBehind choice 1999 (selected_by 1 ∷ f ∷ []) → ⊥
-undone choice f undoing other h =
-    ⊎_elim (λ (is : (h.select ≡ selected_by 1) × (h.between ≡ f ∷ [])).
+undone : (controls : List SwitchControl) (choice : Choice) (now : ℕ) (e f : Entry)
+    → undoes 1 0 f ≡ true → grants 1 0 f ≡ false
+    → IsBacked controls 1 0 choice now (e ∷ f ∷ []) → ⊥
+undone controls choice now e f undoing other h =
+    ⊎_elim (λ (is : (h.select ≡ e) × (h.between ≡ f ∷ [])).
     let kept : undoes 1 0 f ≡ false =
-    subst (λ (es : List Entry). All (λ (e : Entry). undoes 1 0 e ≡ false) es) is.1 h.stands 0 f
+    subst (λ (es : List Entry). All (λ (g : Entry). undoes 1 0 g ≡ false) es) is.1 h.stands 0 f
     (omega arith) in absurd cc)
-    (λ (is : (h.select ≡ f) × (h.earlier ≡ selected_by 1 ∷ [])).
-    let granted : grants 1 0 f ≡ true = subst (λ (e : Entry). grants 1 0 e ≡ true) is.0 h.granted in
+    (λ (is : (h.select ≡ f) × (h.earlier ≡ e ∷ [])).
+    let granted : grants 1 0 f ≡ true = subst (λ (g : Entry). grants 1 0 g ≡ true) is.0 h.granted in
     absurd cc)
-    (two-there (selected_by 1) f h.earlier h.between h.select h.split)
+    (two-there e f h.earlier h.between h.select h.split)
 
 pub cancelled-backs-none : (choice : Choice)
     → IsBackedBehind choice 1999 (selected_by 1 ∷ cancelled ∷ []) → ⊥
-cancelled-backs-none choice h = undone choice cancelled refl refl h
+cancelled-backs-none choice h = undone one_switch choice 1999 (selected_by 1) cancelled refl refl h
 
 pub used-backs-none : (choice : Choice)
     → IsBackedBehind choice 1999 (selected_by 1 ∷ operated choice ∷ []) → ⊥
-used-backs-none choice h = undone choice (operated choice) refl refl h
+used-backs-none choice h = undone one_switch choice 1999 (selected_by 1) (operated choice) refl refl h
 
 pub closed-backs-none : (choice : Choice)
     → IsBackedBehind choice 1999 (selected_by 1 ∷ accepted (Closed 1) ∷ []) → ⊥
-closed-backs-none choice h = undone choice (accepted (Closed 1)) refl refl h
+closed-backs-none choice h = undone one_switch choice 1999 (selected_by 1) (accepted (Closed 1)) refl refl h
 
 pub opened-backs-none : (choice : Choice)
     → IsBackedBehind choice 1999 (selected_by 1 ∷ accepted (Opened 1) ∷ []) → ⊥
-opened-backs-none choice h = undone choice (accepted (Opened 1)) refl refl h
+opened-backs-none choice h = undone one_switch choice 1999 (selected_by 1) (accepted (Opened 1)) refl refl h
 
 pub taken-backs-none : (choice : Choice)
     → IsBackedBehind choice 1999 (selected_by 1 ∷ selected_by 2 ∷ []) → ⊥
-taken-backs-none choice h = undone choice (selected_by 2) refl refl h
+taken-backs-none choice h = undone one_switch choice 1999 (selected_by 1) (selected_by 2) refl refl h
 
 pub moved-backs-none : (choice : Choice)
     → IsBackedBehind choice 1999 (selected_by 1 ∷ accepted (Select 1 1) ∷ []) → ⊥
-moved-backs-none choice h = undone choice (accepted (Select 1 1)) refl refl h
+moved-backs-none choice h = undone one_switch choice 1999 (selected_by 1) (accepted (Select 1 1)) refl refl h
 
 -- ---- enhanced security
 
@@ -147,3 +149,9 @@ earlier-backs-none asked choice differs h =
     let same : Some asked ≡ Some choice =
     asks-for choice before (selected_with asked) h is.0 in differs cc)
     (two-there (selected_with choice) (selected_with asked) h.earlier h.between h.select h.split)
+
+pub taken-matches-none : (choice : Choice)
+    → IsMatchedBehind choice (selected_with choice ∷ accepted (SelectWith 2 0 choice) ∷ []) → ⊥
+taken-matches-none choice h =
+    undone enhanced_switch choice 1999 (selected_with choice) (accepted (SelectWith 2 0 choice)) refl
+    refl h

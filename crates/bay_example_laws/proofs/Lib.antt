@@ -2,5 +2,6 @@ pub mod BackingLemmas
 pub mod CommandLemmas
 pub mod FreshLemmas
 pub mod OperateLemmas
+pub mod ProcessLemmas
 pub mod ScanLemmas
 pub mod SplitLemmas

@@ -1,6 +1,7 @@
 -- Events at moment 0, and a device with a program of few octets.
-use Rattle.std.specs.Prelude.{ℕ, Bool, true, List, [], ◌∷◌, Result, Ok, Err}
+use Rattle.std.specs.Prelude.{ℕ, Bool, true, List, [], ◌∷◌, Result, Ok, Err, Some, codes}
 use Rattle.bay_tree.specs.declared.leaf.Dbpos.TheVariants.{Off}
+use Rattle.bay_tree.specs.declared.leaf.Leaf.{Leaf}
 use Rattle.il_image.specs.declared.value.Value.TheVariants.{Truth}
 use Rattle.il_check.specs.Program.{Checked}
 use Rattle.bay_device.specs.Device.{State}
@@ -25,6 +26,18 @@ contact_past s step = record { now = 0; event = Contact 0 Off; answer = Ok step;
 -- the loss of the process
 abbrev pub lost_past : State → Step → Past
 lost_past s step = record { now = 0; event = Lost; answer = Ok step; after = s }
+
+-- the device to which a process told a position of a breaker, an input and a measured value, each
+-- with its quality, by the names that PROTOCOL gives
+abbrev pub telling_process : Leaf → Leaf → Bool → Leaf → Leaf → State → State
+telling_process position quality input power doubt s = record s {
+  rows = record { name = codes "XCBR1$ST$Pos$stVal"; leaf = Some position }
+      ∷ record { name = codes "XCBR1$ST$Pos$q"; leaf = Some quality }
+      ∷ record { name = codes "MMXU1$MX$TotW$mag$i"; leaf = Some power }
+      ∷ record { name = codes "MMXU1$MX$TotW$q"; leaf = Some doubt }
+      ∷ [];
+  input_values = input ∷ [];
+}
 
 -- whether the process is heard behind its loss and this event
 abbrev pub is_heard_behind : Event → Result Step StepFault → State → Step → Bool

@@ -3,8 +3,9 @@ ghost use Rattle.std.specs.Prelude.{◌≡◌, ◌≢◌, ◌+◌, ℕ, ℤ, Boo
 ghost use Rattle.std.specs.Borrow.{Bor};
 ghost use Rattle.bay_base.specs.declared.point.MeterField.{MeterField};
 ghost use Rattle.bay_tree.specs.declared.leaf.Dbpos.{Dbpos};
+ghost use Rattle.bay_tree.specs.declared.leaf.Leaf.{Leaf};
 ghost use Rattle.bay_tree.specs.declared.row.Row.{Row};
-ghost use Rattle.bay_control.specs.Acts.{Closed, Opened, Select};
+ghost use Rattle.bay_control.specs.Acts.{Closed, Opened, Select, SelectWith};
 ghost use Rattle.bay_control.specs.declared.request.Choice.{Choice};
 ghost use Rattle.bay_services.specs.Bay.{Bay};
 ghost use Rattle.bay_device.specs.Commands.{CommandedAt};
@@ -19,7 +20,7 @@ ghost use Rattle.bay_device.specs.declared.event.Step.{Step};
 ghost use Rattle.bay_device.specs.declared.fault.StepFault.{StepFault};
 ghost use Rattle.bay_example_laws.specs.Commands.{Tells, closes, interlocked, opens, operating, released};
 ghost use Rattle.bay_example_laws.specs.Operates.{IsAccepted, IsOther, IsRefused, telling};
-ghost use Rattle.bay_example_laws.specs.Scans.{contact_past, halting, is_heard_behind, lost_past, nothing, refused_past, scan_past, with_code, with_slot};
+ghost use Rattle.bay_example_laws.specs.Scans.{contact_past, halting, is_heard_behind, lost_past, nothing, refused_past, scan_past, telling_process, with_code, with_slot};
 ghost use Rattle.bay_example_laws.specs.Selects.{IsBackedBehind, IsMatchedBehind, accepted, cancelled, leaving, operated, refused, selected_by, selected_with};
 
 /// What backs an operate: its own select, for less than the two seconds that it stands, also behind
@@ -54,7 +55,7 @@ pub fn a_select_backs_its_own_operate()
 
 /// With enhanced security a select with value backs an operate that asks for what it asked for. One
 /// for another position or by another originator backs none, nor does one without value, nor one
-/// behind which another was granted.
+/// behind which another was granted, also to another association.
 pub fn a_select_with_value_backs_what_it_asked_for()
     ensures backed { (choice : Choice) → IsMatchedBehind choice (selected_with choice ∷ []) }
     ensures other { (asked choice : Choice) → asked ≢ choice
@@ -62,6 +63,9 @@ pub fn a_select_with_value_backs_what_it_asked_for()
     ensures plain { (choice : Choice) → IsMatchedBehind choice (selected_by 1 ∷ []) → ⊥ }
     ensures earlier { (asked choice : Choice) → asked ≢ choice
         → IsMatchedBehind choice (selected_with choice ∷ selected_with asked ∷ []) → ⊥ }
+    ensures taken { (choice : Choice)
+        → IsMatchedBehind choice (selected_with choice ∷ accepted (SelectWith 2 0 choice) ∷ [])
+        → ⊥ }
 {}
 
 /// A command to open is issued by a device with a fresh scan that has released it, and by none that
@@ -177,6 +181,27 @@ pub fn a_scan_stands_until_something_changes()
         → HasScan age age (contact_past t step ∷ scan_past s step ∷ []) → ⊥ }
     ensures lost { (s t : State) (step : Step) (age : ℕ)
         → HasScan age age (lost_past t step ∷ scan_past s step ∷ []) → ⊥ }
+{}
+
+/// A process tells the same where nothing of it changed: not where a position, an input or a
+/// measured value did, or a quality.
+pub fn a_process_tells_the_same_until_something_changes()
+    ensures same { (s : State) → IsSameProcess s s }
+    ensures position { (a b quality power doubt : Leaf) (input : Bool) (s : State) → a ≢ b
+        → IsSameProcess (telling_process a quality input power doubt s)
+        (telling_process b quality input power doubt s) → ⊥ }
+    ensures quality { (a b position power doubt : Leaf) (input : Bool) (s : State) → a ≢ b
+        → IsSameProcess (telling_process position a input power doubt s)
+        (telling_process position b input power doubt s) → ⊥ }
+    ensures input { (position quality power doubt : Leaf) (a b : Bool) (s : State) → a ≢ b
+        → IsSameProcess (telling_process position quality a power doubt s)
+        (telling_process position quality b power doubt s) → ⊥ }
+    ensures measure { (a b position quality doubt : Leaf) (input : Bool) (s : State) → a ≢ b
+        → IsSameProcess (telling_process position quality input a doubt s)
+        (telling_process position quality input b doubt s) → ⊥ }
+    ensures doubt { (a b position quality power : Leaf) (input : Bool) (s : State) → a ≢ b
+        → IsSameProcess (telling_process position quality input power a s)
+        (telling_process position quality input power b s) → ⊥ }
 {}
 
 /// A lost process is heard again by a contact, an input, a measured value or a doubt of one that is

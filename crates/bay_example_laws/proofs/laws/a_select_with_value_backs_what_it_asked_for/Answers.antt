@@ -1,4 +1,4 @@
-use Rattle.bay_example_laws.proofs.BackingLemmas.{matched-backs, other-backs-none, plain-backs-none, earlier-backs-none}
+use Rattle.bay_example_laws.proofs.BackingLemmas.{matched-backs, other-backs-none, plain-backs-none, earlier-backs-none, taken-matches-none}
 use Rattle.bay_example_laws.proofs.laws.a_select_with_value_backs_what_it_asked_for.Goals as goal
 
 pub returns-clause-backed : goal.returns-clause-backed
@@ -12,3 +12,6 @@ returns-clause-plain l = plain-backs-none
 
 pub returns-clause-earlier : goal.returns-clause-earlier
 returns-clause-earlier l = earlier-backs-none
+
+pub returns-clause-taken : goal.returns-clause-taken
+returns-clause-taken l = taken-matches-none
