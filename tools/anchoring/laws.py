@@ -39,8 +39,8 @@ def rests_on(law: Call) -> frozenset[Named]:
 
 
 def laws_on(definition: Definition) -> Iterator[tuple[str, list[Call]]]:
-    """The crates with laws that rest on a definition and those laws: first the law that rests on the
-    fewest definitions, and its crate."""
+    """The crates with laws that rest on a definition, and those laws: first the law that rests on
+    the fewest definitions, and its crate."""
     found = sorted((it for it in public_laws() if definition in rests_on(it)),
                    key=lambda it: (len(rests_on(it)), it.title))
     for crate in dict.fromkeys(it.crate for it in found):
