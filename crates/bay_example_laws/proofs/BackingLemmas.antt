@@ -155,3 +155,17 @@ pub taken-matches-none : (choice : Choice)
 taken-matches-none choice h =
     undone enhanced_switch choice 1999 (selected_with choice) (accepted (SelectWith 2 0 choice)) refl
     refl h
+
+pub moved-matches-none : (choice : Choice)
+    → IsMatchedBehind choice (selected_with choice ∷ accepted (SelectWith 1 1 choice) ∷ []) → ⊥
+moved-matches-none choice h =
+    undone enhanced_switch choice 1999 (selected_with choice) (accepted (SelectWith 1 1 choice)) refl
+    refl h
+
+pub another-matches-none : (choice : Choice)
+    → IsMatchedBehind choice (accepted (SelectWith 2 0 choice) ∷ []) → ⊥
+another-matches-none choice h =
+    let same : h.select ≡ accepted (SelectWith 2 0 choice) =
+    one-there (accepted (SelectWith 2 0 choice)) h.earlier h.between h.select h.split in
+    let own : false ≡ true = subst (λ (e : Entry). grants 1 0 e ≡ true) same h.granted in
+    absurd cc

@@ -55,16 +55,21 @@ pub fn a_select_backs_its_own_operate()
 
 /// With enhanced security a select with value backs an operate that asks for what it asked for. One
 /// for another position or by another originator backs none, nor does one without value, nor one
-/// behind which another was granted, also to another association.
+/// behind which another was granted, also to another association or of another switch.
 pub fn a_select_with_value_backs_what_it_asked_for()
     ensures backed { (choice : Choice) → IsMatchedBehind choice (selected_with choice ∷ []) }
     ensures other { (asked choice : Choice) → asked ≢ choice
         → IsMatchedBehind choice (selected_with asked ∷ []) → ⊥ }
+    ensures of_another { (choice : Choice)
+        → IsMatchedBehind choice (accepted (SelectWith 2 0 choice) ∷ []) → ⊥ }
     ensures plain { (choice : Choice) → IsMatchedBehind choice (selected_by 1 ∷ []) → ⊥ }
     ensures earlier { (asked choice : Choice) → asked ≢ choice
         → IsMatchedBehind choice (selected_with choice ∷ selected_with asked ∷ []) → ⊥ }
     ensures taken { (choice : Choice)
         → IsMatchedBehind choice (selected_with choice ∷ accepted (SelectWith 2 0 choice) ∷ [])
+        → ⊥ }
+    ensures moved { (choice : Choice)
+        → IsMatchedBehind choice (selected_with choice ∷ accepted (SelectWith 1 1 choice) ∷ [])
         → ⊥ }
 {}
 
