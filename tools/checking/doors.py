@@ -209,7 +209,7 @@ def revoked(checks) -> None:
         out_of_date(checks, it)
         it.door.run.terminate()
         it.door.run.wait(PATIENCE)
-        ended = until(lambda: re.search(r'(?m)^\d+ association \d closed ', it.server.printed()
+        ended = until(lambda: re.search(r'(?m)^\S+ association \d closed ', it.server.printed()
                                         .partition('open from ')[2]), 'the association is closed')
         checks.holds('an end of stunnel leaves an association', bool(ended), it.server.printed())
         held.socket.close()
