@@ -1,7 +1,11 @@
 """The copy on which wrong bodies are tried; each edit can be applied; how many the gate has."""
+import contextlib
+import io
+import os
 import pathlib
 import sys
 import unittest
+from unittest import mock
 
 TOOLS = pathlib.Path(__file__).resolve().parent.parent
 sys.path.insert(0, str(TOOLS))
@@ -64,6 +68,16 @@ class Copy(Tools):
         self.copied(['low'], True)
         (self.room / 'crates' / 'low' / 'src' / 'lib.rt').write_text('changed')
         self.assertEqual((self.crates / 'low' / 'src' / 'lib.rt').read_text(), 'src/lib.rt')
+
+
+class Tried(Tools):
+    def test_it_is_no_merge_gate(self) -> None:
+        command = pathlib.Path(self.file('rt', '#!/bin/sh\necho "$CI" "$@"\n'))
+        command.chmod(0o755)
+        with mock.patch.dict(os.environ, CI='true', PATH=f'{self.folder}:{os.environ["PATH"]}'), \
+                contextlib.redirect_stdout(io.StringIO()):
+            self.assertEqual(loaded('wrong_bodies').tried('ci', ['low'], self.folder),
+                             (0, ' ci low\n'))
 
 
 class Answers(unittest.TestCase):
