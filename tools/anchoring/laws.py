@@ -12,9 +12,10 @@ from collections.abc import Iterator
 from common.ending import Failed
 from common.rooms import LIBRARY, copy_of
 from tracing.calls import CRATES, Call, crates
-from tracing.definitions import Definition, Named, below, cited
+from tracing.definitions import Definition, Named, cited
 from tracing.inner import all_below, crates_below
 from tracing.promises import public_laws
+from tracing.sheet import closure
 
 from .changes import Change
 from .trying import BROKEN, PROVES, UNKNOWN, UNREAD, Answer, first_goal, place_in
@@ -29,13 +30,7 @@ CLAUSE = re.compile(r'^\S*?/(\w+)/Answers\.antt:.*: returns-clause-(\w+)$', re.M
 @functools.cache
 def rests_on(law: Call) -> frozenset[Named]:
     """All definitions that a law rests on."""
-    found = dict.fromkeys(cited(law))
-    left = list(found)
-    for it in left:
-        new = [further for further in below(it) if further not in found]
-        found.update(dict.fromkeys(new))
-        left += new
-    return frozenset(found)
+    return frozenset(closure(list(cited(law))))
 
 
 def laws_on(definition: Definition) -> Iterator[tuple[str, list[Call]]]:
